@@ -13,6 +13,7 @@ error, and, but for the two that answer something, a line for each time that the
 is said; without kdig or any server nothing is compared. The first difference ends it with status 1.
 """
 
+import json
 import os
 import re
 import shutil
@@ -74,9 +75,13 @@ ASKED = [["www.example", "A"], ["www.example", "aaaa"], ["alias.example", "A"], 
          ["back.example", "PTR"], ["a.wild.example", "TXT"], ["secure.example", "DS"], ["_udp.example", "A"],
          ["text.example", "TXT", "+tcp"], ["example", "TYPE257"], [r"\119ww.example.", "A"], ["old.example", "DNAME"],
          ["missing.example", "MX", "+dnssec"], ["A", "IN", "www.example"], ["www.example", "IN", "A"], ["-t", "MX", "example"], ["-tMX", "-qexample", "+nodnssec"]]
-WRONG = [(["@www.example", "example"], "@www.example"), (["-p", "0", "example"], "0"), (["example", "NOTYPE"], "NOTYPE"),
-         (["a..b"], "a..b"), (["example", "A", "elsewhere"], "elsewhere"), (["example", "-t", "NOTYPE"], "NOTYPE"), (["example", "CH"], "CH"), (["example", "+trace"], "+trace"), (["@::1%lo", "example"], "@::1%lo"), (["example", "+fast"], "+fast"), (["-x", "one"], "one"),
+WRONG = [(["@192.0.2.1:53", "example"], "@192.0.2.1:53"), (["-p", "0", "example"], "0"), (["example", "-t", "NOTYPE"], "NOTYPE"),
+         (["a..b"], "a..b"), (["example", "@192.0.2.1", "elsewhere"], "elsewhere"), (["example", "NONE"], "NONE"),
+         (["example", "+trace"], "walk from server to server"), (["@::1%lo", "example"], "@::1%lo"), (["example", "+fast"], "+fast"),
+         (["-x", "one"], "one"), (["example", "+tls"], "TLS"), (["-b", "192.0.2.1", "example"], "-b"), (["example", "IXFR=7"], "IXFR=7"),
          (["example", "+time=0"], "+time=0"), (["example", "AXFR"], "AXFR"), ([], "name"), (["-p"], "-p")]
+# Words by which other flags are set, and parts of a message written.
+LAYOUTS = [["www.example", "A", "+norec"], ["www.example", "A", "+cdflag", "+adflag"], ["example", "SOA", "+nsid", "+dnssec"]]
 
 
 def nsd(folder, port):
@@ -180,7 +185,7 @@ def run(program, words):
 
 def compare(program, kind, port):
     at = ["@127.0.0.1", "-p", str(port)]
-    for words in ASKED:
+    for words in ASKED + LAYOUTS:
         called = "%s %s" % (kind, " ".join(words))
         status, out, said = run(program, at + words)
         expect(status == 0 and said == "", "%s: status %d, %s" % (called, status, said))
@@ -195,13 +200,50 @@ def compare(program, kind, port):
         size = int(re.search(r";; Received (\d+) B", asked).group(1)) + keepalive(out)
         expect(";; MSG SIZE  rcvd: %d\n" % size in out, "%s: its size is not %d" % (called, size))
         print("%s: %s, %s records by %s" % (called, ours[0], ours[2][1:], way))
-    for words in (["alias.example", "A"], ["text.example", "TXT"], ["missing.example", "A"]):
+    for words, ends in ((["alias.example", "A"], 0), (["text.example", "TXT"], 0), (["missing.example", "A"], 9), (["www.example", "MX"], 10), (["www.elsewhere", "A"], 11)):
         status, out, _ = run(program, at + words + ["+short"])
         asked = subprocess.run(["kdig", "+short", "+retry=0", *at, *words], capture_output=True, text=True, check=True).stdout
-        expect(status == 0 and sorted(out.splitlines()) == sorted(asked.splitlines()), "%s %s +short: %s" % (kind, words, out))
+        expect(status == ends and sorted(out.splitlines()) == sorted(asked.splitlines()), "%s %s +short: %s" % (kind, words, out))
     status, out, _ = run(program, at + ["www.example", "+short"])
     expect(status == 0 and sorted(out.split()) == ["192.0.2.1", "192.0.2.2", "2001:db8::1"], "%s: A and AAAA: %s" % (kind, out))
     print("%s: +short agrees" % kind)
+    several(program, kind, at)
+    objects(program, kind, at)
+
+
+def several(program, kind, at):
+    """Several names on a line, and parts of their answers."""
+    shown = subprocess.run(["kdig", "+noall", "+answer", "+retry=0", *at, "www.example", "A"], capture_output=True, text=True, check=True).stdout
+    status, out, said = run(program, at + ["+noall", "+answer", "www.example", "A", "mail.example", "A", "+short"])
+    lines = [" ".join(line.split()) for line in out.splitlines()]
+    theirs = [" ".join(line.split()) for line in shown.splitlines() if line and not line.startswith(";")]
+    expect((status, said) == (0, "") and sorted(lines[:-1]) == sorted(theirs) and lines[-1:] == ["192.0.2.25"], "%s: two names: %s" % (kind, lines))
+    status, out, said = run(program, at + ["example", "SOA", "+multiline", "+noall", "+answer"])
+    expect(status == 0 and re.search(r"\t7\t; serial\n\t+3600\t; refresh \(1 hour\)\n", out), "%s: an SOA on several lines: %s" % (kind, out))
+    print("%s: several names agree" % kind)
+
+
+def objects(program, kind, at):
+    """Each member of the object of a message that both write, but for those of one message alone."""
+    def plain(one):
+        return {name: value for name, value in one.items() if name not in ("dateString", "dateSeconds", "msgLength", "ID")}
+
+    def flat(records):
+        # kdig has no presentation form of a type without a name.
+        left = [{name: value for name, value in one.items() if name not in ("RDLENGTH", "RDATAHEX") and not name.startswith("rdataTYPE")} for one in records]
+        return sorted(json.dumps(one, sort_keys=True) for one in left)
+
+    for words in (["www.example", "A"], ["example", "MX"], ["text.example", "TXT"], ["missing.example", "A"], ["example", "SOA", "+dnssec"], ["strange.example", "TYPE65400"]):
+        status, out, said = run(program, at + words + ["+json"])
+        theirs = plain(json.loads(subprocess.run(["kdig", "+json", "+edns=0", "+bufsize=1232", "+retry=0", *at, *words], capture_output=True, text=True, check=True).stdout))
+        ours = plain(json.loads(out))
+        expect(status == 0 and said == "" and out.count("\n") == 1, "%s: %s as JSON: %s" % (kind, words, said))
+        for name, value in theirs.items():
+            if name.endswith("RRs"):
+                expect(flat(ours[name]) == flat(value), "%s: %s as JSON: %s: %s" % (kind, words, name, ours[name]))
+            else:
+                expect(ours[name] == value, "%s: %s as JSON: %s: %s, not %s" % (kind, words, name, ours[name], value))
+    print("%s: +json agrees" % kind)
 
 
 def lie(server, changed):
@@ -222,7 +264,7 @@ def unanswered(program):
         expect(status == 5 and out == "", "%s: status %d, %s" % (what, status, out))
         lines = said.splitlines()
         expect(lines[0].startswith("dns_lookup: no answer"), "%s: %s" % (what, said))
-        told = ["dns_lookup: 127.0.0.1:%d (UDP): %s" % (port, brought)] if brought else []
+        told = ["dns_lookup: 127.0.0.1:%d (UDP)%s: %s" % (port, often, brought) for often in [re.search(r"\(UDP\)(, asked \d+ times)?: ", said).group(1) or ""]]
         expect(lines[1:] == 2 * told, "%s: %s" % (what, said))
         expect(took < 4, "%s: it took %.1f s" % (what, took))
         print("%s: %s after %.2f s" % (what, said.strip(), took))
@@ -235,7 +277,7 @@ def unanswered(program):
             server.bind(("127.0.0.1", 0))
             if changed:
                 threading.Thread(target=lie, args=(server, changed), daemon=True).start()
-            ends(what, server.getsockname()[1], None if changed else "no answer")
+            ends(what, server.getsockname()[1], "what came answers another id or question, or can't be read" if changed else "no answer")
 
 
 def wrong_words(program):

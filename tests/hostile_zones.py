@@ -4,10 +4,11 @@
     python3 tests/hostile_zones.py PROGRAM [COUNT [SEED]]
 
 PROGRAM is the built zone_fetch, and COUNT the number of transfers, 2000 if it is left out: whole zones and changes, cut into
-messages anywhere, most of them then mangled: records dropped, doubled, swapped, with other serials, owners, cases and classes,
-SOAs in the middle or behind the end, messages dropped, refused, or cut off. A list of records is a transfer where it has one of
-the two forms (RFC 5936 2.2, RFC 1995 4); then the zone is to be the set that the form says, in order, and else nothing of it is
-to be printed and the status to be 5. Behind these comes a transfer that never ends, which `--most` is to end. Prints how many
+messages anywhere, most of them then mangled: records dropped, doubled, swapped, with other serials, owners, cases, classes and
+types, SOAs in the middle or behind the end, messages dropped, refused, or cut off. A list of records is a transfer where it has one
+of the two forms (RFC 5936 2.2, RFC 1995 4), each record is of the class IN and of a type that a zone may hold, and a whole zone ends
+with the SOA it began with; then the zone is to be the set that the form says without what is outside it, in order, and else nothing
+of it is to be printed and the status to be 5. Behind these comes a transfer that never ends, which `--most` is to end. Prints how many
 were taken and how many refused, or the first that differs.
 """
 
@@ -63,11 +64,20 @@ def plain(n):
 
 # ---- the forms
 
+def is_held(record):
+    """Whether a zone may hold it: of the class IN, and of no meta type."""
+    return record.rclass == 1 and record.rtype not in (0, 41) and not 128 <= record.rtype <= 255
+
+
+def is_inside(record):
+    return record.owner.lower() == ZONE or record.owner.lower().endswith("." + ZONE)
+
+
 def whole_in(records):
     """The records of a whole zone, if these are one."""
-    if len(records) < 2 or records[0].serial is None or records[-1].serial != records[0].serial:
+    if len(records) < 2 or records[0].serial is None or records[-1].kept() != records[0].kept():
         return None
-    return records[1:-1] if all(r.serial is None for r in records[1:-1]) else None
+    return [r for r in records[1:-1] if is_inside(r)] if all(r.serial is None for r in records[1:-1]) else None
 
 
 def batches_in(records):
@@ -92,7 +102,7 @@ def zone_after(before, kind, messages):
         if code != 0 or not message:
             return None
         records = records + message
-        if any(r.serial is not None and r.owner.lower() != ZONE for r in records):
+        if not all(is_held(r) for r in records) or any(r.serial is not None and r.owner.lower() != ZONE for r in records):
             return None
         if kind == IXFR and at == 0 and len(records) == 1 and records[0].serial is not None:
             return before if before is not None and records[0].serial == serial_of(before) else "again"
@@ -107,7 +117,7 @@ def zone_after(before, kind, messages):
             if gone[0].serial != have:
                 return None
             zone -= {r.kept() for r in gone[1:]}
-            zone |= {r.kept() for r in new[1:]}
+            zone |= {r.kept() for r in new[1:] if is_inside(r)}
             have = new[0].serial
         return zone | {records[-1].kept()}
     return None
@@ -133,7 +143,7 @@ def mangled(rng, records):
     records = list(records)
     for _ in range(rng.choice([1, 1, 2])):
         at = rng.randrange(len(records))
-        way = rng.randrange(9)
+        way = rng.randrange(10)
         if way == 0:
             del records[at]
         elif way == 1:
@@ -151,6 +161,8 @@ def mangled(rng, records):
             records[at] = records[at].with_(rclass=rng.choice([1, 3]))
         elif way == 7:
             records.append(rng.choice([plain(1), soa(3)]))
+        elif way == 8:
+            records[at] = records[at].with_(rtype=rng.choice([0, 41, 127, 128, 252, 255, 256]), serial=None)
         else:
             records[at] = records[at].with_(owner=records[at].owner.swapcase())
         if not records:

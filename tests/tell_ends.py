@@ -104,12 +104,14 @@ def lookups(program):
         ([], "no name is asked for"),
         (["-p"], "no port stands behind -p"),
         (["-x"], "no address stands behind -x"),
-        (["-h"], "-h is no option"),
-        (["a.test", "IN", "A"], "IN is neither a known type nor TYPE with a number"),
-        (["a.test", "b.test"], "b.test is neither a known type nor TYPE with a number"),
+        (["-w"], "-w is no option"),
+        (["-k", "a.test"], "-k asks for a signed request (TSIG), and none is signed"),
+        (["a.test", "-t", "NOTYPE"], "NOTYPE is neither a known type nor TYPE with a number"),
+        (["a.test", "@192.0.2.1", "b.test"], "b.test is another name behind a server that stands behind a name, and servers are asked for all names"),
         (["a.test", "AXFR"], "AXFR is no type that one message answers"),
-        (["a.test", "A", "AAAA"], "AAAA is one word too many"),
-        (["@localhost", "a.test"], "@localhost names no server, which only an address does"),
+        (["a.test", "NONE"], "NONE is another class than IN, CH and HS"),
+        (["a.test", "+yaml"], "+yaml asks for a text of records that is not written"),
+        (["@192.0.2.1:53", "a.test"], "@192.0.2.1:53 names no server: it is no address, and no name whose address is found"),
     ):
         expect(words, ran(program, words), (2, "", f"dns_lookup: {said}{see}"))
 

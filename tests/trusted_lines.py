@@ -19,7 +19,7 @@ MOST = {"sockets": 120, "listeners": 70, "workers": 285, "the clock, files and w
 ALL = "all"
 TRUSTED = {
     "client_edge": {
-        "address.rt": ["any_local"],
+        "address.rt": [],
         "command_line.rt": ["command_words"],
         "conf_file.rt": ["read"],
         "fault.rt": ["is_for_later"],
@@ -27,8 +27,9 @@ TRUSTED = {
         "network.rt": ["open", "ready"],
         "real_clock.rt": ["micros", "now"],
         "socket_edge.rt": [],
-        "tcp.rt": ["descriptor", "opened", "put", "take", "unconnected", "begin", "connect"],
-        "udp.rt": ["descriptor", "opened", "put", "take", "recv", "send", "bind", "open", "connect"],
+        "tcp.rt": ["descriptor", "opened", "put", "take", "begin", "connect"],
+        "udp.rt": ["descriptor", "opened", "put", "take", "recv", "send", "open", "connect"],
+        "unconnected.rt": ["unconnected"],
     },
     "front_edge": {
         "address.rt": [],

@@ -18,12 +18,3 @@ pub fn system_address(addr: SocketAddr) -> net::SocketAddr
     };
     net::SocketAddr::new(ip, addr.port)
 }
-
-/// Any address of this host of the same family, at a port that the system picks.
-pub fn any_local(addr: net::SocketAddr) -> net::SocketAddr {
-    let ip = match addr {
-        net::SocketAddr::V4(_) => net::IpAddr::V4(Ipv4Addr::UNSPECIFIED),
-        net::SocketAddr::V6(_) => net::IpAddr::V6(Ipv6Addr::UNSPECIFIED),
-    };
-    net::SocketAddr::new(ip, 0)
-}

@@ -24,6 +24,7 @@ mod real_clock;
 mod socket_edge;
 mod tcp;
 mod udp;
+mod unconnected;
 
 pub use address::system_address;
 pub use answer::{count_of, octets_of};

@@ -4,17 +4,19 @@ ghost use Rattle.std.specs.Prelude.{◌≡◌, ◌≤◌, None, OnErr};
 ghost use Rattle.dns_values.specs.Source.{Rose};
 ghost use Rattle.client_dgram.specs.Sockets.{after_answer};
 
-use crate::address::{any_local, system_address};
+use crate::address::system_address;
 use crate::answer::{count_of, octets_of};
 use crate::fault::{count_fault, fault_of};
+use crate::unconnected::unconnected;
 use client_dgram::Connect;
 use client_request::Fault;
 use dns_base::{NoMemory, Octets, SocketAddr};
+use libc::net::SOCK_STREAM;
 use socket_places::{Answer, Socket};
 use std::alloc::Global;
 use std::io::{self, ErrorKind, Read, Write};
 use std::marker::Model;
-use std::net::{Net, Shutdown, TcpListener, TcpStream, UdpSocket};
+use std::net::{Net, TcpListener, TcpStream, UdpSocket};
 use std::os::fd::{AsRawFd, OwnedFd};
 
 /// A stream of the system.
@@ -89,22 +91,14 @@ impl<R: Net<Listener = TcpListener, Stream = TcpStream> + Drop> TcpConnect<R> {
         }
     }
 
-    /// A stream that is not connected. The standard library makes none, but a listener that is shut down is one.
-    fn unconnected(&self) -> io::Result<TcpStream> {
-        let local = any_local(system_address(self.addr));
-        let listener = TcpListener::bind(&self.rt, local)?;
-        let stream = TcpStream::from(OwnedFd::from(listener));
-        stream.shutdown(Shutdown::Read)?;
-        stream.set_nonblocking(true)?;
-        stream.set_nodelay(true)?;
-        Ok(stream)
-    }
-
     /// A stream whose connecting has begun. The call that begins it is that of `UdpSocket`, whose `connect` is the
     /// system's and takes a descriptor of any kind.
     fn begin(&self) -> io::Result<TcpStream> {
-        let socket = UdpSocket::from(OwnedFd::from(self.unconnected()?));
-        match socket.connect(system_address(self.addr)) {
+        let address = system_address(self.addr);
+        let stream = TcpStream::from(unconnected(address, SOCK_STREAM)?);
+        stream.set_nodelay(true)?;
+        let socket = UdpSocket::from(OwnedFd::from(stream));
+        match socket.connect(address) {
             Err(error) if error.kind() != ErrorKind::InProgress => Err(error),
             _ => Ok(TcpStream::from(OwnedFd::from(socket))),
         }

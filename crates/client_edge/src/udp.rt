@@ -4,21 +4,20 @@ ghost use Rattle.std.specs.Prelude.{◌≡◌, ◌≤◌, length, None, IfOk, On
 ghost use Rattle.dns_values.specs.Source.{Rose};
 ghost use Rattle.client_dgram.specs.Sockets.{after_answer};
 
-use crate::address::{any_local, system_address};
+use crate::address::system_address;
 use crate::answer::{count_of, octets_of};
 use crate::fault::count_fault;
+use crate::unconnected::unconnected;
 use client_dgram::{Connect, DgramRecv, DgramSend};
 use client_request::Fault;
 use dns_base::{NoMemory, Octets, SocketAddr};
+use libc::net::SOCK_DGRAM;
 use socket_places::{Answer, Socket};
 use std::alloc::Global;
 use std::io;
 use std::marker::Model;
 use std::net::{Net, UdpSocket};
 use std::os::fd::AsRawFd;
-
-/// How often a local port is asked for.
-const TRIES: u32 = 11;
 
 /// A socket for datagrams whose peer is one address; the system drops what others send to it.
 ///
@@ -116,21 +115,10 @@ impl<R: Net + Drop> UdpConnect<R> {
         }
     }
 
-    /// A socket at a local port, for which it is asked up to `TRIES` times.
-    fn bind(&self) -> io::Result<UdpSocket> {
-        let local = any_local(system_address(self.addr));
-        for _ in 1..TRIES {
-            if let Ok(socket) = self.rt.bind_udp(local) {
-                return Ok(socket);
-            }
-        }
-        self.rt.bind_udp(local)
-    }
-
     fn open(&self) -> io::Result<UdpDgram> {
-        let socket = self.bind()?;
-        socket.connect(system_address(self.addr))?;
-        socket.set_nonblocking(true)?;
+        let address = system_address(self.addr);
+        let socket = UdpSocket::from(unconnected(address, SOCK_DGRAM)?);
+        socket.connect(address)?;
         Ok(UdpDgram { socket, faults: 0 })
     }
 }

@@ -1,5 +1,5 @@
 -- Two requests that are asked together, and one turn more.
-use Rattle.std.proofs.Common.{◌≡◌, ℕ, ◌+◌, ◌-◌, ◌<◌, ◌≤◌, List, [], ◌∷◌, ◌++◌, ◌⊎◌, inl, inr, Bool, true, false, length, map, Option, Some, None, Result, refl, ap, sym, subst, ◌∙◌, arith, append_assoc, length-append}
+use Rattle.std.proofs.Common.{◌≡◌, ℕ, ◌+◌, ◌-◌, ◌<◌, ◌≤◌, List, [], ◌∷◌, ◌++◌, ◌⊎◌, inl, inr, true, false, length, map, Option, Some, None, Result, refl, ap, sym, subst, ◌∙◌, arith, append_assoc, length-append}
 use Rattle.std.specs.Prelude.{option_map}
 use Rattle.dns_values.specs.Source.{one_more}
 use Rattle.client_request.specs.Request.{Request}
@@ -9,7 +9,7 @@ use Rattle.client_request.specs.declared.event.Row.{Row}
 use Rattle.client_steps.specs.Client.{plain_rows}
 use Rattle.client_steps.specs.Whole.{Client, machine}
 use Rattle.client_loop.specs.declared.both.BothReplies.{BothReplies}
-use Rattle.client_loop.specs.Asking.{Asked, Begun, Scene, client_of, rows_of}
+use Rattle.client_loop.specs.Asking.{Begun, Scene, client_of, rows_of}
 use Rattle.client_loop.specs.Both.{AreAnswered, AreBegun, AreNeeded, AskedBoth, StopForNumbers, all_rows, are_there, at_second, first_replies, or_replies, replies_in}
 use Rattle.client_loop.specs.Replies.{first_reply, or_later, reply_in}
 use Rattle.client_loop.specs.Turns.{Leads, StopsAt, Turn, events_of}
@@ -26,16 +26,16 @@ replies first second = record { first = first; second = second }
 same_replies : (a b c d : Reply) → a ≡ b → c ≡ d → replies a c ≡ replies b d
 same_replies a b c d p q = ap (λ (x : Reply). replies x c) p ∙ ap (λ (x : Reply). replies b x) q
 
-or_none : (o : Reply) → or_later o None ≡ o
+pub or_none : (o : Reply) → or_later o None ≡ o
 or_none None = refl
 or_none (Some reply) = refl
 
-or_assoc : (a b c : Reply) → or_later (or_later a b) c ≡ or_later a (or_later b c)
+pub or_assoc : (a b c : Reply) → or_later (or_later a b) c ≡ or_later a (or_later b c)
 or_assoc None b c = refl
 or_assoc (Some reply) b c = refl
 
 -- one row more
-reply_more : (number : ℕ) (rows : List Row) (row : Row) → first_reply number (rows ++ row ∷ []) ≡ or_later (first_reply number rows) (reply_in number row.outs)
+pub reply_more : (number : ℕ) (rows : List Row) (row : Row) → first_reply number (rows ++ row ∷ []) ≡ or_later (first_reply number rows) (reply_in number row.outs)
 reply_more number [] row = or_none (reply_in number row.outs)
 reply_more number (r ∷ rows) row =
     ap (λ (o : Reply). or_later (reply_in number r.outs) o) (reply_more number rows row)
@@ -56,7 +56,7 @@ maps_joined first second None = refl
 maps_joined first second (Some rows) = ap Some (sym (append_assoc first second rows))
 
 -- Rows that lead to where others begin lead, with them, to where those lead.
-leads_joined : (timeout : ℕ) (a b c : Client) (first second : List Row) → Leads timeout a first b → Leads timeout b second c → Leads timeout a (first ++ second) c
+pub leads_joined : (timeout : ℕ) (a b c : Client) (first second : List Row) → Leads timeout a first b → Leads timeout b second c → Leads timeout a (first ++ second) c
 leads_joined timeout a b c first second h i later =
     ap (λ (es : List Event). plain_rows machine timeout es a) (events_joined first second later)
     ∙ h (events_of second ++ later)
@@ -78,7 +78,7 @@ pub record Pending (number left most : ℕ) (first second : Request) (old new : 
   pub left_are : length both.asked.turns + left ≡ most
 
 -- the rows of one request that was asked, and no turn
-asked_alone : {request : Request} {old new : Scene} {row : Row} → (h : Begun request old new row) → rows_of h.asked.asking h.asked.turns ≡ row ∷ []
+pub asked_alone : {request : Request} {old new : Scene} {row : Row} → (h : Begun request old new row) → rows_of h.asked.asking h.asked.turns ≡ row ∷ []
 asked_alone {row = row} h = ap (λ (r : Row). rows_of r h.asked.turns) h.asking_is ∙ ap (λ (ts : List Turn). rows_of row ts) h.no_turns
 
 module _ (number : ℕ) (first second : Request) (old : Scene) where

@@ -1,4 +1,5 @@
 pub mod Turns
 pub mod Replies
+pub mod All
 pub mod Asking
 pub mod Both

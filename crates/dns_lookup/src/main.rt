@@ -1,16 +1,22 @@
 //! The program `dns_lookup`: it asks servers for records, and writes what they answer.
 #![tactic(auto)]
 
+mod batch;
+mod named_servers;
+mod place;
+
+use batch::{BatchFault, with_files};
 use client_edge::{ConfFile, FileOpener, RandWords, RealClock, SocketEdge, command_words};
-use command_parts::statuses;
+use command_parts::{end_by, statuses};
 use dns_lookup_run::{
-    PassingEdge, WatchedClock, WatchedEdge, run, run_recorded, tell_no_memory, tell_no_random,
-    tell_page,
+    PassingEdge, WatchedClock, WatchedEdge, page_of, run, run_recorded, tell_no_memory,
+    tell_no_random, tell_page,
 };
-use dns_values::{Status, StdSink};
-use program_words::page_asked;
+use dns_values::{NoMemory, Status, StdSink};
+use named_servers::with_addresses;
 use rand::rngs::StdRng;
 use record_file::{RecordFile, record_of};
+use std::alloc::Global;
 use std::io::Stderr;
 use std::process::ExitCode;
 
@@ -82,14 +88,29 @@ fn ask(
     status
 }
 
-/// Does what the command line asks for: help, the release, or a lookup.
-fn status_of(rt: HostRuntime, errors: &mut StdSink<Stderr>) -> Status {
-    let Ok(words) = command_words(&rt) else {
+/// That a file of words could not be read.
+fn unread_line(alloc: Global, name: &str) -> Result<String, NoMemory> {
+    Ok(format!(in alloc; "dns_lookup: {name} could not be read as words\n")?)
+}
+
+/// Tells that a file of words could not be read.
+fn tell_unread(alloc: Global, name: &str, errors: &mut StdSink<Stderr>) -> Status {
+    match unread_line(alloc, name) {
+        Ok(line) => end_by(errors, statuses::SOURCE_FAULT, line.as_bytes()),
+        Err(NoMemory) => tell_no_memory(errors),
+    }
+}
+
+/// Does what words ask for once those of files stand behind them, and the addresses of servers that are named by names.
+fn ask_whole(rt: HostRuntime, words: &[String], errors: &mut StdSink<Stderr>) -> Status {
+    let words = match with_files(rt.alloc(), &mut FileOpener::new(rt), words) {
+        Ok(words) => words,
+        Err(BatchFault::Unread(name)) => return tell_unread(rt.alloc(), name.as_str(), errors),
+        Err(BatchFault::NoMemory) => return tell_no_memory(errors),
+    };
+    let Ok(words) = with_addresses(rt, &words) else {
         return tell_no_memory(errors);
     };
-    if let Some(page) = page_asked(&words) {
-        return tell_page(rt.alloc(), page, &mut StdSink::new(rt.stdout()), errors);
-    }
     ask(
         rt,
         &words,
@@ -97,6 +118,17 @@ fn status_of(rt: HostRuntime, errors: &mut StdSink<Stderr>) -> Status {
         SocketEdge::new(rt, rt.alloc()),
         RealClock::new(rt),
     )
+}
+
+/// Does what the command line asks for: help, the release, or a lookup.
+fn status_of(rt: HostRuntime, errors: &mut StdSink<Stderr>) -> Status {
+    let Ok(words) = command_words(&rt) else {
+        return tell_no_memory(errors);
+    };
+    if let Some(page) = page_of(&words) {
+        return tell_page(rt.alloc(), page, &mut StdSink::new(rt.stdout()), errors);
+    }
+    ask_whole(rt, &words, errors)
 }
 
 fn main(rt: HostRuntime) -> ExitCode {

@@ -11,7 +11,7 @@ use Rattle.dns_record.specs.declared.ended.Refused.{Refused}
 use Rattle.resolver_policy.specs.Practice.{practical_choice}
 use Rattle.resolv_conf.specs.declared.conf.ResolvConf.{ResolvConf}
 use Rattle.dns_values.specs.Source.{Rose}
-use Rattle.dns_lookup_run.specs.Ends.{EndsTold, IsOfAsking, TellsWhy}
+use Rattle.dns_lookup_run.specs.Ends.{EndsTold, IsDone, IsOfAsking, TellsWhy}
 use Rattle.dns_lookup_run.specs.Making.{IsMadeFor}
 use Rattle.dns_lookup_run.specs.Recorded.{AskedEnd, IsRecordedFor, RecordedEnd, Recordings, asked, keeps_by, no_conf, no_memory, not_recorded, refused, unrecorded_line, words_ahead}
 use Rattle.dns_lookup_run.specs.Sentences.{numbers_text, unwritten_text}
@@ -53,7 +53,7 @@ module _ {L R : Type 0} (held : L → Option (List ℕ)) (faults : L → ℕ) (k
       subst (λ (k : CacheSettings). Recorded (opening conf practical_choice k (words_ahead old.words) (kept first)) [] (kept middle) r (started practical_choice k conf)) cache_is
       (subst (λ (p : RedundantSettings). Recorded (opening conf p cache (words_ahead old.words) (kept first)) [] (kept middle) r (started p cache conf)) choice_is begins) in
       let all : Recorded o m.rows (kept last) s m.left =
-      all_kept kept lookup 0 m.rtypes m.answers m.rows (record { recorder = r; sink = middle }) (record { recorder = s; sink = last }) (begun conf start m.waits)
+      all_kept kept 0 m.asks m.answers m.rows (record { recorder = r; sink = middle }) (record { recorder = s; sink = last }) (begun conf start m.waits)
       (scene m.left end.words end.deeds m.later_waits end.polls end.moments) m.are_made o [] b in
       record { made = m; has = law o m.rows (kept last) s.words s.size s.ended m.left all }
 
@@ -72,13 +72,9 @@ module _ {L R : Type 0} (held : L → Option (List ℕ)) (faults : L → ℕ) (k
       (subst (λ (b : Recordings R). IsMadeFor (keeps_by kept) lookup conf (record { recorder = r; sink = middle }) b (at_words (left_of r) old) (at_words (left_of end.recorder) new)) last_is (made no_six no_seven)))
 
 -- the statuses of it
-pub of_recorded : (n : ℕ) → IsOfAsking n ⊎ (n ≡ 8) → (n ≢ 1) × (n < 9)
-of_recorded n (inl (inl e)) = (λ h. omega arith, omega arith)
-of_recorded n (inl (inr (inl e))) = (λ h. omega arith, omega arith)
-of_recorded n (inl (inr (inr (inl e)))) = (λ h. omega arith, omega arith)
-of_recorded n (inl (inr (inr (inr (inl e))))) = (λ h. omega arith, omega arith)
-of_recorded n (inl (inr (inr (inr (inr e))))) = (λ h. omega arith, omega arith)
-of_recorded n (inr e) = (λ h. omega arith, omega arith)
+pub of_recorded : (n : ℕ) → IsOfAsking n ⊎ (n ≡ 8) → (n ≢ 1) × (n < 12)
+of_recorded n (inl of) = ((of_asking n of).0.0, (of_asking n of).0.2)
+of_recorded n (inr e) = (λ h. omega (arith, e, h), omega (arith, e))
 
 module _ {L R : Type 0} (held : L → Option (List ℕ)) (faults : L → ℕ) (kept : R → Option (List ℕ)) (file_faults : R → ℕ) (words : List (String Global)) (told : Option (List ℕ)) (status : ℕ) (before after : L) (first last : R) (old new : World) where
   pub refused_ends : (refusal : Refusal) → LookupGives words (Err refusal) → (status ≡ 2) ⊎ (status ≡ 6) → RecordedEnd held faults kept file_faults words told status before after first last old new
@@ -92,12 +88,23 @@ module _ {L R : Type 0} (held : L → Option (List ℕ)) (faults : L → ℕ) (k
 -- the statuses of a refusal
 pub refused_status : (n : ℕ) → (n ≡ 8) ⊎ (n ≡ 6) → IsOfAsking n ⊎ (n ≡ 8)
 refused_status n (inl eight) = inr eight
-refused_status n (inr six) = inl (inr (inr (inr (inl six))))
+refused_status n (inr six) = inl (inl (inr (inr (inr (inl six)))))
 
 -- and at no other status is it
 pub told_only : (n one other : ℕ) (P : Type 0) → (n ≡ one) ⊎ (n ≡ 6) → one ≢ other → 6 ≢ other → n ≡ other → P
 told_only n one other P (inl is) not_one not_six same = absurd (omega arith)
 told_only n one other P (inr six) not_one not_six same = absurd (omega arith)
+
+-- a refusal is no end of an asking
+pub told_done : (n : ℕ) (P : Type 0) → (n ≡ 8) ⊎ (n ≡ 6) → IsDone n → P
+told_done n P (inl is) (inl e) = absurd (omega (arith, is, e))
+told_done n P (inl is) (inr (inl e)) = absurd (omega (arith, is, e))
+told_done n P (inl is) (inr (inr (inl e))) = absurd (omega (arith, is, e))
+told_done n P (inl is) (inr (inr (inr e))) = absurd (omega (arith, is, e))
+told_done n P (inr is) (inl e) = absurd (omega (arith, is, e))
+told_done n P (inr is) (inr (inl e)) = absurd (omega (arith, is, e))
+told_done n P (inr is) (inr (inr (inl e))) = absurd (omega (arith, is, e))
+told_done n P (inr is) (inr (inr (inr e))) = absurd (omega (arith, is, e))
 
 -- where memory ran out no sentence is owed
 no_sentence : (n : ℕ) → n ≡ 6 → TellsWhy n ⊎ (n ≡ 8) → ⊥
@@ -105,7 +112,10 @@ no_sentence n six (inl (inl two)) = omega arith
 no_sentence n six (inl (inr (inl three))) = omega arith
 no_sentence n six (inl (inr (inr (inl four)))) = omega arith
 no_sentence n six (inl (inr (inr (inr (inl five))))) = omega arith
-no_sentence n six (inl (inr (inr (inr (inr seven))))) = omega arith
+no_sentence n six (inl (inr (inr (inr (inr (inl seven)))))) = omega arith
+no_sentence n six (inl (inr (inr (inr (inr (inr (inl nine))))))) = omega arith
+no_sentence n six (inl (inr (inr (inr (inr (inr (inr (inl ten)))))))) = omega arith
+no_sentence n six (inl (inr (inr (inr (inr (inr (inr (inr eleven)))))))) = omega arith
 no_sentence n six (inr eight) = omega arith
 
 -- a sentence that is told at one status is handed on
@@ -115,13 +125,11 @@ told_flushed n one P (inr six) flushed why = absurd (no_sentence n six why)
 
 -- an asking does not end as one that can't be recorded
 pub not_eight : (n : ℕ) → IsOfAsking n → n ≢ 8
-not_eight n of = λ eight. let small : n < 8 = (of_asking n of).0.1 in omega arith
+not_eight n of = (of_asking n of).0.1
 
 -- the sentence of an asking is handed on
-pub asking_flushed : (n : ℕ) (P : Type 0) → IsOfAsking n → ((n ≡ 4) ⊎ ((n ≡ 5) ⊎ (n ≡ 7)) → P) → TellsWhy n ⊎ (n ≡ 8) → P
-asking_flushed n P of flushed (inl (inl two)) = absurd ((of_asking n of).1 two)
-asking_flushed n P of flushed (inl (inr (inl three))) = absurd ((of_asking n of).2 three)
-asking_flushed n P of flushed (inl (inr (inr why))) = flushed why
+pub asking_flushed : (n : ℕ) (P : Type 0) → IsOfAsking n → (TellsWhy n → P) → TellsWhy n ⊎ (n ≡ 8) → P
+asking_flushed n P of flushed (inl why) = flushed why
 asking_flushed n P of flushed (inr eight) = absurd (not_eight n of eight)
 
 -- the same behind another sentence

@@ -8,7 +8,7 @@ use Rattle.command_parts.specs.declared.ending.Ending.{Ending}
 use Rattle.command_parts.specs.declared.ending.Ending.TheVariants.{Says, Silent}
 use Rattle.resolver_policy.specs.declared.found.Found.{Found}
 use Rattle.dns_lookup_run.specs.Conf.{IsConfOf, IsTooLong}
-use Rattle.dns_lookup_run.specs.Ends.{EndsTold, HasNoConf, IsOfAsking, IsRefusalTold, WordsEnd, asked, no_conf, no_memory, refused, too_long, unread}
+use Rattle.dns_lookup_run.specs.Ends.{EndsTold, HasNoConf, IsOfAsking, IsOfLack, IsOfRequest, IsRefusalTold, TellsWhy, WordsEnd, asked, no_conf, no_memory, refused, too_long, unread}
 use Rattle.dns_lookup_run.specs.Reports.{notes_text}
 use Rattle.dns_lookup_run.specs.Sentences.{conf_text, numbers_text, unwritten_text}
 use Rattle.dns_lookup_words.specs.Sentences.{sentence}
@@ -17,12 +17,41 @@ use Rattle.dns_lookup_words.specs.declared.lookup.Lookup.{Lookup}
 use Rattle.dns_lookup_words.specs.declared.wrong.Refusal.{Refusal}
 
 -- an asking has no other status
-pub of_asking : (n : ℕ) → IsOfAsking n → ((n ≢ 1) × (n < 8)) × (n ≢ 2) × (n ≢ 3)
-of_asking n (inl e) = ((λ h. omega arith, omega arith), λ h. omega arith, λ h. omega arith)
-of_asking n (inr (inl e)) = ((λ h. omega arith, omega arith), λ h. omega arith, λ h. omega arith)
-of_asking n (inr (inr (inl e))) = ((λ h. omega arith, omega arith), λ h. omega arith, λ h. omega arith)
-of_asking n (inr (inr (inr (inl e)))) = ((λ h. omega arith, omega arith), λ h. omega arith, λ h. omega arith)
-of_asking n (inr (inr (inr (inr e)))) = ((λ h. omega arith, omega arith), λ h. omega arith, λ h. omega arith)
+pub of_asking : (n : ℕ) → IsOfAsking n → ((n ≢ 1) × (n ≢ 8) × (n < 12)) × (n ≢ 2) × (n ≢ 3)
+of_asking n (inl (inl e)) = ((λ h. omega (arith, e, h), λ h. omega (arith, e, h), omega (arith, e)), λ h. omega (arith, e, h), λ h. omega (arith, e, h))
+of_asking n (inl (inr (inl e))) = ((λ h. omega (arith, e, h), λ h. omega (arith, e, h), omega (arith, e)), λ h. omega (arith, e, h), λ h. omega (arith, e, h))
+of_asking n (inl (inr (inr (inl e)))) = ((λ h. omega (arith, e, h), λ h. omega (arith, e, h), omega (arith, e)), λ h. omega (arith, e, h), λ h. omega (arith, e, h))
+of_asking n (inl (inr (inr (inr (inl e))))) = ((λ h. omega (arith, e, h), λ h. omega (arith, e, h), omega (arith, e)), λ h. omega (arith, e, h), λ h. omega (arith, e, h))
+of_asking n (inl (inr (inr (inr (inr e))))) = ((λ h. omega (arith, e, h), λ h. omega (arith, e, h), omega (arith, e)), λ h. omega (arith, e, h), λ h. omega (arith, e, h))
+of_asking n (inr (inl e)) = ((λ h. omega (arith, e, h), λ h. omega (arith, e, h), omega (arith, e)), λ h. omega (arith, e, h), λ h. omega (arith, e, h))
+of_asking n (inr (inr (inl e))) = ((λ h. omega (arith, e, h), λ h. omega (arith, e, h), omega (arith, e)), λ h. omega (arith, e, h), λ h. omega (arith, e, h))
+of_asking n (inr (inr (inr e))) = ((λ h. omega (arith, e, h), λ h. omega (arith, e, h), omega (arith, e)), λ h. omega (arith, e, h), λ h. omega (arith, e, h))
+
+-- the sentence of a request that ends an asking
+no_lack : (n : ℕ) → IsOfRequest n → IsOfLack n → ⊥
+no_lack n (inl a) (inl e) = omega (arith, a, e)
+no_lack n (inl a) (inr (inl e)) = omega (arith, a, e)
+no_lack n (inl a) (inr (inr e)) = omega (arith, a, e)
+no_lack n (inr (inl a)) (inl e) = omega (arith, a, e)
+no_lack n (inr (inl a)) (inr (inl e)) = omega (arith, a, e)
+no_lack n (inr (inl a)) (inr (inr e)) = omega (arith, a, e)
+no_lack n (inr (inr (inl a))) (inl e) = omega (arith, a, e)
+no_lack n (inr (inr (inl a))) (inr (inl e)) = omega (arith, a, e)
+no_lack n (inr (inr (inl a))) (inr (inr e)) = omega (arith, a, e)
+no_lack n (inr (inr (inr (inl a)))) (inl e) = omega (arith, a, e)
+no_lack n (inr (inr (inr (inl a)))) (inr (inl e)) = omega (arith, a, e)
+no_lack n (inr (inr (inr (inl a)))) (inr (inr e)) = omega (arith, a, e)
+no_lack n (inr (inr (inr (inr a)))) (inl e) = omega (arith, a, e)
+no_lack n (inr (inr (inr (inr a)))) (inr (inl e)) = omega (arith, a, e)
+no_lack n (inr (inr (inr (inr a)))) (inr (inr e)) = omega (arith, a, e)
+
+pub request_flushed : (n : ℕ) (P : Type 0) → IsOfRequest n → ((n ≡ 4) ⊎ ((n ≡ 5) ⊎ (n ≡ 7)) → P) → TellsWhy n → P
+request_flushed n P of flushed (inl two) = absurd ((of_asking n (inl of)).1 two)
+request_flushed n P of flushed (inr (inl three)) = absurd ((of_asking n (inl of)).2 three)
+request_flushed n P of flushed (inr (inr (inl four))) = flushed (inl four)
+request_flushed n P of flushed (inr (inr (inr (inl five)))) = flushed (inr (inl five))
+request_flushed n P of flushed (inr (inr (inr (inr (inl seven))))) = flushed (inr (inr seven))
+request_flushed n P of flushed (inr (inr (inr (inr (inr lack))))) = absurd (no_lack n of lack)
 
 module _ {L : Type 0} (held : L → Option (List ℕ)) (faults : L → ℕ) (words : List (String Global)) (told : Option (List ℕ)) (status : ℕ) (before after : L) (old new : World) where
   pub refused_ends : (refusal : Refusal) → LookupGives words (Err refusal) → (status ≡ 2) ⊎ (status ≡ 6) → WordsEnd held faults words told status before after old new

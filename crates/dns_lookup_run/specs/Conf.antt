@@ -1,6 +1,7 @@
 -- The configuration that is asked.
-use Rattle.std.specs.Prelude.{◌≡◌, ℕ, ◌*◌, ◌<◌, Bool, true, false, List, [], ◌∷◌, length, codes, map, Option, None, Some, IfSome}
+use Rattle.std.specs.Prelude.{◌≡◌, ℕ, ◌*◌, ◌<◌, Bool, true, false, not, List, [], ◌∷◌, length, codes, map, filter, Option, None, Some, IfSome}
 use Rattle.dns_values.specs.declared.address.IpAddr.{IpAddr}
+use Rattle.dns_values.specs.declared.address.IpAddr.TheVariants.{V4, V6}
 use Rattle.resolv_conf.specs.Conf.{default_options, name_server}
 use Rattle.resolv_conf.specs.Final.{finalized}
 use Rattle.resolv_conf.specs.declared.conf.ResolvConf.{ResolvConf}
@@ -8,7 +9,14 @@ use Rattle.command_parts.specs.Conf.{conf_at}
 use Rattle.resolver_policy.specs.Found.{IsFoundIn}
 use Rattle.resolver_policy.specs.Practice.{practical, words_left}
 use Rattle.resolver_policy.specs.declared.found.Found.{Found}
+use Rattle.resolv_conf.specs.declared.server.ServerConf.{ServerConf}
 use Rattle.dns_lookup_words.specs.declared.lookup.Lookup.{Lookup}
+use Rattle.dns_lookup_words.specs.declared.manner.Family.{Family}
+use Rattle.dns_lookup_words.specs.declared.manner.Family.TheVariants as families
+
+abbrev pub is_v4 : IpAddr → Bool
+is_v4 (V4 octets) = true
+is_v4 (V6 groups) = false
 
 -- servers by their addresses alone, with the default options
 abbrev pub named : List IpAddr → ResolvConf
@@ -24,9 +32,18 @@ abbrev pub streamed : Bool → ResolvConf → ResolvConf
 streamed false conf = conf
 streamed true conf = record conf { options = record conf.options { use_vc = true } }
 
--- with what the words say of the port, the time and streams
+-- servers at addresses of one family
+abbrev pub is_of_family : Option Family → ServerConf → Bool
+is_of_family None server = true
+is_of_family (Some families.V4) server = is_v4 server.addr.ip
+is_of_family (Some families.V6) server = not (is_v4 server.addr.ip)
+
+abbrev pub of_family : Option Family → ResolvConf → ResolvConf
+of_family family conf = record conf { servers = filter (is_of_family family) conf.servers }
+
+-- with what the words say of addresses, the port, the time and streams
 abbrev pub conf_asked : Lookup → ResolvConf → ResolvConf
-conf_asked lookup conf = streamed lookup.tcp (timed lookup.seconds (conf_at lookup.port conf))
+conf_asked lookup conf = streamed lookup.tcp (timed lookup.seconds (conf_at lookup.port (of_family lookup.family conf)))
 
 -- This is found in a text, and then finalized.
 pub record IsReadyIn (text : List ℕ) (ready : Found) : Type 0 where

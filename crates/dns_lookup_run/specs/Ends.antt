@@ -1,22 +1,23 @@
 -- What a lookup ends with.
-use Rattle.std.specs.Prelude.{◌≡◌, ◌≢◌, ◌⊎◌, ℕ, true, false, List, [], ◌∷◌, ◌++◌, Option, String, Ok, Err, IfSome}
+use Rattle.std.specs.Prelude.{◌≡◌, ◌≢◌, ◌⊎◌, ℕ, true, false, List, [], ◌∷◌, ◌++◌, Option, None, Some, String, Ok, Err, IfSome}
 use Rattle.std.specs.List.{All}
 use Rattle.std.specs.declared.alloc.Global.{Global}
 use Rattle.client_loop.specs.Asking.{Scene, StopsForNumbers, scene}
 use Rattle.client_steps.specs.Whole.{Whole}
-use Rattle.dns_values.specs.declared.numbers.Rtype.{Rtype}
+use Rattle.dns_lookup_pages.specs.declared.short.Lacking.{Lacking}
 use Rattle.dns_values.specs.Source.{Rose}
 use Rattle.command_parts.specs.Ends.{IsSaid}
 use Rattle.dns_lookup_run.specs.Worlds.{World, at_words, begun, is_message, said}
 use Rattle.resolv_conf.specs.declared.conf.ResolvConf.{ResolvConf}
-use Rattle.dns_lookup_run.specs.Asking.{Answer, AreAnswered, IsAskedFor, request_for, types_at}
+use Rattle.dns_lookup_run.specs.Asking.{Answer, AreAnswered, IsAskedFor, first_lack, request_for}
 use Rattle.resolver_policy.specs.declared.found.Found.{Found}
 use Rattle.dns_lookup_run.specs.Conf.{IsConfOf, IsTooLong}
 use Rattle.dns_lookup_run.specs.Reports.{notes_text, tells}
-use Rattle.dns_lookup_run.specs.Sentences.{answer_text, numbers_text, refused_text, unread_text, unwritten_text}
+use Rattle.dns_lookup_run.specs.Sentences.{answer_text, lack_status, lack_text, numbers_text, refused_text, unread_text, unwritten_text}
 use Rattle.dns_lookup_words.specs.Sentences.{sentence}
 use Rattle.dns_lookup_words.specs.Words.{LookupGives}
 use Rattle.dns_lookup_words.specs.declared.lookup.Lookup.{Lookup}
+use Rattle.dns_lookup_words.specs.declared.manner.Ask.{Ask}
 use Rattle.dns_lookup_words.specs.declared.wrong.Refusal.{Refusal}
 
 -- A message was answered: its page was written whole, or the sink failed.
@@ -24,62 +25,81 @@ abbrev pub HasPage : ℕ → Type 0
 HasPage status = (status ≡ 0) ⊎ (status ≡ 4)
 
 -- the statuses of a request that was asked
+abbrev pub IsOfRequest : ℕ → Type 0
+IsOfRequest status = (status ≡ 0) ⊎ ((status ≡ 4) ⊎ ((status ≡ 5) ⊎ ((status ≡ 6) ⊎ (status ≡ 7))))
+
+-- the statuses of an answer without data where these alone were to be written
+abbrev pub IsOfLack : ℕ → Type 0
+IsOfLack status = (status ≡ 9) ⊎ ((status ≡ 10) ⊎ (status ≡ 11))
+
 abbrev pub IsOfAsking : ℕ → Type 0
-IsOfAsking status = (status ≡ 0) ⊎ ((status ≡ 4) ⊎ ((status ≡ 5) ⊎ ((status ≡ 6) ⊎ (status ≡ 7))))
+IsOfAsking status = IsOfRequest status ⊎ IsOfLack status
+
+-- all was answered
+abbrev pub IsDone : ℕ → Type 0
+IsDone status = (status ≡ 0) ⊎ IsOfLack status
 
 -- the statuses at which a sentence tells why nothing is written, or not all
 abbrev pub TellsWhy : ℕ → Type 0
-TellsWhy status = (status ≡ 2) ⊎ ((status ≡ 3) ⊎ ((status ≡ 4) ⊎ ((status ≡ 5) ⊎ (status ≡ 7))))
+TellsWhy status = (status ≡ 2) ⊎ ((status ≡ 3) ⊎ ((status ≡ 4) ⊎ ((status ≡ 5) ⊎ ((status ≡ 7) ⊎ IsOfLack status))))
 
 -- Why there is no configuration, and the sentence that tells it: reading it failed, or it is too long.
 pub data HasNoConf (told : Option (List ℕ)) (faults faults_after : ℕ) (Told : List ℕ → Type 0) : Type 0 where
   unread : Rose faults faults_after → Told unread_text → HasNoConf told faults faults_after Told
   too_long : (line : List ℕ) → IfSome told (λ text. IsTooLong text line) → Told (refused_text line) → HasNoConf told faults faults_after Told
 
--- Each type was asked for, and each answer is a message.
-pub record IsAnsweredWhole (lookup : Lookup) (conf : ResolvConf) (old new : World) : Type 0 where
-  pub answers : List Answer
-  pub asked : IsAskedFor lookup conf old new (types_at lookup.rtype) answers
-  pub messages : All (λ answer. is_message answer ≡ true) answers
+-- what is told of an answer without data
+abbrev pub LackTold : (List ℕ → Type 0) → Option Lacking → Type 0
+LackTold Told None = Unit {0}
+LackTold Told (Some lack) = Told (lack_text lack)
 
--- Some first of the types were asked for, and each answer is a message.
+-- Each was asked for, and each answer is a message; the first without data, where these alone were to be written, says how it ends, and the sentence
+-- that tells of it is told.
+pub record IsAnsweredWhole (lookup : Lookup) (conf : ResolvConf) (status : ℕ) (Told : List ℕ → Type 0) (old new : World) : Type 0 where
+  pub answers : List Answer
+  pub asked : IsAskedFor conf old new lookup.asks answers
+  pub messages : All (λ answer. is_message answer ≡ true) answers
+  pub ends : status ≡ lack_status (first_lack lookup.asks answers)
+  pub told : LackTold Told (first_lack lookup.asks answers)
+
+-- Some first of them were asked for, and each answer is a message.
 pub record IsAnsweredInPart (lookup : Lookup) (conf : ResolvConf) (old new : World) : Type 0 where
-  pub rtypes : List Rtype
-  pub later : List Rtype
-  pub types : types_at lookup.rtype ≡ rtypes ++ later
+  pub asks : List Ask
+  pub later : List Ask
+  pub all : lookup.asks ≡ asks ++ later
   pub answers : List Answer
-  pub asked : IsAskedFor lookup conf old new rtypes answers
+  pub asked : IsAskedFor conf old new asks answers
   pub messages : All (λ answer. is_message answer ≡ true) answers
 
--- Some first of the types were asked for, and of the answers the last alone is no message; the sentence that tells why is told.
+-- Some first of them were asked for, and of the answers the last alone is no message; the sentence that tells why is told.
 pub record IsUnanswered (lookup : Lookup) (conf : ResolvConf) (Told : List ℕ → Type 0) (old new : World) : Type 0 where
-  pub rtypes : List Rtype
-  pub later : List Rtype
-  pub types : types_at lookup.rtype ≡ rtypes ++ later
+  pub asks : List Ask
+  pub later : List Ask
+  pub all : lookup.asks ≡ asks ++ later
   pub answers : List Answer
   pub last : Answer
-  pub asked : IsAskedFor lookup conf old new rtypes (answers ++ last ∷ [])
+  pub asked : IsAskedFor conf old new asks (answers ++ last ∷ [])
   pub messages : All (λ answer. is_message answer ≡ true) answers
   pub no_message : is_message last ≡ false
   pub said : Told (answer_text last)
 
--- Some first of the types were asked for, and while the next is, a number would pass 64 bits.
+-- Some first of them were asked for, and while the next is, a number would pass 64 bits.
 pub record IsStopped (lookup : Lookup) (conf : ResolvConf) (old new : World) : Type 0 where
-  pub rtypes : List Rtype
-  pub rtype : Rtype
-  pub later : List Rtype
-  pub types : types_at lookup.rtype ≡ rtypes ++ rtype ∷ later
+  pub asks : List Ask
+  pub ask : Ask
+  pub later : List Ask
+  pub all : lookup.asks ≡ asks ++ ask ∷ later
   pub answers : List Answer
   pub waits : Option (List ℕ)
   pub mid : Scene
-  pub answered : AreAnswered lookup 0 rtypes answers (begun conf old waits) mid
+  pub answered : AreAnswered 0 asks answers (begun conf old waits) mid
   pub left : Whole
   pub later_waits : Option (List ℕ)
-  pub stops : StopsForNumbers (request_for lookup rtype) mid (scene left new.words new.deeds later_waits new.polls new.moments)
+  pub stops : StopsForNumbers (request_for ask) mid (scene left new.words new.deeds later_waits new.polls new.moments)
 
 -- what a lookup over a configuration ends with, by its status, where this is what is told
 pub record EndsSo (lookup : Lookup) (conf : ResolvConf) (status : ℕ) (Told : List ℕ → Type 0) (old new : World) : Type 0 where
-  pub done : status ≡ 0 → IsAnsweredWhole lookup conf old new
+  pub done : IsDone status → IsAnsweredWhole lookup conf status Told old new
   pub cut : status ≡ 4 → IsAnsweredInPart lookup conf old new
   pub no_reply : status ≡ 5 → IsUnanswered lookup conf Told old new
   pub numbers : status ≡ 7 → IsStopped lookup conf old new

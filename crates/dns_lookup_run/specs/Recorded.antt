@@ -47,12 +47,12 @@ unrecorded_line refused = codes "dns_lookup: nothing is recorded: " ++ (refused_
 abbrev pub ended_line : Ended → ℕ → List ℕ
 ended_line ended lost = codes "dns_lookup: the record ended: " ++ (ended_text ended ++ (codes "; events behind it: " ++ (decimal lost ++ codes "\n")))
 
--- What a client put out that was asked for the first of the types of a lookup, and the sink holds the record of the first of these rows.
+-- What a client put out that was asked the first asks of a lookup, and the sink holds the record of the first of these rows.
 pub record IsRecordedFor {R : Type 0} (kept : R → Option (List ℕ)) (lookup : Lookup) (conf : ResolvConf) (words : List ℕ) (r s : Recording) (first middle last : R) (old new : World) : Type 0 where
   pub made : IsMadeFor (keeps_by kept) lookup conf (record { recorder = r; sink = middle }) (record { recorder = s; sink = last }) old new
   pub has : HasEnded (opening conf practical_choice default_cache words (kept first)) made.rows (kept last)
 
--- What it ends with to ask for the types of a lookup with 4096 words that come first: nothing can be recorded and it is told why, or they are asked for as ever with these
+-- What it ends with to ask a lookup with 4096 words that come first: nothing can be recorded and it is told why, or it is asked as ever with these
 -- words, and recorded.
 pub data AskedEnd {L R : Type 0} (held : L → Option (List ℕ)) (faults : L → ℕ) (kept : R → Option (List ℕ)) (file_faults : R → ℕ) (lookup : Lookup) (conf : ResolvConf) (status : ℕ) (before after : L) (first last : R) (old new : World) : Type 0 where
   no_memory : status ≡ 6 → AskedEnd held faults kept file_faults lookup conf status before after first last old new

@@ -2,7 +2,7 @@
 
 ghost use Rattle.std.specs.Prelude.{◌≡◌, ◌≢◌, IfOk, IfErr, IsErrOf};
 ghost use Rattle.client_request.specs.declared.error.Error.TheVariants.{NumbersUsed};
-ghost use Rattle.dns_lookup_run.specs.Asking.{Gave, Stopped, request_for};
+ghost use Rattle.dns_lookup_run.specs.Asking.{Gave, Stopped, dnssec_asked, nsid_asked, request_for};
 ghost use Rattle.dns_lookup_run.specs.Making.{GaveIf};
 ghost use Rattle.dns_lookup_run.specs.Watched.{on};
 
@@ -11,9 +11,8 @@ use crate::watched_clock::WatchedClock;
 use crate::watched_edge::{Heard, WatchedEdge};
 use client_core::{Client, Clock, Edge};
 use client_request::{Compose, Error, RequestMessage};
-use dns_base::Message;
-use dns_lookup_words::Lookup;
-use dns_values::Rtype;
+use dns_lookup_pages::query_of;
+use dns_lookup_words::Ask;
 use std::alloc::Global;
 
 /// What a request came to.
@@ -27,26 +26,48 @@ pub(crate) struct Outcome {
     pub(crate) micros: u64,
 }
 
-/// The request of a lookup for a type.
-fn request_for(alloc: Global, lookup: &Lookup, rtype: Rtype) -> Result<RequestMessage, Error>
-    ensures made { IfOk result (λ r. r ≡ request_for lookup.now rtype) }
-    ensures refused { IfErr result (λ e. e ≢ Error.NumbersUsed) }
+/// The code of the option by which a server is asked for its name (RFC 5001 2.1).
+const NSID: u16 = 3;
+
+/// A request, with DO set where that is asked for.
+fn dnssec_asked(is_asked: bool, mut request: RequestMessage) -> RequestMessage
+    ensures { result ≡ dnssec_asked is_asked request }
 {
-    let message = Message::query(alloc, &lookup.name, rtype)?;
-    let mut request = RequestMessage::new(alloc, message)?;
-    if lookup.dnssec {
+    if is_asked {
         request.set_dnssec_ok(true);
     }
+    request
+}
+
+/// A request, with an empty option NSID where that is asked for.
+fn nsid_asked(is_asked: bool, mut request: RequestMessage) -> Result<RequestMessage, Error>
+    ensures made { IfOk result (λ r. r ≡ nsid_asked is_asked request) }
+    ensures refused { IfErr result (λ e. e ≢ Error.NumbersUsed) }
+{
+    if !is_asked {
+        return Ok(request);
+    }
+    request.add_opt(NSID, &[])?;
     Ok(request)
 }
 
-/// Asks a client the request of a lookup for a type, under the number of its next request.
+/// The request of an ask.
+fn request_for(alloc: Global, ask: &Ask) -> Result<RequestMessage, Error>
+    ensures made { IfOk result (λ r. r ≡ request_for ask.now) }
+    ensures refused { IfErr result (λ e. e ≢ Error.NumbersUsed) }
+{
+    let flags = ask.manner.flags;
+    let message = query_of(alloc, ask)?;
+    let request = RequestMessage::new(alloc, message)?;
+    nsid_asked(flags.nsid, dnssec_asked(flags.dnssec, request))
+}
+
+/// Asks a client the request of an ask, under the number of its next request.
 ///
 /// `NoMemory`, or `NumbersUsed` where a number would pass the greatest `u64`. After an error the client is not to be used again.
 pub(crate) fn asked<E: Edge + Drop, C: Clock + Drop, A: Asks>(
     alloc: Global,
-    lookup: &Lookup,
-    rtype: Rtype,
+    ask: &Ask,
     number: u64,
     client: &mut Client,
     edge: &mut WatchedEdge<E>,
@@ -54,14 +75,14 @@ pub(crate) fn asked<E: Edge + Drop, C: Clock + Drop, A: Asks>(
     words: &mut A,
 ) -> Result<Outcome, Error>
     ensures answered { IfOk result (λ c. on E.deeds E.waits E.polls C.given A.stream (client.old, edge.old, clock.old, words.old) (client.new, edge.new, clock.new, words.new)
-        (Gave lookup.now rtype number c.answer)) }
-    ensures made { GaveIf result E.deeds E.waits E.polls C.given A.stream A.made (client.old, edge.old, clock.old, words.old) (client.new, edge.new, clock.new, words.new) lookup.now rtype number }
+        (Gave ask.now number c.answer)) }
+    ensures made { GaveIf result E.deeds E.waits E.polls C.given A.stream A.made (client.old, edge.old, clock.old, words.old) (client.new, edge.new, clock.new, words.new) ask.now number }
     ensures numbers { IsErrOf result NumbersUsed → on E.deeds E.waits E.polls C.given A.stream (client.old, edge.old, clock.old, words.old)
-        (client.new, edge.new, clock.new, words.new) (Stopped lookup.now rtype) }
+        (client.new, edge.new, clock.new, words.new) (Stopped ask.now) }
 {
     edge.forget();
     clock.forget();
-    let request = request_for(alloc, lookup, rtype)?;
+    let request = request_for(alloc, ask)?;
     match words.ask(client, edge, clock, number, request) {
         Ok(answer) => Ok(Outcome {
             answer,

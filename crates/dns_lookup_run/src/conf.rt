@@ -1,15 +1,15 @@
 //! The configuration that is asked.
 
-ghost use Rattle.std.specs.Prelude.{◌≡◌, ◌≢◌, ◌++◌, map, IfOk, IfErr, IfSome, OnOk};
+ghost use Rattle.std.specs.Prelude.{◌≡◌, ◌≢◌, ◌++◌, filter, map, IfOk, IfErr, IfSome, OnOk};
 ghost use Rattle.dns_values.specs.Source.{Rose};
 ghost use Rattle.command_parts.specs.Ends.{IsEarly, line_of, status_of};
 ghost use Rattle.resolv_conf.specs.Conf.{name_server};
-ghost use Rattle.dns_lookup_run.specs.Conf.{IsBase, IsConfOf, IsReadyIn, IsTooLong, conf_asked, named, streamed, timed};
+ghost use Rattle.dns_lookup_run.specs.Conf.{IsBase, IsConfOf, IsReadyIn, IsTooLong, conf_asked, is_of_family, is_v4, named, of_family, streamed, timed};
 
 use client_request::Words;
 use command_parts::{Ending, conf_at, says, statuses};
 use dns_base::NoMemory;
-use dns_lookup_words::Lookup;
+use dns_lookup_words::{Family, Lookup};
 use dns_values::{Duration, IpAddr, ReadFault, SocketAddr, Source};
 use resolv_conf::{ResolvConf, ServerConf, Servers, Transport};
 use resolver_policy::{Found, Notes, practical};
@@ -63,11 +63,57 @@ fn streamed(tcp: bool, mut conf: ResolvConf) -> ResolvConf
     conf
 }
 
-/// With what the words say of the port, the time and streams.
+fn is_v4(ip: IpAddr) -> bool
+    ensures { result ≡ is_v4 ip }
+{
+    match ip {
+        IpAddr::V4(_) => true,
+        IpAddr::V6(_) => false,
+    }
+}
+
+/// Whether a server's address is of a family, if one is said.
+fn is_of_family(family: Option<Family>, server: &ServerConf) -> bool
+    ensures { result ≡ is_of_family family server.now }
+{
+    match family {
+        None => true,
+        Some(Family::V4) => is_v4(server.addr.ip),
+        Some(Family::V6) => !is_v4(server.addr.ip),
+    }
+}
+
+/// Keeps the servers at addresses of a family, if one is said.
+fn keep_family(family: Option<Family>, servers: &mut Vec<ServerConf>)
+    ensures { servers.new.items ≡ filter (is_of_family family) servers.old.items }
+{
+    servers.retain(|server| is_of_family(family, server));
+}
+
+/// The servers at addresses of a family, if one is said.
+fn servers_of(family: Option<Family>, servers: Servers) -> Servers
+    ensures { result ≡ filter (is_of_family family) servers }
+{
+    let mut items = servers.into_vec();
+    keep_family(family, &mut items);
+    Servers::from_vec(items)
+}
+
+fn of_family(family: Option<Family>, conf: ResolvConf) -> ResolvConf
+    ensures { result ≡ of_family family conf }
+{
+    let ResolvConf { servers, options } = conf;
+    ResolvConf {
+        servers: servers_of(family, servers),
+        options,
+    }
+}
+
+/// With what the words say of addresses, the port, the time and streams.
 fn conf_asked(lookup: &Lookup, base: ResolvConf) -> ResolvConf
     ensures { result ≡ conf_asked lookup.now base }
 {
-    let conf = conf_at(lookup.port, base);
+    let conf = conf_at(lookup.port, of_family(lookup.family, base));
     streamed(lookup.tcp, timed(lookup.seconds, conf))
 }
 

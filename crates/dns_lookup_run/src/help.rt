@@ -4,55 +4,105 @@ ghost use Rattle.std.specs.Prelude.{◌≡◌, ◌⊎◌, IfOk};
 ghost use Rattle.std.specs.String.{string_bytes};
 ghost use Rattle.dns_values.specs.Sink.{IsFlushed, with_octets};
 ghost use Rattle.dns_values.specs.Source.{Rose};
-ghost use Rattle.dns_lookup_run.specs.Pages.{page_text};
+ghost use Rattle.dns_lookup_run.specs.Pages.{letter_page, page_of, page_text};
 
 use crate::program::write_page;
 use crate::telling::tell_no_memory;
 use command_parts::statuses;
 use dns_base::{NoMemory, Status};
 use dns_values::Sink;
-use program_words::{Page, version_line};
+use program_words::{Page, page_asked, version_line};
 use std::alloc::Global;
 
 /// The words and statuses, as they are told to who asks for help.
 const HELP: &str = "\
-usage: dns_lookup [--record FILE] [@SERVER ..] [-p PORT] (-x ADDRESS | [-q] NAME)
-                  [[-c] CLASS] [[-t] TYPE] [+OPTION ..] [--]
-       dns_lookup --help | --version
+usage: dns_lookup [--record FILE] [@SERVER ..] [-p PORT] [-4 | -6] [+OPTION ..] QUERY ..
+       dns_lookup --help | -h | --version | -v | -V
+       QUERY: (-x ADDRESS | [-q] NAME) [[-c] CLASS] [[-t] TYPE] [+OPTION ..]
 
-Asks servers for the records of a name, and writes what they answer. The words are those of dig, in any order; one that dig has and that
-stands not here is refused.
+Asks servers for the records of names, and writes what they answer. The words are those of dig, in any order; one that dig has and that
+stands not here is refused by a sentence that says what is not there.
 
+Servers:
   --record FILE   write what the client saw as a script that replays; it stands first
-  @SERVER         ask this server, an address alone, IPv4 or IPv6, which may stand in brackets; several are asked one after another
-                  where one does not serve, and without one those of /etc/resolv.conf are. Behind # may stand the port of all
+  @SERVER         ask this server: an address, IPv4 or IPv6, in brackets or not, or localhost. Several are asked one after another where
+                  one does not serve, and without one those of /etc/resolv.conf are. Behind # may stand the port of all
   -p PORT         ask every server at this port, from 1 to 65535
-  -x ADDRESS      ask for the names of an address
-  -q NAME         ask for this name, whatever it looks like
+  -4, -6          ask at addresses of IPv4 alone, or of IPv6
+  +tcp, +vc       ask by streams alone
+  +time=SECONDS   give a request so long, from 1 to 600; +timeout=SECONDS is the same
+
+What is asked:
   NAME            the name; the final dot may be left out, and no suffix is searched
-  -c CLASS        the class, which is IN
+  -q NAME         ask for this name, whatever it looks like
+  -x ADDRESS      ask for the names of an address
   -t TYPE         a type by its name, in any case, or TYPE123, and not AXFR; without one A and then AAAA. Behind it no word alone is one
+  -c CLASS        the class: IN, CH or HS
   CLASS, TYPE     the same; a name that looks like one needs -q or a final dot
   --              no word behind it is an option
-
-Options, of which dig's first letters are enough, in any case; no behind the plus turns one off:
-  +tcp, +vc       ask by streams alone
+  -f FILE         ask what the words of a file say too, which stand behind all others
+  +norec          ask the server for what it has itself
   +dnssec, +do    set DO, so that signatures come too
-  +short          write the data of the answer section alone, a line for each record
-  +time=SECONDS   give a request so long, from 1 to 600; +timeout=SECONDS is the same
-  +all, +rec      and others whose state is always so, as +nocmd and +nosearch
+  +cdflag, +cd    set CD, so that what was not validated comes too
+  +adflag, +ad    set AD, so that the server says if an answer is authentic
+  +nsid           ask the server for its name
+
+What is written:
+  +short          the data of the answer section alone, a line for each record; where there is none the status says why
+  +identify       with +short, the server and the time behind each line
+  +json           the message alone, as an object of JSON on a line (RFC 8427)
+  +multiline      long records on several lines
+  +qr             the request before the answer
+  +noall          no section, comment or statistics; behind it +answer and the like turn one on again
+  +question, +answer, +authority, +additional   these sections, or with no behind the plus not
+  +comments       the header, the OPT record and the titles of sections
+  +stats          who answered, in which time, and which servers gave no answer of use
+Of options dig's first letters are enough, in any case; no behind the plus turns one off. Of those whose state is always the same that state
+is taken, as +nocmd and +nosearch.
+
+Of several names what is said before the first is said of all of them, and what stands behind one is said of that one; but servers are those
+of all names, and stand before a second one. The first request without an answer ends it.
 
 Exit status:
-  0  each answer was written whole, whatever its response code
-  2  the words are no lookup
-  3  the configuration could not be read, or is too long
-  4  standard output failed
-  5  no answer: an error, or none in time
-  6  memory ran out, no random words could be had, or few words of a record are left
-  7  a number would pass 64 bits
-  8  with --record: nothing can be recorded, so nothing was asked
+  0   each answer was written whole, whatever its response code
+  2   the words are no lookup
+  3   the configuration could not be read, or is too long
+  4   standard output failed
+  5   no answer: an error, or none in time
+  6   memory ran out, no random words could be had, or few words of a record are left
+  7   a number would pass 64 bits
+  8   with --record: nothing can be recorded, so nothing was asked
+  9   with +short: there is no such name
+  10  with +short: the name is there, and has no such records
+  11  with +short: the server said that it does not serve
 On each but 0 a sentence on standard error says why.
 ";
+
+/// What a word asks for that has one letter.
+#[tactic(auto, unfolding(crate::specs::Pages::letter_page))]
+fn letter_page(word: &str) -> Option<Page>
+    ensures { result ≡ letter_page word.now }
+{
+    match word {
+        "-h" => Some(Page::Help),
+        "-v" => Some(Page::Version),
+        "-V" => Some(Page::Version),
+        _ => None,
+    }
+}
+
+/// What the words ask the program to tell of itself: `--help`, `-h`, `--version`, `-v` or `-V`, alone.
+pub fn page_of(words: &[String]) -> Option<Page>
+    ensures { result ≡ page_of words.now }
+{
+    match page_asked(words) {
+        Some(page) => Some(page),
+        None => match words {
+            [word] => letter_page(word.as_str()),
+            _ => None,
+        },
+    }
+}
 
 /// What is told.
 fn page_text(alloc: Global, page: Page) -> Result<String, NoMemory>

@@ -22,7 +22,7 @@ mod telling;
 mod watched_clock;
 mod watched_edge;
 
-pub use help::tell_page;
+pub use help::{page_of, tell_page};
 pub use passing_edge::{Asked, PassingEdge};
 pub use program::run;
 pub use recorded::{Recorded, run_recorded};

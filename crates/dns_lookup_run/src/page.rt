@@ -5,7 +5,8 @@ use crate::reports::reports;
 use crate::watched_edge::{Heard, Opened};
 use client_request::Via;
 use dns_base::{Message, NoMemory};
-use dns_presentation::{Presentation, ShownData};
+use dns_lookup_pages::{Lacking, json_text, lacking_in, message_text, query_of, short_text};
+use dns_lookup_words::{Ask, Layout};
 use dns_values::SocketAddr;
 use resolv_conf::ServerConf;
 use std::alloc::Global;
@@ -37,57 +38,103 @@ impl Display for Answerer<'_> {
     }
 }
 
-/// A message in presentation form, and behind it which servers gave no answer, how long it took, who answered, by which
-/// transport, and its octets.
-fn whole_page(
+/// The message of a request as text, behind a line that says what it is; none where it is not asked for.
+fn query_text(alloc: Global, ask: &Ask) -> Result<String, NoMemory> {
+    let layout = ask.manner.layout;
+    if !layout.query {
+        return Ok(String::new(alloc));
+    }
+    let query = query_of(alloc, ask)?;
+    let text = message_text(alloc, layout, &query)?;
+    Ok(format!(in alloc;
+        ";; Request, before a transport gives it an id and an OPT record:\n{text}\n"
+    )?)
+}
+
+/// Behind a message which servers gave no answer, how long it took, who answered, by which transport, and its octets; none where that
+/// is not asked for.
+fn stats_text(
     alloc: Global,
+    ask: &Ask,
     message: &Message,
     outcome: &Outcome,
     servers: &[ServerConf],
     opened: &[Opened],
 ) -> Result<String, NoMemory> {
-    let shown = message.presentation();
+    if !ask.manner.layout.stats {
+        return Ok(String::new(alloc));
+    }
     let millis = outcome.micros / 1000;
     let size = message.as_slice().len();
     let answerer = Answerer {
         heard: outcome.heard,
         servers,
     };
-    let failed = reports(alloc, ";; FAILED: ", servers, opened)?;
-    let text = format!(in alloc;
-        "{shown}\n{failed};; Query time: {millis} msec\n;; SERVER: {answerer}\n;; MSG SIZE  rcvd: {size}\n\n"
-    )?;
-    Ok(text)
+    let failed = reports(alloc, false, ";; FAILED: ", servers, opened)?;
+    let meaning = lacking_text(lacking_in(message));
+    Ok(format!(in alloc;
+        "\n{meaning}{failed};; Query time: {millis} msec\n;; SERVER: {answerer}\n;; MSG SIZE  rcvd: {size}\n\n"
+    )?)
 }
 
-/// The data of the records of the answer section, one line each, up to the first that can't be read.
-fn short_page(alloc: Global, message: &Message) -> Result<String, NoMemory> {
-    let mut text = String::new(alloc);
-    let Ok(records) = message.answer() else {
-        return Ok(text);
-    };
-    for record in records {
-        let Ok(record) = record else {
-            break;
-        };
-        text.push_str(&ShownData(&record).to_string(alloc)?)?;
-        text.push('\n')?;
+/// What an answer without data means, on a line.
+fn lacking_text(lacking: Option<Lacking>) -> &'static str {
+    match lacking {
+        Some(Lacking::Name) => ";; There is no such name.\n",
+        Some(Lacking::Data) => ";; The name is there, and has no records of this type.\n",
+        _ => "",
     }
-    Ok(text)
 }
 
-/// What is written of a message.
-pub(crate) fn page(
+/// A message in the layout that is asked for, the request before it, and behind it what is told of its way.
+fn whole_page(
     alloc: Global,
-    is_short: bool,
+    ask: &Ask,
     message: &Message,
     outcome: &Outcome,
     servers: &[ServerConf],
     opened: &[Opened],
 ) -> Result<String, NoMemory> {
-    if is_short {
-        short_page(alloc, message)
-    } else {
-        whole_page(alloc, message, outcome, servers, opened)
+    let mut text = query_text(alloc, ask)?;
+    text.push_str(&message_text(alloc, ask.manner.layout, message)?)?;
+    text.push_str(&stats_text(alloc, ask, message, outcome, servers, opened)?)?;
+    Ok(text)
+}
+
+/// What stands behind the data of a record: who answered, and in which time, if that is asked for.
+fn identity(
+    alloc: Global,
+    layout: Layout,
+    outcome: &Outcome,
+    servers: &[ServerConf],
+) -> Result<String, NoMemory> {
+    if !layout.identify {
+        return Ok(String::new(alloc));
     }
+    let millis = outcome.micros / 1000;
+    let answerer = Answerer {
+        heard: outcome.heard,
+        servers,
+    };
+    Ok(format!(in alloc; " from server {answerer} in {millis} ms.")?)
+}
+
+/// What is written of a message.
+pub(crate) fn page(
+    alloc: Global,
+    ask: &Ask,
+    message: &Message,
+    outcome: &Outcome,
+    servers: &[ServerConf],
+    opened: &[Opened],
+) -> Result<String, NoMemory> {
+    let layout = ask.manner.layout;
+    if layout.json {
+        return json_text(alloc, message);
+    }
+    if layout.short {
+        let behind = identity(alloc, layout, outcome, servers)?;
+        return short_text(alloc, message, &behind);
+    }
+    whole_page(alloc, ask, message, outcome, servers, opened)
 }

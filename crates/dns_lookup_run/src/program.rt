@@ -1,14 +1,14 @@
 //! What the program does, over a source, two sinks and the rest of its world.
 
-ghost use Rattle.std.specs.Prelude.{◌≡◌, ◌≢◌, ◌⊎◌, ◌++◌, ◌<◌, ◌≤◌, true, false, IfOk, IsErrOf};
+ghost use Rattle.std.specs.Prelude.{◌≡◌, ◌≢◌, ◌⊎◌, ◌++◌, ◌<◌, ◌≤◌, true, false, length, IfOk, IsErrOf};
 ghost use Rattle.client_settings.specs.Settings.{default_cache};
 ghost use Rattle.resolver_policy.specs.Practice.{practical_choice};
 ghost use Rattle.client_steps.specs.Whole.{started};
 ghost use Rattle.dns_values.specs.Source.{Rose};
 ghost use Rattle.dns_values.specs.Sink.{IsFlushed, with_octets};
 ghost use Rattle.dns_lookup_run.specs.Worlds.{around, is_message, said};
-ghost use Rattle.dns_lookup_run.specs.Asking.{Brought, HasBegun};
-ghost use Rattle.dns_lookup_run.specs.Ends.{EndsTold, HasNoConf, HasPage, IsOfAsking, IsRefusalTold, TellsWhy, WordsEnd};
+ghost use Rattle.dns_lookup_run.specs.Asking.{Brought, HasBegun, lack_of, or_lack};
+ghost use Rattle.dns_lookup_run.specs.Ends.{EndsTold, HasNoConf, HasPage, IsDone, IsOfAsking, IsOfRequest, IsRefusalTold, TellsWhy, WordsEnd};
 ghost use Rattle.dns_lookup_run.specs.Making.{IsMadeFor};
 ghost use Rattle.dns_lookup_run.specs.Reports.{told_of};
 ghost use Rattle.dns_lookup_run.specs.Sentences.{answer_text, numbers_text, unanswered_text, unwritten_text};
@@ -18,15 +18,18 @@ use crate::asks::Asks;
 use crate::conf::conf_of;
 use crate::page::page;
 use crate::reports::reports;
-use crate::telling::{UNWRITTEN, tell_conf, tell_notes, tell_refusal, tell_stop, tell_unanswered};
+use crate::telling::{
+    UNWRITTEN, tell_conf, tell_lack, tell_notes, tell_refusal, tell_stop, tell_unanswered,
+};
 use crate::watched_clock::WatchedClock;
 use crate::watched_edge::{Opened, WatchedEdge};
 use client_core::{Client, Clock, Edge, cache};
 use client_loop::learn_all;
 use client_request::{Error, Words};
 use command_parts::{deliver, end_by, statuses};
-use dns_base::{NoMemory, Rtype, Status};
-use dns_lookup_words::{Fault, Lookup, lookup_of};
+use dns_base::{NoMemory, Status};
+use dns_lookup_pages::{Lacking, lacking_in};
+use dns_lookup_words::{Ask, Fault, Lookup, lookup_of};
 use dns_values::{Sink, Source};
 use resolv_conf::{ResolvConf, ServerConf};
 use resolver_policy::practical_choice;
@@ -44,7 +47,7 @@ fn tell_failed<L: Sink>(
     ensures said { result.0 ≡ 5 → said L.held L.faults errors.old errors.new (unanswered_text error ++ told_of servers.now opened.now) }
     ensures flushed { result.0 ≡ 5 → IsFlushed (L.held errors.new) (L.flushed errors.new) ⊎ Rose (L.faults errors.old) (L.faults errors.new) }
 {
-    match reports(alloc, "dns_lookup: ", servers, opened) {
+    match reports(alloc, true, "dns_lookup: ", servers, opened) {
         Ok(text) => tell_unanswered(alloc, error, text.as_str(), errors),
         Err(NoMemory) => statuses::NO_MEMORY,
     }
@@ -72,7 +75,7 @@ pub(crate) fn write_page<K: Sink, L: Sink>(text: &[u8], sink: &mut K, errors: &m
 /// Writes what a request came to: the message, or sentences that say why there is none.
 fn write_outcome<K: Sink, L: Sink>(
     alloc: Global,
-    is_short: bool,
+    ask: &Ask,
     outcome: &Outcome,
     servers: &[ServerConf],
     opened: &[Opened],
@@ -92,7 +95,7 @@ fn write_outcome<K: Sink, L: Sink>(
     ensures count { K.faults sink.old ≤ K.faults sink.new }
 {
     match &outcome.answer {
-        Some(Ok(message)) => match page(alloc, is_short, message, outcome, servers, opened) {
+        Some(Ok(message)) => match page(alloc, ask, message, outcome, servers, opened) {
             Ok(text) => write_page(text.as_bytes(), sink, errors),
             Err(NoMemory) => statuses::NO_MEMORY,
         },
@@ -104,18 +107,18 @@ fn write_outcome<K: Sink, L: Sink>(
 /// The same, or a sentence that says why the client gave up.
 fn tell<K: Sink, L: Sink>(
     alloc: Global,
-    is_short: bool,
-    came: Result<Outcome, Error>,
+    ask: &Ask,
+    came: &Result<Outcome, Error>,
     servers: &[ServerConf],
     opened: &[Opened],
     sink: &mut K,
     errors: &mut L,
 ) -> Status
-    ensures statuses { IsOfAsking result.0 }
-    ensures good { HasPage result.0 → Brought true came }
-    ensures bad { result.0 ≡ 5 → Brought false came }
-    ensures numbers { result.0 ≡ 7 → IsErrOf came Error.NumbersUsed }
-    ensures said { result.0 ≡ 5 → IfOk came (λ o. said L.held L.faults errors.old errors.new (answer_text o.answer ++ told_of servers.now opened.now)) }
+    ensures statuses { IsOfRequest result.0 }
+    ensures good { HasPage result.0 → Brought true came.now }
+    ensures bad { result.0 ≡ 5 → Brought false came.now }
+    ensures numbers { result.0 ≡ 7 → IsErrOf came.now Error.NumbersUsed }
+    ensures said { result.0 ≡ 5 → IfOk came.now (λ o. said L.held L.faults errors.old errors.new (answer_text o.answer ++ told_of servers.now opened.now)) }
     ensures stops { result.0 ≡ 7 → said L.held L.faults errors.old errors.new numbers_text }
     ensures unwritten { result.0 ≡ 4 → said L.held L.faults errors.old errors.new unwritten_text }
     ensures line_flushed { (result.0 ≡ 4) ⊎ ((result.0 ≡ 5) ⊎ (result.0 ≡ 7)) → IsFlushed (L.held errors.new) (L.flushed errors.new) ⊎ Rose (L.faults errors.old) (L.faults errors.new) }
@@ -126,8 +129,8 @@ fn tell<K: Sink, L: Sink>(
     ensures count { K.faults sink.old ≤ K.faults sink.new }
 {
     match came {
-        Ok(outcome) => write_outcome(alloc, is_short, &outcome, servers, opened, sink, errors),
-        Err(error) => tell_stop(error, errors),
+        Ok(outcome) => write_outcome(alloc, ask, outcome, servers, opened, sink, errors),
+        Err(error) => tell_stop(*error, errors),
     }
 }
 
@@ -139,7 +142,31 @@ fn client_of<E: Edge>(alloc: Global, conf: &ResolvConf, edge: &mut E) -> Result<
     Client::new(alloc, conf, practical_choice(), cache::Config::new())
 }
 
-/// Asks for the type of a lookup, or for A and then AAAA, and writes what is answered. The first without an answer ends it.
+/// Why the answer has no data to write, where these alone are to be written.
+fn lack_in(ask: &Ask, came: &Result<Outcome, Error>) -> Option<Lacking>
+    ensures { result ≡ lack_of ask.now came.now }
+{
+    let layout = ask.manner.layout;
+    match came {
+        Ok(outcome) => match &outcome.answer {
+            Some(Ok(message)) if layout.short && !layout.json => lacking_in(message),
+            _ => None,
+        },
+        Err(_) => None,
+    }
+}
+
+/// The first of the two.
+fn or_lack(first: Option<Lacking>, later: Option<Lacking>) -> Option<Lacking>
+    ensures { result ≡ or_lack first later }
+{
+    match first {
+        Some(lack) => Some(lack),
+        None => later,
+    }
+}
+
+/// Asks what a lookup asks, one after another, and writes what is answered. The first without an answer ends it.
 pub(crate) fn ask_all<K: Sink, L: Sink, E: Edge + Drop, C: Clock + Drop, A: Asks>(
     alloc: Global,
     lookup: &Lookup,
@@ -150,15 +177,16 @@ pub(crate) fn ask_all<K: Sink, L: Sink, E: Edge + Drop, C: Clock + Drop, A: Asks
     clock: &mut WatchedClock<C>,
     rng: &mut A,
 ) -> Status
+    requires some { 0 < length lookup.now.asks }
     ensures statuses { IsOfAsking result.0 }
     ensures ends { around E.deeds E.polls C.given A.stream (edge.old, clock.old, rng.old) (edge.new, clock.new, rng.new) (EndsTold L.held L.faults lookup.now conf.now result.0 errors.old errors.new) }
     ensures made { result.0 ≢ 6 → result.0 ≢ 7 → around E.deeds E.polls C.given A.stream (edge.old, clock.old, rng.old) (edge.new, clock.new, rng.new)
         (IsMadeFor A.made lookup.now conf.now rng.old rng.new) }
     ensures stops { result.0 ≡ 7 → said L.held L.faults errors.old errors.new numbers_text }
     ensures unwritten { result.0 ≡ 4 → said L.held L.faults errors.old errors.new unwritten_text }
-    ensures line_flushed { (result.0 ≡ 4) ⊎ ((result.0 ≡ 5) ⊎ (result.0 ≡ 7)) → IsFlushed (L.held errors.new) (L.flushed errors.new) ⊎ Rose (L.faults errors.old) (L.faults errors.new) }
+    ensures line_flushed { TellsWhy result.0 → IsFlushed (L.held errors.new) (L.flushed errors.new) ⊎ Rose (L.faults errors.old) (L.faults errors.new) }
     ensures quiet { result.0 ≡ 0 → L.held errors.new ≡ L.held errors.old }
-    ensures flushed { result.0 ≡ 0 → IsFlushed (K.held sink.new) (K.flushed sink.new) }
+    ensures flushed { IsDone result.0 → IsFlushed (K.held sink.new) (K.flushed sink.new) }
     ensures sink_fault { result.0 ≡ 4 → Rose (K.faults sink.old) (K.faults sink.new) }
     ensures count { K.faults sink.old ≤ K.faults sink.new }
 {
@@ -166,33 +194,21 @@ pub(crate) fn ask_all<K: Sink, L: Sink, E: Edge + Drop, C: Clock + Drop, A: Asks
         return statuses::NO_MEMORY;
     };
     let servers = conf.servers.as_slice();
-    let first = lookup.rtype.unwrap_or(Rtype::A);
-    let came = asked(alloc, lookup, first, 0, &mut client, edge, clock, rng);
-    let status = tell(
-        alloc,
-        lookup.short,
-        came,
-        servers,
-        edge.opened(),
-        sink,
-        errors,
-    );
-    if status.0 > 0 {
-        return status;
+    let mut lack = None;
+    let mut number = 0usize;
+    let asks = lookup.asks.as_slice();
+    let mut rest = asks;
+    while let Some((ask, later)) = rest.split_first() {
+        let came = asked(alloc, ask, number as u64, &mut client, edge, clock, rng);
+        let status = tell(alloc, ask, &came, servers, edge.opened(), sink, errors);
+        if status.0 > 0 {
+            return status;
+        }
+        lack = or_lack(lack, lack_in(ask, &came));
+        number += 1;
+        rest = later;
     }
-    if lookup.rtype.is_some() {
-        return status;
-    }
-    let came = asked(alloc, lookup, Rtype::AAAA, 1, &mut client, edge, clock, rng);
-    tell(
-        alloc,
-        lookup.short,
-        came,
-        servers,
-        edge.opened(),
-        sink,
-        errors,
-    )
+    tell_lack(alloc, lack, errors)
 }
 
 /// Does what words ask for, and answers the exit status.
@@ -200,7 +216,8 @@ pub(crate) fn ask_all<K: Sink, L: Sink, E: Edge + Drop, C: Clock + Drop, A: Asks
 /// The servers that the words name are asked, or else those of the configuration that is found in what `source` gives, as
 /// `resolver_policy` has them asked in practice. What is answered is written to `sink`. Where nothing is, a sentence to `errors`
 /// says why, and a line for each server what it brought; before that a line for each line of the configuration that was not
-/// taken as it stands. A sentence says too where a page was not written whole. The status stands whatever becomes of these, unless
+/// taken as it stands. A sentence says too where a page was not written whole, and where data alone was to be written and an answer
+/// had none, by statuses of their own: there is no such name, it has no such data, or the server said that it does not serve. The status stands whatever becomes of these, unless
 /// memory ran out there; that is told by `tell_no_memory`.
 pub fn run<S: Source, K: Sink, L: Sink, E: Edge + Drop, C: Clock + Drop, W: Words>(
     alloc: Global,
@@ -212,14 +229,14 @@ pub fn run<S: Source, K: Sink, L: Sink, E: Edge + Drop, C: Clock + Drop, W: Word
     clock: &mut WatchedClock<C>,
     rng: &mut W,
 ) -> Status
-    ensures statuses { (result.0 ≢ 1) × (result.0 < 8) }
+    ensures statuses { (result.0 ≢ 1) × (result.0 ≢ 8) × (result.0 < 12) }
 
     // The words.
     ensures usage { result.0 ≡ 2 → IsRefusalTold words.now (L.held errors.old) (L.held errors.new) (L.faults errors.old) (L.faults errors.new) }
 
     // What was asked, and what it came to.
     ensures ends { around E.deeds E.polls C.given W.stream (edge.old, clock.old, rng.old) (edge.new, clock.new, rng.new) (WordsEnd L.held L.faults words.now (S.left source.old) result.0 errors.old errors.new) }
-    ensures flushed { result.0 ≡ 0 → IsFlushed (K.held sink.new) (K.flushed sink.new) }
+    ensures flushed { IsDone result.0 → IsFlushed (K.held sink.new) (K.flushed sink.new) }
 
     // Faults, and what they leave.
     ensures no_conf { result.0 ≡ 3 → HasNoConf (S.left source.old) (S.faults source.old) (S.faults source.new) (said L.held L.faults errors.old errors.new) }

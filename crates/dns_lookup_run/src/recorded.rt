@@ -1,12 +1,12 @@
 //! A lookup that is recorded.
 
-ghost use Rattle.std.specs.Prelude.{◌≡◌, ◌≢◌, ◌⊎◌, ◌≤◌, ◌<◌, None, IfOk};
+ghost use Rattle.std.specs.Prelude.{◌≡◌, ◌≢◌, ◌⊎◌, ◌≤◌, ◌<◌, None, length, IfOk};
 ghost use Rattle.std.specs.String.{string_bytes};
 ghost use Rattle.command_parts.specs.Ends.{IsSaid};
 ghost use Rattle.dns_record.specs.Asking.{left_of};
 ghost use Rattle.dns_values.specs.Sink.{IsFlushed};
 ghost use Rattle.dns_values.specs.Source.{Rose};
-ghost use Rattle.dns_lookup_run.specs.Ends.{HasNoConf, IsOfAsking, IsRefusalTold};
+ghost use Rattle.dns_lookup_run.specs.Ends.{HasNoConf, IsDone, IsOfAsking, IsRefusalTold};
 ghost use Rattle.dns_lookup_run.specs.Recorded.{AsksTo, IsTold, Ran, ended_line, keeps_by, unrecorded_line};
 ghost use Rattle.dns_lookup_run.specs.Worlds.{around, said};
 
@@ -155,7 +155,7 @@ fn ahead() -> Ahead
     Ahead::SMALL
 }
 
-/// Asks for the types of a lookup, and records it.
+/// Asks what a lookup asks, and records it.
 fn ask_recorded<K: Sink, L: Sink, E: Edge + Drop, C: Clock + Drop, W: Words, R: Sink + Drop>(
     alloc: Global,
     lookup: &Lookup,
@@ -167,9 +167,10 @@ fn ask_recorded<K: Sink, L: Sink, E: Edge + Drop, C: Clock + Drop, W: Words, R: 
     rng: &mut W,
     file: R,
 ) -> Recorded<R>
+    requires some { 0 < length lookup.now.asks }
     ensures statuses { IsOfAsking result.status.0 ⊎ (result.status.0 ≡ 8) }
     ensures ends { around E.deeds E.polls C.given W.stream (edge.old, clock.old, rng.old) (edge.new, clock.new, rng.new) (AsksTo L.held L.faults R.held R.faults lookup.now conf.now errors.old errors.new file result) }
-    ensures flushed { result.status.0 ≡ 0 → IsFlushed (K.held sink.new) (K.flushed sink.new) }
+    ensures flushed { IsDone result.status.0 → IsFlushed (K.held sink.new) (K.flushed sink.new) }
     ensures silent { result.status.0 ≡ 8 → K.held sink.new ≡ K.held sink.old }
     ensures sink_fault { result.status.0 ≡ 4 → Rose (K.faults sink.old) (K.faults sink.new) }
     ensures count { K.faults sink.old ≤ K.faults sink.new }
@@ -216,10 +217,10 @@ pub fn run_recorded<
     rng: &mut W,
     file: R,
 ) -> Recorded<R>
-    ensures statuses { (result.status.0 ≢ 1) × (result.status.0 < 9) }
+    ensures statuses { (result.status.0 ≢ 1) × (result.status.0 < 12) }
     ensures usage { result.status.0 ≡ 2 → IsRefusalTold words.now (L.held told.old) (L.held told.new) (L.faults told.old) (L.faults told.new) }
     ensures ends { around E.deeds E.polls C.given W.stream (edge.old, clock.old, rng.old) (edge.new, clock.new, rng.new) (Ran L.held L.faults R.held R.faults words.now (S.left source.old) told.old told.new file result) }
-    ensures flushed { result.status.0 ≡ 0 → IsFlushed (K.held sink.new) (K.flushed sink.new) }
+    ensures flushed { IsDone result.status.0 → IsFlushed (K.held sink.new) (K.flushed sink.new) }
     ensures no_conf { result.status.0 ≡ 3 → HasNoConf (S.left source.old) (S.faults source.old) (S.faults source.new) (said L.held L.faults told.old told.new) }
     ensures silent { (result.status.0 ≡ 2) ⊎ ((result.status.0 ≡ 3) ⊎ (result.status.0 ≡ 8)) → K.held sink.new ≡ K.held sink.old }
     ensures sink_fault { result.status.0 ≡ 4 → Rose (K.faults sink.old) (K.faults sink.new) }

@@ -1,8 +1,8 @@
 //! What is told of servers that were asked and gave no answer.
 
-ghost use Rattle.std.specs.Prelude.{◌≡◌, ◌++◌, IfOk, OnOk, Some};
+ghost use Rattle.std.specs.Prelude.{◌≡◌, IfOk, Some};
 ghost use Rattle.std.specs.String.{string_bytes};
-ghost use Rattle.dns_lookup_run.specs.Reports.{is_told, is_tried_again, news_text, report, report_line, reports_text, via_text};
+ghost use Rattle.dns_lookup_run.specs.Reports.{is_answer, is_told, is_tried_again, is_try, news_text, report, report_line, reports_text, tries_of, tries_text, via_text};
 
 use crate::watched_edge::{News, Opened};
 use client_request::Via;
@@ -21,43 +21,105 @@ fn via_text(via: Via) -> &'static str
     }
 }
 
-impl Display for News {
-    ghost output = { λ news. Some (news_text news) };
+/// What a place brought, as it is told; where there was no answer, octets that have the code of one are none.
+#[derive(Clone, Copy)]
+struct Brought {
+    news: News,
+    failed: bool,
+}
+
+/// Whether by this code there are data, or there is no such name.
+fn is_answer(code: u8) -> bool
+    ensures { result ≡ is_answer code }
+{
+    code == 0 || code == 3
+}
+
+impl Display for Brought {
+    ghost output = { λ b. Some (news_text b.failed b.news) };
 
     fn fmt<W: fmt::Write>(&self, f: &mut fmt::Formatter<W>) -> fmt::Result {
-        match self {
+        match self.news {
             News::Earlier => f.write_str("asked for an earlier request"),
             News::Nothing => f.write_str("no answer"),
-            News::Octets(code) => write!(f, "{}", Rcode(*code)),
+            News::Octets(code) => {
+                if self.failed && is_answer(code) {
+                    f.write_str("what came answers another id or question, or can't be read")
+                } else {
+                    write!(f, "{}", Rcode(code))
+                }
+            }
             News::Fault(fault) => write!(f, "{fault}"),
         }
     }
 }
 
-/// Whether news are told: of a place that brought nothing, a fault, or another code than that there are data or no such name.
-fn is_told(news: News) -> bool
-    ensures { result ≡ is_told news }
+/// Whether news are told: of a place that brought nothing, a fault, another code than that there are data or no such name, or, where there
+/// was no answer, anything.
+fn is_told(failed: bool, news: News) -> bool
+    ensures { result ≡ is_told failed news }
 {
     match news {
         News::Earlier => false,
         News::Nothing => true,
-        News::Octets(code) => code != 0 && code != 3,
+        News::Octets(code) => failed || !is_answer(code),
         News::Fault(_) => true,
     }
 }
 
-/// The line that tells what a place of a server brought.
+/// Whether a place of a server was opened for this request.
+fn is_try(server: u32, opened: &Opened) -> bool
+    ensures { result ≡ is_try server opened.now }
+{
+    let is_earlier = match opened.news {
+        News::Earlier => true,
+        News::Nothing | News::Octets(_) | News::Fault(_) => false,
+    };
+    opened.heard.server == server && !is_earlier
+}
+
+/// How many places of a server were opened for this request.
+fn tries_of(server: u32, opened: &[Opened]) -> usize
+    ensures { result ≡ tries_of server opened.now }
+{
+    let mut tries = 0;
+    for one in opened {
+        if is_try(server, one) {
+            tries += 1;
+        }
+    }
+    tries
+}
+
+/// How often a server was asked, where it was more than once.
+fn tries_text(alloc: Global, tries: usize) -> Result<String, NoMemory>
+    ensures { IfOk result (λ s. string_bytes s ≡ tries_text tries) }
+{
+    if tries < 2 {
+        return Ok(String::new(alloc));
+    }
+    Ok(format!(in alloc; ", asked {tries} times")?)
+}
+
+/// The line that tells what a place of a server brought that was asked so often.
 fn report_line(
     alloc: Global,
+    failed: bool,
     prefix: &str,
     server: SocketAddr,
+    tries: usize,
     opened: &Opened,
 ) -> Result<String, NoMemory>
-    ensures { IfOk result (λ s. string_bytes s ≡ report_line prefix.now server opened.now) }
+    ensures { IfOk result (λ s. string_bytes s ≡ report_line failed prefix.now server tries opened.now) }
 {
     let via = via_text(opened.heard.via);
     let news = opened.news;
-    Ok(format!(in alloc; "{prefix}{server} ({via}): {news}\n")?)
+    let often = tries_text(alloc, tries)?;
+    let often = often.as_str();
+    Ok(format!(in alloc;
+        "{prefix}{server} ({via}){often}: {}\n",
+        Brought { news, failed }
+    )?)
 }
 
 /// Whether its server has a later place.
@@ -68,41 +130,44 @@ fn is_tried_again(opened: &Opened, later: &[Opened]) -> bool
     later.iter().any(|other| other.heard.server == server)
 }
 
-/// Adds the line of a place, if its news are told and its server has no later place.
-fn push_report(
+/// The line of a place among all of them, if its news are told and its server has no later place.
+fn report(
     alloc: Global,
-    text: &mut String,
+    failed: bool,
     prefix: &str,
     servers: &[ServerConf],
+    all: &[Opened],
     opened: &Opened,
     later: &[Opened],
-) -> Result<(), NoMemory>
-    ensures { OnOk result (string_bytes text.new ≡ string_bytes text.old ++ report prefix.now servers.now opened.now later.now) }
+) -> Result<String, NoMemory>
+    ensures { IfOk result (λ s. string_bytes s ≡ report failed prefix.now servers.now all.now opened.now later.now) }
 {
-    if !is_told(opened.news) || is_tried_again(opened, later) {
-        return Ok(());
+    if !is_told(failed, opened.news) || is_tried_again(opened, later) {
+        return Ok(String::new(alloc));
     }
-    let Some(server) = servers.get(opened.heard.server as usize) else {
-        return Ok(());
+    let server = opened.heard.server;
+    let Some(conf) = servers.get(server as usize) else {
+        return Ok(String::new(alloc));
     };
-    let line = report_line(alloc, prefix, server.addr, opened)?;
-    text.push_str(line.as_str())?;
-    Ok(())
+    let tries = tries_of(server, all);
+    report_line(alloc, failed, prefix, conf.addr, tries, opened)
 }
 
-/// A line, behind the prefix, for each server whose last place brought no answer that can be used.
+/// A line, behind the prefix, for each server whose last place brought no answer that can be used; where there was no answer at all, for each.
 pub(crate) fn reports(
     alloc: Global,
+    failed: bool,
     prefix: &str,
     servers: &[ServerConf],
     opened: &[Opened],
 ) -> Result<String, NoMemory>
-    ensures { IfOk result (λ s. string_bytes s ≡ reports_text prefix.now servers.now opened.now) }
+    ensures { IfOk result (λ s. string_bytes s ≡ reports_text failed prefix.now servers.now opened.now) }
 {
     let mut text = String::new(alloc);
     let mut rest = opened;
     while let Some((one, later)) = rest.split_first() {
-        push_report(alloc, &mut text, prefix, servers, one, later)?;
+        let line = report(alloc, failed, prefix, servers, opened, one, later)?;
+        text.push_str(line.as_str())?;
         rest = later;
     }
     Ok(text)

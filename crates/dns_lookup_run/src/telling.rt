@@ -1,21 +1,33 @@
 //! The sentences that tell why no answer is written.
 
-ghost use Rattle.std.specs.Prelude.{◌≡◌, ◌≢◌, ◌≤◌, ◌⊎◌, ◌++◌, IfOk, OnOk};
+ghost use Rattle.std.specs.Prelude.{◌≡◌, ◌≢◌, ◌≤◌, ◌⊎◌, ◌++◌, IfOk, IfSome, OnOk, Some};
 ghost use Rattle.std.specs.String.{string_bytes};
 ghost use Rattle.dns_values.specs.Sink.{IsFlushed};
 ghost use Rattle.dns_values.specs.Source.{Rose};
 ghost use Rattle.command_parts.specs.Ends.{IsEarly, IsSaid, status_of};
 ghost use Rattle.dns_lookup_words.specs.Sentences.{sentence};
 ghost use Rattle.dns_lookup_run.specs.Reports.{note_line, notes_text};
-ghost use Rattle.dns_lookup_run.specs.Sentences.{conf_text, numbers_text, refused_text, unanswered_text};
+ghost use Rattle.dns_lookup_run.specs.Sentences.{conf_text, lack_status, lack_text, numbers_text, refused_text, unanswered_text};
+ghost use Rattle.dns_lookup_pages.specs.declared.short.Lacking.TheVariants as lacks;
+ghost use Rattle.dns_lookup_run.specs.Ends.{IsOfLack};
 
 use client_request::Error;
 use command_parts::{Ending, deliver, end_by, statuses};
-use dns_base::{NoMemory, Status};
+use dns_base::{NoMemory, Rcode, Status};
+use dns_lookup_pages::Lacking;
 use dns_lookup_words::{Refusal, sentence};
 use dns_values::Sink;
 use resolver_policy::Note;
 use std::alloc::Global;
+
+/// There is no such name, and its data alone was to be written.
+const NO_NAME: Status = Status(9);
+
+/// The name has no such data, which alone was to be written.
+const NO_DATA: Status = Status(10);
+
+/// The server did not serve, and data alone was to be written.
+const NO_SERVICE: Status = Status(11);
 
 /// Tells which of the words is wrong.
 pub(crate) fn tell_refusal<L: Sink>(
@@ -94,8 +106,13 @@ fn unanswered(alloc: Global, error: Option<Error>) -> Result<String, NoMemory>
     ensures { IfOk result (λ s. string_bytes s ≡ unanswered_text error) }
 {
     match error {
-        Some(error) => Ok(format!(in alloc; "dns_lookup: no answer: {error}\n")?),
-        None => Ok(String::from_str(alloc, "dns_lookup: no answer came\n")?),
+        Some(error) => Ok(format!(in alloc;
+            "dns_lookup: no answer: {error}; another @SERVER, +tcp or a longer +time= may help\n"
+        )?),
+        None => Ok(String::from_str(
+            alloc,
+            "dns_lookup: no answer came; another @SERVER, +tcp or a longer +time= may help\n",
+        )?),
     }
 }
 
@@ -139,6 +156,52 @@ pub(crate) fn tell_stop<L: Sink>(error: Error, errors: &mut L) -> Status
             b"dns_lookup: numbers are used up\n",
         ),
         _ => statuses::NO_MEMORY,
+    }
+}
+
+/// The status of an answer without data, where these alone were to be written.
+fn lack_status(lack: Lacking) -> Status
+    ensures { result.0 ≡ lack_status (Some lack) }
+{
+    match lack {
+        Lacking::Name => NO_NAME,
+        Lacking::Data => NO_DATA,
+        Lacking::Service(_) => NO_SERVICE,
+    }
+}
+
+/// The sentence that tells of an answer without data.
+fn lack_line(alloc: Global, lack: Lacking) -> Result<String, NoMemory>
+    ensures { IfOk result (λ s. string_bytes s ≡ lack_text lack) }
+{
+    let text = match lack {
+        Lacking::Name => "dns_lookup: there is no such name (NXDOMAIN)\n",
+        Lacking::Data => "dns_lookup: the name is there, and has no records of this type\n",
+        Lacking::Service(code) => return service_line(alloc, code),
+    };
+    Ok(String::from_str(alloc, text)?)
+}
+
+fn service_line(alloc: Global, code: u8) -> Result<String, NoMemory>
+    ensures { IfOk result (λ s. string_bytes s ≡ lack_text (lacks.Service code)) }
+{
+    let rcode = Rcode(code);
+    Ok(format!(in alloc; "dns_lookup: no answer: the server said {rcode}\n")?)
+}
+
+/// Tells of an answer without data, if there was one.
+pub(crate) fn tell_lack<L: Sink>(alloc: Global, lack: Option<Lacking>, errors: &mut L) -> Status
+    ensures status { (result.0 ≡ lack_status lack) ⊎ (result.0 ≡ 6) }
+    ensures quiet { result.0 ≡ 0 → L.held errors.new ≡ L.held errors.old }
+    ensures said { result.0 ≢ 6 → IfSome lack (λ l. IsSaid (lack_text l) (L.held errors.old) (L.held errors.new) (L.faults errors.old) (L.faults errors.new)) }
+    ensures flushed { IsOfLack result.0 → IsFlushed (L.held errors.new) (L.flushed errors.new) ⊎ Rose (L.faults errors.old) (L.faults errors.new) }
+{
+    let Some(lack) = lack else {
+        return statuses::DONE;
+    };
+    match lack_line(alloc, lack) {
+        Ok(line) => end_by(errors, lack_status(lack), line.as_bytes()),
+        Err(NoMemory) => statuses::NO_MEMORY,
     }
 }
 

@@ -2,7 +2,6 @@
 use Rattle.std.specs.List.{before_first}
 use Rattle.std.proofs.Common.{◌≡◌, ◌+◌, ◌==◌, ℕ, Bool, true, false, length, List, refl, ap, sym, subst, ◌∙◌, Option, None, Some, Result, Ok, Err, String, Global}
 use Rattle.std.specs.String.{string_bytes}
-use Rattle.dns_names.specs.Name.{Labels}
 use Rattle.dns_values.proofs.Addresses.{one_address}
 use Rattle.dns_lookup_words.specs.declared.lookup.Lookup.{Lookup}
 use Rattle.dns_lookup_words.specs.declared.said.Next.{Next}
@@ -15,7 +14,7 @@ use Rattle.dns_lookup_words.specs.declared.wrong.Refusal.TheVariants.{Word}
 use Rattle.dns_lookup_words.specs.declared.wrong.Value.{Value}
 use Rattle.dns_lookup_words.specs.declared.wrong.Value.TheVariants as values
 use Rattle.dns_lookup_words.specs.declared.wrong.Wrong.{Wrong}
-use Rattle.dns_lookup_words.specs.Words.{AddressGives, GivesAt, GluedGives, IsJudged, IsSaidBy, LookupGives, ServerAt, ServerAtNumber, ServerAtSame, ServerAtText, SignGives, ValueGives, ValuedGives, WordGives, WordsGive, asked, bad_word, bare, behind, behind_first, good_word, is_other, no_word, nothing_said, number_in, said_whole, valued, with_address, with_server, wrong_word}
+use Rattle.dns_lookup_words.specs.Words.{AddressAt, Gives, GivesAt, GluedGives, IsJudged, IsSaidBy, LookupGives, ServerAt, ServerAtNumber, ServerAtSame, ServerAtText, ServerIn, ServerOf, SignGives, ValueGives, ValuedGives, WordGives, WordsGive, asked, bad_word, bare, behind, behind_first, good_word, is_localhost, is_other, no_word, nothing_said, number_in, said_whole, valued, with_address, with_server, wrong_word}
 
 one_server_at : (text : List ℕ) (port : Option ℕ) (said : Said) (a b : Result Said Wrong) → ServerAt text port said a → ServerAt text port said b → a ≡ b
 one_server_at text port said (Ok x) (Ok y) h k = ap Ok (h.2 ∙ ap (λ ip. with_server ip port said) (one_address text h.0 k.0 h.1 k.1) ∙ sym k.2)
@@ -23,28 +22,36 @@ one_server_at text port said (Ok x) (Err w) h k = absurd (k.0 h.0 h.1)
 one_server_at text port said (Err v) (Ok y) h k = absurd (h.0 k.0 k.1)
 one_server_at text port said (Err v) (Err w) h k = ap Err (h.1 ∙ sym k.1)
 
+one_of : (here : Bool) (text : List ℕ) (port : Option ℕ) (said : Said) (a b : Result Said Wrong) → ServerOf here text port said a → ServerOf here text port said b → a ≡ b
+one_of true text port said a b h k = h ∙ sym k
+one_of false text port said a b h k = one_server_at text port said a b h k
+
 one_same : (other : Bool) (port : ℕ) (text : List ℕ) (said : Said) (a b : Result Said Wrong) → ServerAtSame other port text said a → ServerAtSame other port text said b → a ≡ b
 one_same true port text said a b h k = h ∙ sym k
-one_same false port text said a b h k = one_server_at text (Some port) said a b h k
+one_same false port text said a b h k = one_of (is_localhost text) text (Some port) said a b h k
 
 one_number : (port : Option ℕ) (text : List ℕ) (said : Said) (a b : Result Said Wrong) → ServerAtNumber port text said a → ServerAtNumber port text said b → a ≡ b
 one_number None text said a b h k = h ∙ sym k
 one_number (Some port) text said a b h k = one_same (is_other said.port port) port text said a b h k
 
 one_server : (port : Option (List ℕ)) (text : List ℕ) (said : Said) (a b : Result Said Wrong) → ServerAtText port text said a → ServerAtText port text said b → a ≡ b
-one_server None text said a b h k = one_server_at text said.port said a b h k
+one_server None text said a b h k = one_of (is_localhost text) text said.port said a b h k
 one_server (Some port) text said a b h k = one_number (number_in 65535 port) text said a b h k
 
-one_reverse : (name : Option Labels) (word : List ℕ) (said : Said) (a b : Result Said Wrong) → AddressGives name word said a → AddressGives name word said b → a ≡ b
-one_reverse (Some name) word said a b h k = h ∙ sym k
-one_reverse None word said (Ok x) (Ok y) h k = ap Ok (h.2 ∙ ap (λ ip. with_address ip said) (one_address word h.0 k.0 h.1 k.1) ∙ sym k.2)
-one_reverse None word said (Ok x) (Err w) h k = absurd (k.0 h.0 h.1)
-one_reverse None word said (Err v) (Ok y) h k = absurd (h.0 k.0 k.1)
-one_reverse None word said (Err v) (Err w) h k = ap Err (h.1 ∙ sym k.1)
+one_in : (first : Bool) (text : List ℕ) (said : Said) (a b : Result Said Wrong) → ServerIn first text said a → ServerIn first text said b → a ≡ b
+one_in false text said a b h k = h ∙ sym k
+one_in true text said a b h k = one_server (behind_first 35 text) (bare (before_first (λ c. c == 35) text)) said a b h k
+
+one_reverse : (late : Bool) (word : List ℕ) (said : Said) (a b : Result Said Wrong) → AddressAt late word said a → AddressAt late word said b → a ≡ b
+one_reverse true word said a b h k = h ∙ sym k
+one_reverse false word said (Ok x) (Ok y) h k = ap Ok (h.2 ∙ ap (λ ip. with_address ip said) (one_address word h.0 k.0 h.1 k.1) ∙ sym k.2)
+one_reverse false word said (Ok x) (Err w) h k = absurd (k.0 h.0 h.1)
+one_reverse false word said (Err v) (Ok y) h k = absurd (h.0 k.0 k.1)
+one_reverse false word said (Err v) (Err w) h k = ap Err (h.1 ∙ sym k.1)
 
 one_value : (value : Value) (word : List ℕ) (said : Said) (a b : Result Said Wrong) → ValueGives value word said a → ValueGives value word said b → a ≡ b
 one_value values.Port word said a b h k = h ∙ sym k
-one_value values.Address word said a b h k = one_reverse said.name word said a b h k
+one_value values.Address word said a b h k = one_reverse said.late word said a b h k
 one_value values.Type word said a b h k = h ∙ sym k
 one_value values.Class word said a b h k = h ∙ sym k
 one_value values.Name word said a b h k = h ∙ sym k
@@ -58,7 +65,7 @@ one_dash (Some v) text said a b h k = one_glued (length v.1 == 0) v.0 v.1 said a
 one_dash None text said a b h k = h ∙ sym k
 
 one_any : (server plus dash : Option (List ℕ)) (word : List ℕ) (said : Said) (a b : Result Said Wrong) → SignGives server plus dash word said a → SignGives server plus dash word said b → a ≡ b
-one_any (Some text) plus dash word said a b h k = one_server (behind_first 35 text) (bare (before_first (λ c. c == 35) text)) said a b h k
+one_any (Some text) plus dash word said a b h k = one_in (length said.asks == 0) text said a b h k
 one_any None (Some text) dash word said a b h k = h ∙ sym k
 one_any None None (Some text) word said a b h k = one_dash (valued text) text said a b h k
 one_any None None None word said a b h k = h ∙ sym k
@@ -127,17 +134,11 @@ one_lookup words a b (wrong_word x h e) (said_whole y k f) = absurd (never y x (
 one_lookup words a b (wrong_word x h e) (wrong_word y k f) =
     e ∙ ap refusing (same_refusal x y (one_answer 0 words nothing_said (ends x) (ends y) h k)) ∙ sym f
 
-abbrev asking : Lookup → Result Lookup Refusal
-asking lookup = Ok lookup
-
 -- what is said is a lookup, or no whole one
-pub is_lookup : (words : List (String Global)) (said : Said) (lookup : Lookup) → WordsGive 0 words nothing_said (whole said) → asking lookup ≡ asked said
-    → LookupGives words (asking lookup)
-is_lookup words said lookup h is = said_whole said h is
-
-pub is_refused : (words : List (String Global)) (said : Said) (refusal : Refusal) → WordsGive 0 words nothing_said (whole said) → refusing refusal ≡ asked said
-    → LookupGives words (refusing refusal)
-is_refused words said refusal h is = said_whole said h is
+pub is_judged : (words : List (String Global)) (said : Said) (answer : Result Lookup Fault) → WordsGive 0 words nothing_said (whole said) → Gives (asked said) answer → IsJudged words answer
+is_judged words said (Ok lookup) h is = said_whole said h (sym is)
+is_judged words said (Err (faults.Refused refusal)) h is = said_whole said h (sym is)
+is_judged words said (Err faults.NoMemory) h is = tt
 
 -- or a word is wrong
 pub not_said : (words : List (String Global)) (fault : Fault) → IsSaidBy words (Err fault) → IsJudged words (Err fault)

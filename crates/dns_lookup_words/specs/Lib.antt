@@ -1,3 +1,4 @@
+pub mod Asks
 pub mod Options
 pub mod Types
 pub mod Words

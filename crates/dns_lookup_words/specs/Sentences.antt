@@ -2,6 +2,8 @@
 use Rattle.std.specs.Prelude.{ℕ, List, [], ◌++◌, codes, slice_get, Option, None, Some, String}
 use Rattle.std.specs.String.{string_bytes}
 use Rattle.std.specs.declared.alloc.Global.{Global}
+use Rattle.dns_lookup_words.specs.declared.lacking.Lack.{Lack}
+use Rattle.dns_lookup_words.specs.declared.lacking.Lack.TheVariants as lacks
 use Rattle.dns_lookup_words.specs.declared.wrong.Refusal.{Refusal}
 use Rattle.dns_lookup_words.specs.declared.wrong.Refusal.TheVariants.{Word, NoValue, NoName}
 use Rattle.dns_lookup_words.specs.declared.wrong.Value.{Value}
@@ -9,9 +11,26 @@ use Rattle.dns_lookup_words.specs.declared.wrong.Value.TheVariants as values
 use Rattle.dns_lookup_words.specs.declared.wrong.Wrong.{Wrong}
 use Rattle.dns_lookup_words.specs.declared.wrong.Wrong.TheVariants as wrongs
 
+-- what is told of an option that is not to be had
+abbrev pub lack_text : Lack → List ℕ
+lack_text lacks.Encryption = codes "asks for TLS, HTTPS or QUIC, and requests go by UDP and TCP alone"
+lack_text lacks.Cookie = codes "asks for a cookie, and no request has one"
+lack_text lacks.Subnet = codes "asks for the network of a client, and no request has one"
+lack_text lacks.Extension = codes "asks for another OPT record than EDNS version 0 with the size that is always said"
+lack_text lacks.Header = codes "asks for a header of which more is set than recursion, +adflag and +cdflag say"
+lack_text lacks.Tries = codes "asks for a number of tries, which attempts in the configuration alone says"
+lack_text lacks.Transport = codes "asks for another way with truncated or broken answers or with streams than the usual"
+lack_text lacks.Suffixes = codes "asks for suffixes, and a name is asked for as it stands"
+lack_text lacks.Walk = codes "asks for a walk from server to server, and one answer is asked for"
+lack_text lacks.Text = codes "asks for a text of records that is not written"
+lack_text lacks.Letters = codes "asks for names in letters past ASCII, which are asked for and written as xn-- has them"
+lack_text lacks.Source = codes "asks for an address of this host to ask from, which the system chooses"
+lack_text lacks.Signature = codes "asks for a signed request (TSIG), and none is signed"
+lack_text lacks.Program = codes "asks for a way of dig's own, which is not there"
+
 -- what is wrong with a word
 abbrev pub wrong_text : Wrong → List ℕ
-wrong_text wrongs.Server = codes "names no server, which only an address does"
+wrong_text wrongs.Server = codes "names no server: it is no address, and no name whose address is found"
 wrong_text wrongs.Scope = codes "has a scope behind its %, and no server of one interface alone is asked"
 wrong_text wrongs.ServerPort = codes "names no port from 1 to 65535 behind its #"
 wrong_text wrongs.OtherPort = codes "names another port than was said before, and all servers are asked at one"
@@ -19,16 +38,16 @@ wrong_text wrongs.Port = codes "is no port"
 wrong_text wrongs.Address = codes "is no address"
 wrong_text wrongs.Name = codes "is no name"
 wrong_text wrongs.Idn = codes "is no name, since it has letters past ASCII; its form that begins with xn-- is"
-wrong_text wrongs.Second = codes "would be a second name, and one is asked for at a time"
+wrong_text wrongs.Late = codes "names a server behind two names, and servers are asked for all names"
+wrong_text wrongs.Parted = codes "is another name behind a server that stands behind a name, and servers are asked for all names"
 wrong_text wrongs.Type = codes "is neither a known type nor TYPE with a number"
 wrong_text wrongs.Transfer = codes "is no type that one message answers"
 wrong_text wrongs.Class = codes "is no class"
-wrong_text wrongs.OtherClass = codes "is another class than IN, which alone is asked"
+wrong_text wrongs.OtherClass = codes "is another class than IN, CH and HS"
 wrong_text wrongs.Time = codes "gives no seconds from 1 to 600"
 wrong_text wrongs.Option = codes "is no option"
-wrong_text wrongs.Lacking = codes "asks for what dig does and dns_lookup does not"
+wrong_text (wrongs.Lacking lack) = lack_text lack
 wrong_text wrongs.Valued = codes "has a value, and its option takes none"
-wrong_text wrongs.More = codes "is neither a type nor a class, and a name stands before it"
 
 abbrev pub text_of : Option (String Global) → List ℕ
 text_of None = []

@@ -1,21 +1,28 @@
--- The words of a lookup, in dig's habits: `[@SERVER ..] [-p PORT] (-x ADDRESS | [-q] NAME) [[-c] CLASS] [[-t] TYPE] [+OPTION ..]`, in any order.
-use Rattle.std.specs.Prelude.{◌≡◌, ℕ, ◌+◌, ◌==◌, ◌||◌, not, Bool, true, false, if◌then◌else◌, List, [], ◌∷◌, ◌++◌, length, codes, nat_lt, Option, None, Some, option_and_then, String, Result, Ok, Err}
+-- The words of a lookup, in dig's habits: `[@SERVER ..] [-p PORT] [-4 | -6]`, and of each name `(-x ADDRESS | [-q] NAME) [[-c] CLASS] [[-t] TYPE] [+OPTION ..]`, in any order.
+use Rattle.std.specs.Prelude.{◌≡◌, ℕ, ◌+◌, ◌==◌, ◌||◌, ◌&&◌, not, Bool, true, false, if◌then◌else◌, is_some, List, [], ◌∷◌, ◌++◌, length, codes, nat_lt, Option, None, Some, option_and_then, String, Result, Ok, Err}
 use Rattle.std.specs.List.{after_first, before_first, list_any, position_or_len}
 use Rattle.std.specs.Result.{result_ok}
-use Rattle.std.specs.Str.{bytes_eq}
+use Rattle.std.specs.Str.{bytes_eq, str_eq_ignore_ascii_case}
 use Rattle.std.specs.String.{string_bytes}
 use Rattle.std.specs.declared.alloc.Global.{Global}
 use Rattle.dns_names.specs.Name.{Labels}
 use Rattle.dns_names.specs.Reverse.{reverse_labels}
 use Rattle.dns_names.specs.Text.{name_of_text}
 use Rattle.dns_values.specs.Address.{IsAddressText}
-use Rattle.dns_values.specs.NumberNames.{class_of_text}
+use Rattle.dns_values.specs.NumberNames.{begins_with, class_of_text}
 use Rattle.dns_values.specs.declared.address.IpAddr.{IpAddr}
+use Rattle.dns_values.specs.declared.address.IpAddr.TheVariants.{V4}
 use Rattle.dns_values.specs.declared.numbers.Rtype.{Rtype}
 use Rattle.resolv_conf.specs.Number.{number_of}
+use Rattle.dns_lookup_words.specs.Asks.{all_set, asks_of, flag_set, part_set, usual_asking}
 use Rattle.dns_lookup_words.specs.Options.{is_off, plus_options, sets_of, without_no}
 use Rattle.dns_lookup_words.specs.Types.{type_number}
+use Rattle.dns_lookup_words.specs.declared.lacking.Lack.{Lack}
+use Rattle.dns_lookup_words.specs.declared.lacking.Lack.TheVariants as lacks
 use Rattle.dns_lookup_words.specs.declared.lookup.Lookup.{Lookup}
+use Rattle.dns_lookup_words.specs.declared.manner.Family.TheVariants as families
+use Rattle.dns_lookup_words.specs.declared.manner.Flags.{Flags}
+use Rattle.dns_lookup_words.specs.declared.manner.Layout.{Layout}
 use Rattle.dns_lookup_words.specs.declared.options.Sets.{Sets}
 use Rattle.dns_lookup_words.specs.declared.options.Sets.TheVariants as sets
 use Rattle.dns_lookup_words.specs.declared.said.Next.{Next}
@@ -34,7 +41,19 @@ use Rattle.dns_lookup_words.specs.declared.wrong.Wrong.TheVariants as wrongs
 
 -- before the first word
 abbrev pub nothing_said : Said
-nothing_said = record { servers = []; port = None; name = None; rtype = None; typed = false; tcp = false; dnssec = false; short = false; seconds = None; next = next.Any }
+nothing_said = record {
+  servers = [];
+  late = false;
+  port = None;
+  family = None;
+  tcp = false;
+  seconds = None;
+  asks = [];
+  name = None;
+  asking = usual_asking;
+  common = usual_asking;
+  next = next.Any;
+}
 
 -- the text behind an octet that stands first
 abbrev pub behind : ℕ → List ℕ → Option (List ℕ)
@@ -71,7 +90,14 @@ time_said text said = time_given (number_in 600 text) said
 
 -- `@ADDRESS`, behind those that were said before
 abbrev pub with_server : IpAddr → Option ℕ → Said → Said
-with_server ip port said = record said { servers = said.servers ++ ip ∷ []; port = port }
+with_server ip port said = record said { servers = said.servers ++ ip ∷ []; late = is_some said.name; port = port }
+
+-- `@localhost` is this host, in any case (RFC 6761 6.3)
+abbrev pub is_localhost : List ℕ → Bool
+is_localhost text = str_eq_ignore_ascii_case text (codes "localhost")
+
+abbrev pub this_host : IpAddr
+this_host = V4 (127 ∷ 0 ∷ 0 ∷ 1 ∷ [])
 
 -- what is wrong with what stands where an address must: it is none, or has a scope behind a percent sign
 abbrev pub wrong_server : List ℕ → Wrong
@@ -81,6 +107,10 @@ abbrev pub ServerAt : List ℕ → Option ℕ → Said → Result Said Wrong →
 ServerAt text port said (Ok new) = (ip : IpAddr) × IsAddressText text ip × (new ≡ with_server ip port said)
 ServerAt text port said (Err wrong) = ((ip : IpAddr) → ¬ (IsAddressText text ip)) × (wrong ≡ wrong_server text)
 
+abbrev pub ServerOf : Bool → List ℕ → Option ℕ → Said → Result Said Wrong → Type 0
+ServerOf true text port said answer = answer ≡ Ok (with_server this_host port said)
+ServerOf false text port said answer = ServerAt text port said answer
+
 -- Behind an address `#PORT` is the port of all servers, so it is no other than one that was said before.
 abbrev pub is_other : Option ℕ → ℕ → Bool
 is_other None port = false
@@ -88,14 +118,14 @@ is_other (Some said) port = not (said == port)
 
 abbrev pub ServerAtSame : Bool → ℕ → List ℕ → Said → Result Said Wrong → Type 0
 ServerAtSame true port text said answer = answer ≡ Err wrongs.OtherPort
-ServerAtSame false port text said answer = ServerAt text (Some port) said answer
+ServerAtSame false port text said answer = ServerOf (is_localhost text) text (Some port) said answer
 
 abbrev pub ServerAtNumber : Option ℕ → List ℕ → Said → Result Said Wrong → Type 0
 ServerAtNumber None text said answer = answer ≡ Err wrongs.ServerPort
 ServerAtNumber (Some port) text said answer = ServerAtSame (is_other said.port port) port text said answer
 
 abbrev pub ServerAtText : Option (List ℕ) → List ℕ → Said → Result Said Wrong → Type 0
-ServerAtText None text said answer = ServerAt text said.port said answer
+ServerAtText None text said answer = ServerOf (is_localhost text) text said.port said answer
 ServerAtText (Some port) text said answer = ServerAtNumber (number_in 65535 port) text said answer
 
 -- the text between brackets, which may stand around an address
@@ -112,21 +142,41 @@ or_text (Some inner) text = inner
 abbrev pub bare : List ℕ → List ℕ
 bare text = or_text (option_and_then within (behind 91 text)) text
 
+-- behind two names a server is wrong, since it would be of all of them
+abbrev pub ServerIn : Bool → List ℕ → Said → Result Said Wrong → Type 0
+ServerIn false text said answer = answer ≡ Err wrongs.Late
+ServerIn true text said answer = ServerAtText (behind_first 35 text) (bare (before_first (λ c. c == 35) text)) said answer
+
 abbrev pub ServerGives : List ℕ → Said → Result Said Wrong → Type 0
-ServerGives text said answer = ServerAtText (behind_first 35 text) (bare (before_first (λ c. c == 35) text)) said answer
+ServerGives text said answer = ServerIn (length said.asks == 0) text said answer
+
+-- A name begins, with what was said before the first: the one before it is asked for as was said behind it. The first one begins with what was said.
+abbrev pub begun_at : Option Labels → Labels → Said → Said
+begun_at None name said = record said { name = Some name; common = said.asking }
+begun_at (Some before) name said = record said { asks = said.asks ++ asks_of before said.asking; name = Some name; asking = said.common }
+
+abbrev pub begun : Labels → Said → Said
+begun name said = begun_at said.name name said
 
 -- `-x ADDRESS`: the name that maps the address to names, and the type PTR where none was said before
 abbrev pub or_ptr : Option Rtype → Option Rtype
 or_ptr None = Some (record { 0 = 12 })
 or_ptr (Some rtype) = Some rtype
 
-abbrev pub with_address : IpAddr → Said → Said
-with_address ip said = record said { name = Some (reverse_labels ip); rtype = or_ptr said.rtype }
+abbrev pub with_ptr : Said → Said
+with_ptr said = record said { asking = record said.asking { rtype = or_ptr said.asking.rtype } }
 
-abbrev pub AddressGives : Option Labels → List ℕ → Said → Result Said Wrong → Type 0
-AddressGives (Some name) word said answer = answer ≡ Err wrongs.Second
-AddressGives None word said (Ok new) = (ip : IpAddr) × IsAddressText word ip × (new ≡ with_address ip said)
-AddressGives None word said (Err wrong) = ((ip : IpAddr) → ¬ (IsAddressText word ip)) × (wrong ≡ wrongs.Address)
+abbrev pub with_address : IpAddr → Said → Said
+with_address ip said = with_ptr (begun (reverse_labels ip) said)
+
+-- no name begins behind a server that stands behind a name
+abbrev pub AddressAt : Bool → List ℕ → Said → Result Said Wrong → Type 0
+AddressAt true word said answer = answer ≡ Err wrongs.Parted
+AddressAt false word said (Ok new) = (ip : IpAddr) × IsAddressText word ip × (new ≡ with_address ip said)
+AddressAt false word said (Err wrong) = ((ip : IpAddr) → ¬ (IsAddressText word ip)) × (wrong ≡ wrongs.Address)
+
+abbrev pub AddressGives : List ℕ → Said → Result Said Wrong → Type 0
+AddressGives word said answer = AddressAt said.late word said answer
 
 -- NAME: of one that is none it is told whether it has letters past ASCII (RFC 5890 2.3.2.1)
 abbrev pub wrong_name : List ℕ → Wrong
@@ -134,70 +184,83 @@ wrong_name word = if list_any (λ c. nat_lt 127 c) word then wrongs.Idn else wro
 
 abbrev pub name_given : Option Labels → List ℕ → Said → Result Said Wrong
 name_given None word said = Err (wrong_name word)
-name_given (Some name) word said = Ok (record said { name = Some name })
+name_given (Some name) word said = Ok (begun name said)
 
--- where there is a name, this is wrong with another
-abbrev pub name_at : Option Labels → Wrong → List ℕ → Said → Result Said Wrong
-name_at (Some name) wrong word said = Err wrong
-name_at None wrong word said = name_given (result_ok (name_of_text word)) word said
+abbrev pub name_said : List ℕ → Said → Result Said Wrong
+name_said word said = if said.late then Err wrongs.Parted else name_given (result_ok (name_of_text word)) word said
 
 -- TYPE, of which AXFR is none: no one message answers it
 abbrev pub type_set : ℕ → Said → Result Said Wrong
-type_set n said = if n == 252 then Err wrongs.Transfer else Ok (record said { rtype = Some (record { 0 = n }) })
+type_set n said = if n == 252 then Err wrongs.Transfer else Ok (record said { asking = record said.asking { rtype = Some (record { 0 = n }) } })
 
 -- `-t TYPE`, behind which a word alone is no type
 abbrev pub type_given : Option ℕ → Said → Result Said Wrong
 type_given None said = Err wrongs.Type
-type_given (Some n) said = type_set n (record said { typed = true })
+type_given (Some n) said = type_set n (record said { asking = record said.asking { typed = true } })
 
 abbrev pub type_said : List ℕ → Said → Result Said Wrong
 type_said word said = type_given (type_number word) said
 
--- CLASS, of which IN alone is asked
+-- CLASS, which is IN, CH or HS
+abbrev pub with_class : ℕ → Said → Said
+with_class n said = record said { asking = record said.asking { manner = record said.asking.manner { class = record { 0 = n } } } }
+
 abbrev pub class_set : ℕ → Said → Result Said Wrong
-class_set n said = if n == 1 then Ok said else Err wrongs.OtherClass
+class_set n said = if n == 1 || (n == 3 || n == 4) then Ok (with_class n said) else Err wrongs.OtherClass
 
 abbrev pub class_given : Option ℕ → Said → Result Said Wrong
 class_given None said = Err wrongs.Class
 class_given (Some n) said = class_set n said
 
--- A word that is no option is a type or a class where it names one, and else the name.
+-- A word that is no option is a type or a class where it names one, and else a name; but `IXFR=` begins a transfer.
+abbrev pub name_alone : List ℕ → Said → Result Said Wrong
+name_alone word said = if begins_with (codes "ixfr=") word then Err wrongs.Transfer else name_said word said
+
 abbrev pub plain_at : Option ℕ → Option ℕ → List ℕ → Said → Result Said Wrong
 plain_at (Some n) class word said = type_set n said
 plain_at None (Some n) word said = class_set n said
-plain_at None None word said = name_at said.name wrongs.More word said
+plain_at None None word said = name_alone word said
 
 abbrev pub open_type : Bool → List ℕ → Option ℕ
 open_type true word = None
 open_type false word = type_number word
 
 abbrev pub plain_said : List ℕ → Said → Result Said Wrong
-plain_said word said = plain_at (open_type said.typed word) (class_of_text word) word said
+plain_said word said = plain_at (open_type said.asking.typed word) (class_of_text word) word said
 
 -- The value of an option of one letter.
 abbrev pub ValueGives : Value → List ℕ → Said → Result Said Wrong → Type 0
 ValueGives values.Port text said answer = answer ≡ port_said text said
-ValueGives values.Address text said answer = AddressGives said.name text said answer
+ValueGives values.Address text said answer = AddressGives text said answer
 ValueGives values.Type text said answer = answer ≡ type_said text said
 ValueGives values.Class text said answer = answer ≡ class_given (class_of_text text) said
-ValueGives values.Name text said answer = answer ≡ name_at said.name wrongs.Second text said
+ValueGives values.Name text said answer = answer ≡ name_said text said
 
 -- It is glued to the letter, or else the next word.
 abbrev pub GluedGives : Bool → Value → List ℕ → Said → Result Said Wrong → Type 0
 GluedGives true value text said answer = answer ≡ Ok (record said { next = next.Value value })
 GluedGives false value text said answer = ValueGives value text said answer
 
--- letters of dig's options that are not among those of a lookup: 4 6 b f i k m r u y
-abbrev pub is_absent : List ℕ → Bool
-is_absent [] = false
-is_absent (c ∷ text) = list_any (λ letter. letter == c) (codes "46bfikmruy")
+-- letters of dig's options that are not among those of a lookup, and what they ask for
+abbrev pub lack_of : List ℕ → Option Lack
+lack_of [] = None
+lack_of (c ∷ text) =
+    if c == 98 then Some lacks.Source
+    else if c == 107 || c == 121 then Some lacks.Signature
+    else if list_any (λ letter. letter == c) (codes "fimru") then Some lacks.Program
+    else None
 
--- `--` says that no word behind it is an option
+abbrev pub lacking : Option Lack → Wrong
+lacking None = wrongs.Option
+lacking (Some lack) = wrongs.Lacking lack
+
+-- `--` says that no word behind it is an option; `-4` and `-6` by which addresses servers are asked, and the last counts
 abbrev pub dash_said : List ℕ → Said → Result Said Wrong
 dash_said text said =
     if bytes_eq text (codes "-") then Ok (record said { next = next.Plain })
-    else if is_absent text then Err wrongs.Lacking
-    else Err wrongs.Option
+    else if bytes_eq text (codes "4") then Ok (record said { family = Some families.V4 })
+    else if bytes_eq text (codes "6") then Ok (record said { family = Some families.V6 })
+    else Err (lacking (lack_of text))
 
 -- the options that have a value, each by its letter, and the text behind that
 abbrev pub tagged : Value → Option (List ℕ) → Option (Value × List ℕ) → Option (Value × List ℕ)
@@ -220,34 +283,47 @@ abbrev pub DashGives : List ℕ → Said → Result Said Wrong → Type 0
 DashGives text said answer = ValuedGives (valued text) text said answer
 
 -- what is always done can be asked for, and what never is can be left
-abbrev pub only_on : Bool → Said → Result Said Wrong
-only_on on said = if on then Ok said else Err wrongs.Lacking
+abbrev pub only_on : Lack → Bool → Said → Result Said Wrong
+only_on lack on said = if on then Ok said else Err (wrongs.Lacking lack)
 
-abbrev pub only_off : Bool → Said → Result Said Wrong
-only_off on said = if on then Err wrongs.Lacking else Ok said
+abbrev pub only_off : Lack → Bool → Said → Result Said Wrong
+only_off lack on said = if on then Err (wrongs.Lacking lack) else Ok said
+
+abbrev pub with_flags : Flags → Said → Said
+with_flags flags said = record said { asking = record said.asking { manner = record said.asking.manner { flags = flags } } }
+
+abbrev pub with_layout : Layout → Said → Said
+with_layout layout said = record said { asking = record said.asking { manner = record said.asking.manner { layout = layout } } }
 
 -- an option without a value
 abbrev pub set_bare : Sets → Bool → Said → Result Said Wrong
 set_bare sets.Tcp on said = Ok (record said { tcp = on })
-set_bare sets.Dnssec on said = Ok (record said { dnssec = on })
-set_bare sets.Short on said = Ok (record said { short = on })
 set_bare sets.Time on said = Err wrongs.Time
-set_bare sets.Already on said = only_on on said
-set_bare sets.Never on said = only_off on said
-set_bare sets.Absent on said = Err wrongs.Lacking
+set_bare (sets.Flag flag) on said = Ok (with_flags (flag_set flag on said.asking.manner.flags) said)
+set_bare (sets.Part part) on said = Ok (with_layout (part_set part on said.asking.manner.layout) said)
+set_bare sets.All on said = Ok (with_layout (all_set on said.asking.manner.layout) said)
+set_bare sets.Edns on said = only_on lacks.Extension on said
+set_bare (sets.Already lack) on said = only_on lack on said
+set_bare (sets.Never lack) on said = only_off lack on said
+set_bare (sets.Absent lack) on said = Err (wrongs.Lacking lack)
 
--- and with one, which time alone has
+-- and with one, which time has, and the version of EDNS
 abbrev pub time_valued : Bool → List ℕ → Said → Result Said Wrong
 time_valued on text said = if on then time_said text said else Err wrongs.Time
 
+abbrev pub version_said : List ℕ → Bool → Said → Result Said Wrong
+version_said text on said = only_on lacks.Extension (on && bytes_eq text (codes "0")) said
+
 abbrev pub set_valued : Sets → Bool → List ℕ → Said → Result Said Wrong
 set_valued sets.Tcp on text said = Err wrongs.Valued
-set_valued sets.Dnssec on text said = Err wrongs.Valued
-set_valued sets.Short on text said = Err wrongs.Valued
 set_valued sets.Time on text said = time_valued on text said
-set_valued sets.Already on text said = Err wrongs.Valued
-set_valued sets.Never on text said = Err wrongs.Lacking
-set_valued sets.Absent on text said = Err wrongs.Lacking
+set_valued (sets.Flag flag) on text said = Err wrongs.Valued
+set_valued (sets.Part part) on text said = Err wrongs.Valued
+set_valued sets.All on text said = Err wrongs.Valued
+set_valued sets.Edns on text said = version_said text on said
+set_valued (sets.Already lack) on text said = Err wrongs.Valued
+set_valued (sets.Never lack) on text said = Err (wrongs.Lacking lack)
+set_valued (sets.Absent lack) on text said = Err (wrongs.Lacking lack)
 
 abbrev pub set_by : Sets → Bool → Option (List ℕ) → Said → Result Said Wrong
 set_by s on None said = set_bare s on said
@@ -310,12 +386,10 @@ named None said = Err refusals.NoName
 named (Some name) said = Ok (record {
   servers = said.servers;
   port = said.port;
-  name = name;
-  rtype = said.rtype;
+  family = said.family;
   tcp = said.tcp;
-  dnssec = said.dnssec;
-  short = said.short;
   seconds = said.seconds;
+  asks = said.asks ++ asks_of name said.asking;
 })
 
 abbrev pub asked_at : Next → Said → Result Lookup Refusal
@@ -330,6 +404,12 @@ asked said = asked_at said.next said
 pub data LookupGives (words : List (String Global)) (answer : Result Lookup Refusal) : Type 0 where
   said_whole : (said : Said) → WordsGive 0 words nothing_said (Ok said) → answer ≡ asked said → LookupGives words answer
   wrong_word : (refusal : Refusal) → WordsGive 0 words nothing_said (Err refusal) → answer ≡ Err refusal → LookupGives words answer
+
+-- A call gives this, unless memory ran out.
+abbrev pub Gives : Result Lookup Refusal → Result Lookup Fault → Type 0
+Gives told (Ok lookup) = told ≡ Ok lookup
+Gives told (Err (faults.Refused refusal)) = told ≡ Err refusal
+Gives told (Err faults.NoMemory) = Unit {0}
 
 -- What the words say, or why they say nothing.
 abbrev pub IsSaidBy : List (String Global) → Result Said Fault → Type 0

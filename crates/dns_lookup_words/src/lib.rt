@@ -9,18 +9,23 @@
 //! ```
 #![tactic(auto)]
 
+mod lacking;
 mod laws;
 mod lookup;
+mod manner;
 mod number;
 mod options;
 mod parts;
 mod said;
+mod setting;
 mod taking;
 mod telling;
 mod types;
 mod wrong;
 
+pub use lacking::Lack;
 pub use laws::lookup_laws;
 pub use lookup::{Lookup, lookup_of};
+pub use manner::{Ask, Family, Flags, Layout, Manner};
 pub use telling::sentence;
 pub use wrong::{Fault, Refusal, Value, Wrong};

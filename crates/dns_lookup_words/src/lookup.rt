@@ -1,74 +1,74 @@
 //! What words ask.
 
-ghost use Rattle.std.specs.Prelude.{MatchResult, ◌≡◌, Ok, Err};
-ghost use Rattle.dns_lookup_words.specs.Words.{IsJudged, IsSaidBy, asked, named};
+ghost use Rattle.std.specs.Prelude.{◌≡◌, ◌<◌, length, IfOk};
+ghost use Rattle.dns_lookup_words.specs.Words.{Gives, IsJudged, IsSaidBy, asked, named};
 
-use crate::said::{Next, Said};
+use crate::manner::{Ask, Family};
+use crate::said::{Next, Said, push_asks};
 use crate::wrong::{Fault, Refusal};
-use dns_names::Name;
-use dns_values::{IpAddr, Rtype, Seq};
+use dns_values::{IpAddr, Seq};
 use std::alloc::Global;
 
-/// What is asked, of which servers, and how the answer is written.
+/// What is asked, and of which servers.
 #[derive(Drop)]
 pub struct Lookup {
     /// The servers that are asked, in order; where there are none, those of the system's configuration.
     pub servers: Seq<IpAddr>,
     /// The port at which every server is asked, in place of its own.
     pub port: Option<u16>,
-    /// The name that is asked for.
-    pub name: Name,
-    /// The type that is asked for; where there is none, A and then AAAA are.
-    pub rtype: Option<Rtype>,
+    /// The addresses at which servers are asked, if not at those of both families.
+    pub family: Option<Family>,
     /// Whether servers are asked by streams alone.
     pub tcp: bool,
-    /// Whether records of DNSSEC are asked for (RFC 3225).
-    pub dnssec: bool,
-    /// Whether the data of the answer section is written alone.
-    pub short: bool,
     /// How long a request may take, in seconds, in place of what the configuration says.
     pub seconds: Option<u64>,
+    /// The requests, in order, one at least: of a name without a type one for A, and then one for AAAA.
+    pub asks: Seq<Ask>,
 }
 
 /// The lookup of what is said, where there is a name.
-fn named(said: Said) -> Result<Lookup, Refusal>
-    ensures { result ≡ named said.name said }
+fn named(alloc: Global, said: Said) -> Result<Lookup, Fault>
+    ensures given { Gives (named said.name said) result }
+    ensures some { IfOk result (λ lookup. 0 < length lookup.asks) }
 {
     let Said {
         servers,
+        late: _,
         port,
-        name,
-        rtype,
-        typed: _,
+        family,
         tcp,
-        dnssec,
-        short,
         seconds,
+        mut asks,
+        name,
+        asking,
+        common: _,
         next: _,
     } = said;
-    match name {
-        None => Err(Refusal::NoName),
-        Some(name) => Ok(Lookup {
+    let Some(name) = name else {
+        return Err(Fault::Refused(Refusal::NoName));
+    };
+    match push_asks(alloc, &mut asks, name, asking) {
+        Ok(()) => Ok(Lookup {
             servers,
             port,
-            name,
-            rtype,
+            family,
             tcp,
-            dnssec,
-            short,
             seconds,
+            asks,
         }),
+        Err(_) => Err(Fault::NoMemory),
     }
 }
 
 /// The lookup that is said: a name, and no value is due.
-fn asked(said: Said) -> Result<Lookup, Refusal>
-    ensures { result ≡ asked said }
+fn asked(alloc: Global, said: Said) -> Result<Lookup, Fault>
+    ensures given { Gives (asked said) result }
+    ensures some { IfOk result (λ lookup. 0 < length lookup.asks) }
 {
     match said.next {
-        Next::Value(value) => Err(Refusal::NoValue(value)),
-        Next::Any => named(said),
-        Next::Plain => named(said),
+        Next::Value(value) => Err(Fault::Refused(Refusal::NoValue(value))),
+        Next::Any => named(alloc, said),
+        Next::Plain => named(alloc, said),
     }
 }
 
@@ -85,19 +85,20 @@ fn said_by(alloc: Global, words: &[String]) -> Result<Said, Fault>
 
 /// The lookup of the words, which do not hold the program's own name.
 ///
-/// A word that begins with `@` names a server by its address, in brackets or not, with `#PORT` behind it or not. One that begins
-/// with a plus is an option of `dig` or the first letters of one, `no` turns it off; one that begins with a hyphen is an option of one
-/// letter, whose value is glued to it or the next word. Behind `--` no word is an option. Any other word is the type, or the class
-/// IN, where it names one, and else the name. The words stand in any order, and of several ports, types or times the last counts.
-/// `Refused` names the first word that is wrong, or says which value or that the name is missing.
+/// A word that begins with `@` names a server by its address, in brackets or not, or this host by `localhost`, with `#PORT` behind it
+/// or not. One that begins with a plus is an option of `dig` or the first letters of one, `no` turns it off; one that begins with a
+/// hyphen is an option of one letter, whose value is glued to it or the next word. Behind `--` no word is an option. Any other word
+/// is the type or the class, where it names one, and else a name. Of several ports, types, classes or times the last counts.
+///
+/// What is said before the first name is said of all names, and what is said behind one of that name alone; but servers, the port,
+/// `-4` and `-6`, `+tcp` and `+time` are of all names wherever they stand, and servers behind a name are refused where another name
+/// stands behind that. `Refused` names the first word that is wrong, or says which value or that a name is missing.
 pub fn lookup_of(alloc: Global, words: &[String]) -> Result<Lookup, Fault>
-    ensures { IsJudged words.now result }
+    ensures judged { IsJudged words.now result }
+    ensures some { IfOk result (λ lookup. 0 < length lookup.asks) }
 {
     match said_by(alloc, words) {
-        Ok(said) => match asked(said) {
-            Ok(lookup) => Ok(lookup),
-            Err(refusal) => Err(Fault::Refused(refusal)),
-        },
+        Ok(said) => asked(alloc, said),
         Err(fault) => Err(fault),
     }
 }

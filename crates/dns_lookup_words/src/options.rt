@@ -3,23 +3,60 @@
 ghost use Rattle.std.specs.Prelude.{◌≡◌, ◌≤◌, length, IsTrue};
 ghost use Rattle.dns_lookup_words.specs.Options.{is_off, is_short_for, plus_options, sets_of, told, without_no};
 
+use crate::lacking::Lack;
+
+/// A part of what a request says.
+#[derive(Clone, Copy)]
+pub(crate) enum Flag {
+    /// Whether the server is to ask others.
+    Recursion,
+    /// Whether it is to say that an answer is authentic.
+    Authentic,
+    /// Whether it may give what it could not validate.
+    Unchecked,
+    /// Whether records of DNSSEC are asked for.
+    Dnssec,
+    /// Whether the server is asked for its name.
+    Nsid,
+}
+
+/// A part of what is written of an answer.
+#[derive(Clone, Copy)]
+pub(crate) enum Part {
+    Short,
+    Identify,
+    Json,
+    Multiline,
+    Query,
+    Question,
+    Answer,
+    Authority,
+    Additional,
+    Comments,
+    Stats,
+}
+
 /// What an option sets.
 #[derive(Clone, Copy)]
 pub(crate) enum Sets {
     /// Whether servers are asked by streams alone.
     Tcp,
-    /// Whether records of DNSSEC are asked for.
-    Dnssec,
-    /// Whether the data of the answer section is written alone.
-    Short,
     /// How long a request may take.
     Time,
+    /// What a request says.
+    Flag(Flag),
+    /// What is written of an answer.
+    Part(Part),
+    /// Whether sections, comments and statistics are written.
+    All,
+    /// EDNS version 0 (RFC 6891), which requests have.
+    Edns,
     /// What is done already, and can't be left.
-    Already,
+    Already(Lack),
     /// What is never done.
-    Never,
+    Never(Lack),
     /// What can be neither asked for nor left.
-    Absent,
+    Absent(Lack),
 }
 
 /// A name, how many of its first letters are enough, and what the option sets.
@@ -27,78 +64,78 @@ type Entry = (&'static str, usize, Sets);
 
 /// The options of dig, of which the first that a word is short for counts.
 const PLUS_OPTIONS: [Entry; 72] = [
-    ("aaflag", 2, Sets::Never),
-    ("aaonly", 2, Sets::Never),
-    ("adflag", 2, Sets::Never),
-    ("additional", 3, Sets::Already),
-    ("all", 2, Sets::Already),
-    ("answer", 2, Sets::Already),
-    ("authority", 2, Sets::Already),
-    ("badcookie", 2, Sets::Absent),
-    ("besteffort", 2, Sets::Absent),
-    ("bufsize", 2, Sets::Absent),
-    ("cdflag", 2, Sets::Never),
-    ("class", 2, Sets::Already),
-    ("cmd", 2, Sets::Never),
-    ("comments", 3, Sets::Already),
-    ("cookie", 3, Sets::Never),
-    ("crypto", 2, Sets::Already),
-    ("defname", 3, Sets::Never),
-    ("dnssec", 4, Sets::Dnssec),
-    ("do", 2, Sets::Dnssec),
-    ("domain", 3, Sets::Absent),
-    ("edns", 2, Sets::Absent),
-    ("ednsflags", 5, Sets::Absent),
-    ("ednsnegotiation", 5, Sets::Absent),
-    ("ednsopt", 5, Sets::Absent),
-    ("expandaaaa", 4, Sets::Never),
-    ("expire", 4, Sets::Never),
-    ("fail", 1, Sets::Never),
-    ("header-only", 2, Sets::Never),
-    ("https", 2, Sets::Never),
-    ("identify", 3, Sets::Never),
-    ("idnin", 4, Sets::Never),
-    ("idnout", 4, Sets::Never),
-    ("ignore", 2, Sets::Never),
-    ("json", 1, Sets::Never),
-    ("keepalive", 5, Sets::Absent),
-    ("keepopen", 5, Sets::Absent),
-    ("mapped", 2, Sets::Absent),
-    ("multiline", 2, Sets::Never),
-    ("ndots", 2, Sets::Absent),
-    ("nsid", 3, Sets::Never),
-    ("nssearch", 3, Sets::Never),
-    ("onesoa", 2, Sets::Absent),
-    ("opcode", 2, Sets::Absent),
-    ("padding", 1, Sets::Absent),
-    ("qid", 2, Sets::Absent),
-    ("qr", 2, Sets::Never),
-    ("question", 2, Sets::Already),
-    ("quic", 4, Sets::Never),
-    ("raflag", 2, Sets::Never),
-    ("rdflag", 2, Sets::Already),
-    ("recurse", 3, Sets::Already),
-    ("retry", 3, Sets::Absent),
-    ("rrcomments", 2, Sets::Never),
-    ("search", 2, Sets::Never),
-    ("short", 4, Sets::Short),
-    ("showsearch", 5, Sets::Never),
-    ("split", 2, Sets::Absent),
-    ("stats", 2, Sets::Already),
-    ("subnet", 2, Sets::Never),
-    ("tcflag", 3, Sets::Never),
+    ("aaflag", 2, Sets::Never(Lack::Header)),
+    ("aaonly", 2, Sets::Never(Lack::Header)),
+    ("adflag", 2, Sets::Flag(Flag::Authentic)),
+    ("additional", 3, Sets::Part(Part::Additional)),
+    ("all", 2, Sets::All),
+    ("answer", 2, Sets::Part(Part::Answer)),
+    ("authority", 2, Sets::Part(Part::Authority)),
+    ("badcookie", 2, Sets::Absent(Lack::Cookie)),
+    ("besteffort", 2, Sets::Absent(Lack::Transport)),
+    ("bufsize", 2, Sets::Absent(Lack::Extension)),
+    ("cdflag", 2, Sets::Flag(Flag::Unchecked)),
+    ("class", 2, Sets::Already(Lack::Text)),
+    ("cmd", 2, Sets::Never(Lack::Text)),
+    ("comments", 3, Sets::Part(Part::Comments)),
+    ("cookie", 3, Sets::Never(Lack::Cookie)),
+    ("crypto", 2, Sets::Already(Lack::Text)),
+    ("defname", 3, Sets::Never(Lack::Suffixes)),
+    ("dnssec", 4, Sets::Flag(Flag::Dnssec)),
+    ("do", 2, Sets::Flag(Flag::Dnssec)),
+    ("domain", 3, Sets::Absent(Lack::Suffixes)),
+    ("edns", 2, Sets::Edns),
+    ("ednsflags", 5, Sets::Absent(Lack::Extension)),
+    ("ednsnegotiation", 5, Sets::Absent(Lack::Extension)),
+    ("ednsopt", 5, Sets::Absent(Lack::Extension)),
+    ("expandaaaa", 4, Sets::Never(Lack::Text)),
+    ("expire", 4, Sets::Never(Lack::Extension)),
+    ("fail", 1, Sets::Never(Lack::Transport)),
+    ("header-only", 2, Sets::Never(Lack::Header)),
+    ("https", 2, Sets::Never(Lack::Encryption)),
+    ("identify", 3, Sets::Part(Part::Identify)),
+    ("idnin", 4, Sets::Never(Lack::Letters)),
+    ("idnout", 4, Sets::Never(Lack::Letters)),
+    ("ignore", 2, Sets::Never(Lack::Transport)),
+    ("json", 1, Sets::Part(Part::Json)),
+    ("keepalive", 5, Sets::Absent(Lack::Extension)),
+    ("keepopen", 5, Sets::Absent(Lack::Transport)),
+    ("mapped", 2, Sets::Absent(Lack::Transport)),
+    ("multiline", 2, Sets::Part(Part::Multiline)),
+    ("ndots", 2, Sets::Absent(Lack::Suffixes)),
+    ("nsid", 3, Sets::Flag(Flag::Nsid)),
+    ("nssearch", 3, Sets::Never(Lack::Walk)),
+    ("onesoa", 2, Sets::Absent(Lack::Text)),
+    ("opcode", 2, Sets::Absent(Lack::Header)),
+    ("padding", 1, Sets::Absent(Lack::Extension)),
+    ("qid", 2, Sets::Absent(Lack::Header)),
+    ("qr", 2, Sets::Part(Part::Query)),
+    ("question", 2, Sets::Part(Part::Question)),
+    ("quic", 4, Sets::Never(Lack::Encryption)),
+    ("raflag", 2, Sets::Never(Lack::Header)),
+    ("rdflag", 2, Sets::Flag(Flag::Recursion)),
+    ("recurse", 3, Sets::Flag(Flag::Recursion)),
+    ("retry", 3, Sets::Absent(Lack::Tries)),
+    ("rrcomments", 2, Sets::Never(Lack::Text)),
+    ("search", 2, Sets::Never(Lack::Suffixes)),
+    ("short", 4, Sets::Part(Part::Short)),
+    ("showsearch", 5, Sets::Never(Lack::Suffixes)),
+    ("split", 2, Sets::Absent(Lack::Text)),
+    ("stats", 2, Sets::Part(Part::Stats)),
+    ("subnet", 2, Sets::Never(Lack::Subnet)),
+    ("tcflag", 3, Sets::Never(Lack::Header)),
     ("tcp", 2, Sets::Tcp),
     ("time", 2, Sets::Time),
     ("timeout", 5, Sets::Time),
-    ("tls", 2, Sets::Never),
-    ("trace", 3, Sets::Never),
-    ("tries", 3, Sets::Absent),
-    ("ttlid", 4, Sets::Already),
-    ("ttlunits", 4, Sets::Never),
-    ("unknownformat", 3, Sets::Never),
+    ("tls", 2, Sets::Never(Lack::Encryption)),
+    ("trace", 3, Sets::Never(Lack::Walk)),
+    ("tries", 3, Sets::Absent(Lack::Tries)),
+    ("ttlid", 4, Sets::Already(Lack::Text)),
+    ("ttlunits", 4, Sets::Never(Lack::Text)),
+    ("unknownformat", 3, Sets::Never(Lack::Text)),
     ("vc", 1, Sets::Tcp),
-    ("yaml", 1, Sets::Never),
-    ("zflag", 1, Sets::Never),
+    ("yaml", 1, Sets::Never(Lack::Text)),
+    ("zflag", 1, Sets::Never(Lack::Header)),
 ];
 
 /// Whether a text is a name cut short, in any case, and has letters enough.

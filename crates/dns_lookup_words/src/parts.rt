@@ -1,8 +1,11 @@
 //! The parts of a word.
 
-ghost use Rattle.std.specs.Prelude.{◌≡◌, ◌==◌, ◌<◌, nat_lt, option_copied};
+ghost use Rattle.std.specs.Prelude.{◌≡◌, ◌==◌, ◌<◌, codes, nat_lt, option_copied};
 ghost use Rattle.std.specs.List.{before_first, list_any};
-ghost use Rattle.dns_lookup_words.specs.Words.{bare, behind, behind_first, is_absent, within};
+ghost use Rattle.dns_values.specs.NumberNames.{begins_with};
+ghost use Rattle.dns_lookup_words.specs.Words.{bare, behind, behind_first, is_localhost, lack_of, within};
+
+use crate::lacking::Lack;
 
 /// The text behind a sign of ASCII that stands first.
 #[tactic(auto, using(std::proofs::lemmas::Str::Pattern::strip_prefix_char))]
@@ -100,15 +103,28 @@ pub(crate) fn is_past_ascii(text: &[u8]) -> bool
     text.iter().any(|c| *c > 127)
 }
 
-/// Whether a letter is that of an option of dig which is not to be had.
-pub(crate) fn is_absent(text: &[u8]) -> bool
-    ensures { result ≡ is_absent text.now }
+/// Whether a text names this host, in any case (RFC 6761 6.3).
+pub(crate) fn is_localhost(text: &str) -> bool
+    ensures { result ≡ is_localhost text.now }
+{
+    text.eq_ignore_ascii_case("localhost")
+}
+
+/// Whether a word asks for the changes of a zone since a serial.
+pub(crate) fn is_transfer(text: &[u8]) -> bool
+    ensures { result ≡ begins_with (codes "ixfr=") text.now }
+{
+    text.len() >= 5 && text[..5].eq_ignore_ascii_case(b"ixfr=")
+}
+
+/// What a letter asks for that is an option of dig and not to be had.
+pub(crate) fn lack_of(text: &[u8]) -> Option<Lack>
+    ensures { result ≡ lack_of text.now }
 {
     match text {
-        [
-            b'4' | b'6' | b'b' | b'f' | b'i' | b'k' | b'm' | b'r' | b'u' | b'y',
-            ..
-        ] => true,
-        _ => false,
+        [b'b', ..] => Some(Lack::Source),
+        [b'k' | b'y', ..] => Some(Lack::Signature),
+        [b'f' | b'i' | b'm' | b'r' | b'u', ..] => Some(Lack::Program),
+        _ => None,
     }
 }

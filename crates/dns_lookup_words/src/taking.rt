@@ -1,29 +1,28 @@
 //! Words that are taken, one after another.
 
-ghost use Rattle.std.specs.Prelude.{◌≡◌, ◌==◌, length, option_map};
+ghost use Rattle.std.specs.Prelude.{◌≡◌, ◌==◌, length, option_map, OnOk};
 ghost use Rattle.std.specs.Result.{result_ok};
-ghost use Rattle.dns_lookup_words.specs.Words.{AddressGives, AllAnswer, Answers, DashGives, GluedGives, ServerAt, ServerGives, SignGives, ValueGives, WordGives, WordsGive, behind, class_given, class_set, dash_said, fault_at, is_other, name_at, name_given, open_type, plain_said, plus_said, port_said, set_bare, set_valued, time_said, type_said, type_set, wrong_name, wrong_server};
+ghost use Rattle.dns_lookup_words.specs.Words.{AddressGives, AllAnswer, Answers, DashGives, GluedGives, ServerAt, ServerGives, ServerIn, ServerOf, SignGives, ValueGives, WordGives, WordsGive, begun, behind, class_given, class_set, dash_said, fault_at, is_localhost, is_other, lack_of, lacking, name_alone, name_given, name_said, open_type, plain_said, plus_said, port_said, type_said, type_set, wrong_name, wrong_server};
 ghost use Rattle.dns_names.specs.Text.{name_of_text};
 ghost use Rattle.dns_values.specs.NumberNames.{class_of_text};
 ghost use Rattle.dns_lookup_words.specs.Types.{type_number};
 
+use crate::manner::Family;
 use crate::number::number_in;
-use crate::options::{Sets, is_off, sets_of, without_no};
+use crate::options::{is_off, sets_of, without_no};
 use crate::parts::{
-    address_text, behind, has_percent, is_absent, is_past_ascii, name_text, port_text, value_text,
+    address_text, behind, has_percent, is_localhost, is_past_ascii, is_transfer, lack_of,
+    name_text, port_text, value_text,
 };
-use crate::said::{Next, Said};
+use crate::said::{Next, Said, push_asks};
 use crate::types::{class_in, type_in};
 use crate::wrong::{Fault, Refusal, Value, WordFault, Wrong};
 use dns_names::{Name, NameFault};
-use dns_values::{Class, IpAddr, Rtype};
+use dns_values::{Class, IpAddr, NoMemory, Rtype};
 use std::alloc::Global;
 
 /// The greatest port.
 const MOST_PORT: usize = 65535;
-
-/// The longest time, in seconds.
-const MOST_SECONDS: usize = 600;
 
 /// Why words were not taken of which the one of this number was not.
 fn fault_at(at: usize, fault: WordFault) -> Fault
@@ -57,6 +56,16 @@ fn wrong_name(word: &str) -> Wrong
     }
 }
 
+/// What is wrong with what stands behind a hyphen.
+fn wrong_letter(text: &str) -> Wrong
+    ensures { result ≡ lacking (lack_of text.now) }
+{
+    match lack_of(text.as_bytes()) {
+        Some(lack) => Wrong::Lacking(lack),
+        None => Wrong::Option,
+    }
+}
+
 /// Whether a port is another than one that was said.
 fn is_other(said: Option<u16>, port: u16) -> bool
     ensures { result ≡ is_other said port }
@@ -80,18 +89,6 @@ impl Said {
         }
     }
 
-    fn take_time(&mut self, text: &str) -> Result<(), WordFault>
-        ensures { Answers (λ o. o ≡ time_said text.now self.old) result self.new }
-    {
-        match number_in(MOST_SECONDS, text) {
-            Some(seconds) => {
-                self.seconds = Some(seconds as u64);
-                Ok(())
-            }
-            None => Err(WordFault::Wrong(Wrong::Time)),
-        }
-    }
-
     fn take_server_at(&mut self, text: &str, port: Option<u16>) -> Result<(), WordFault>
         ensures { Answers (ServerAt text.now port self.old) result self.new }
     {
@@ -99,16 +96,34 @@ impl Said {
             return Err(WordFault::Wrong(wrong_server(text)));
         };
         self.servers.push(ip)?;
+        self.late = self.name.is_some();
         self.port = port;
         Ok(())
     }
 
-    fn take_server(&mut self, text: &str) -> Result<(), WordFault>
-        ensures { Answers (ServerGives text.now self.old) result self.new }
+    /// Takes a server by its address, or this host by its name.
+    fn take_server_of(&mut self, text: &str, port: Option<u16>) -> Result<(), WordFault>
+        ensures { Answers (ServerOf (is_localhost text.now) text.now port self.old) result self.new }
     {
+        if is_localhost(text) {
+            self.servers.push(IpAddr::V4([127, 0, 0, 1]))?;
+            self.late = self.name.is_some();
+            self.port = port;
+            return Ok(());
+        }
+        self.take_server_at(text, port)
+    }
+
+    /// Takes a server, if no two names stand before it.
+    fn take_server_in(&mut self, is_first: bool, text: &str) -> Result<(), WordFault>
+        ensures { Answers (ServerIn is_first text.now self.old) result self.new }
+    {
+        if !is_first {
+            return Err(WordFault::Wrong(Wrong::Late));
+        }
         let address = address_text(text);
         let Some(port) = port_text(text) else {
-            return self.take_server_at(address, self.port);
+            return self.take_server_of(address, self.port);
         };
         let Some(port) = number_in(MOST_PORT, port) else {
             return Err(WordFault::Wrong(Wrong::ServerPort));
@@ -117,21 +132,44 @@ impl Said {
         if is_other(self.port, port) {
             return Err(WordFault::Wrong(Wrong::OtherPort));
         }
-        self.take_server_at(address, Some(port))
+        self.take_server_of(address, Some(port))
+    }
+
+    fn take_server(&mut self, text: &str) -> Result<(), WordFault>
+        ensures { Answers (ServerGives text.now self.old) result self.new }
+    {
+        let is_first = self.asks.is_empty();
+        self.take_server_in(is_first, text)
+    }
+
+    /// Begins a name, behind what is asked for the one that stands.
+    fn begin(&mut self, alloc: Global, name: Name) -> Result<(), NoMemory>
+        ensures { OnOk result (self.new ≡ begun name self.old) }
+    {
+        match self.name.take() {
+            None => self.common = self.asking,
+            Some(before) => {
+                push_asks(alloc, &mut self.asks, before, self.asking)?;
+                self.asking = self.common;
+            }
+        }
+        self.name = Some(name);
+        Ok(())
     }
 
     fn take_address(&mut self, alloc: Global, word: &str) -> Result<(), WordFault>
-        ensures { Answers (AddressGives self.old.name word.now self.old) result self.new }
+        ensures { Answers (AddressGives word.now self.old) result self.new }
     {
-        if self.name.is_some() {
-            return Err(WordFault::Wrong(Wrong::Second));
+        if self.late {
+            return Err(WordFault::Wrong(Wrong::Parted));
         }
         let Ok(ip) = IpAddr::from_text(word) else {
             return Err(WordFault::Wrong(Wrong::Address));
         };
-        self.name = Some(Name::reverse_from_addr(alloc, ip)?);
-        if self.rtype.is_none() {
-            self.rtype = Some(Rtype::PTR);
+        let name = Name::reverse_from_addr(alloc, ip)?;
+        self.begin(alloc, name)?;
+        if self.asking.rtype.is_none() {
+            self.asking.rtype = Some(Rtype::PTR);
         }
         Ok(())
     }
@@ -141,7 +179,7 @@ impl Said {
     {
         match Name::from_text(alloc, word) {
             Ok(name) => {
-                self.name = Some(name);
+                self.begin(alloc, name)?;
                 Ok(())
             }
             Err(NameFault::NoMemory) => Err(WordFault::NoMemory),
@@ -150,12 +188,11 @@ impl Said {
         }
     }
 
-    /// Takes a name, where this would be wrong with a second one.
-    fn take_name(&mut self, alloc: Global, wrong: Wrong, word: &str) -> Result<(), WordFault>
-        ensures { Answers (λ o. o ≡ name_at self.old.name wrong word.now self.old) result self.new }
+    fn take_name(&mut self, alloc: Global, word: &str) -> Result<(), WordFault>
+        ensures { Answers (λ o. o ≡ name_said word.now self.old) result self.new }
     {
-        if self.name.is_some() {
-            return Err(WordFault::Wrong(wrong));
+        if self.late {
+            return Err(WordFault::Wrong(Wrong::Parted));
         }
         self.set_name(alloc, word)
     }
@@ -166,7 +203,7 @@ impl Said {
         if rtype == Rtype::AXFR {
             return Err(WordFault::Wrong(Wrong::Transfer));
         }
-        self.rtype = Some(rtype);
+        self.asking.rtype = Some(rtype);
         Ok(())
     }
 
@@ -176,17 +213,19 @@ impl Said {
         let Some(rtype) = type_in(word) else {
             return Err(WordFault::Wrong(Wrong::Type));
         };
-        self.typed = true;
+        self.asking.typed = true;
         self.set_type(rtype)
     }
 
     fn set_class(&mut self, class: Class) -> Result<(), WordFault>
         ensures { Answers (λ o. o ≡ class_set class.0 self.old) result self.new }
     {
-        if class == Class::IN {
-            Ok(())
-        } else {
-            Err(WordFault::Wrong(Wrong::OtherClass))
+        match class {
+            Class::IN | Class::CH | Class::HS => {
+                self.asking.manner.class = class;
+                Ok(())
+            }
+            _ => Err(WordFault::Wrong(Wrong::OtherClass)),
         }
     }
 
@@ -199,14 +238,27 @@ impl Said {
         }
     }
 
-    /// The type that a word alone names.
-    fn open_type(&self, word: &str) -> Option<Rtype>
-        ensures { option_map (λ t. t.0) result ≡ open_type self.now.typed word.now }
+    fn take_name_alone(&mut self, alloc: Global, word: &str) -> Result<(), WordFault>
+        ensures { Answers (λ o. o ≡ name_alone word.now self.old) result self.new }
     {
-        if self.typed { None } else { type_in(word) }
+        if is_transfer(word.as_bytes()) {
+            return Err(WordFault::Wrong(Wrong::Transfer));
+        }
+        self.take_name(alloc, word)
     }
 
-    /// Takes a word that is no option: a type, a class, or else the name.
+    /// The type that a word alone names.
+    fn open_type(&self, word: &str) -> Option<Rtype>
+        ensures { option_map (λ t. t.0) result ≡ open_type self.now.asking.typed word.now }
+    {
+        if self.asking.typed {
+            None
+        } else {
+            type_in(word)
+        }
+    }
+
+    /// Takes a word that is no option: a type, a class, or else a name.
     fn take_plain(&mut self, alloc: Global, word: &str) -> Result<(), WordFault>
         ensures { Answers (λ o. o ≡ plain_said word.now self.old) result self.new }
     {
@@ -216,7 +268,7 @@ impl Said {
         if let Some(class) = class_in(word) {
             return self.set_class(class);
         }
-        self.take_name(alloc, Wrong::More, word)
+        self.take_name_alone(alloc, word)
     }
 
     fn take_value(&mut self, alloc: Global, value: Value, text: &str) -> Result<(), WordFault>
@@ -227,7 +279,7 @@ impl Said {
             Value::Address => self.take_address(alloc, text),
             Value::Type => self.take_type(text),
             Value::Class => self.take_class(text),
-            Value::Name => self.take_name(alloc, Wrong::Second, text),
+            Value::Name => self.take_name(alloc, text),
         }
     }
 
@@ -246,14 +298,13 @@ impl Said {
     fn take_letters(&mut self, text: &str) -> Result<(), WordFault>
         ensures { Answers (λ o. o ≡ dash_said text.now self.old) result self.new }
     {
-        if text == "-" {
-            self.next = Next::Plain;
-            return Ok(());
+        match text {
+            "-" => self.next = Next::Plain,
+            "4" => self.family = Some(Family::V4),
+            "6" => self.family = Some(Family::V6),
+            _ => return Err(WordFault::Wrong(wrong_letter(text))),
         }
-        if is_absent(text.as_bytes()) {
-            return Err(WordFault::Wrong(Wrong::Lacking));
-        }
-        Err(WordFault::Wrong(Wrong::Option))
+        Ok(())
     }
 
     /// Takes what stands behind a hyphen.
@@ -276,38 +327,6 @@ impl Said {
             return self.take_glued(alloc, Value::Name, rest);
         }
         self.take_letters(text)
-    }
-
-    /// Takes an option without a value.
-    fn set_bare(&mut self, sets: Sets, on: bool) -> Result<(), WordFault>
-        ensures { Answers (λ o. o ≡ set_bare sets on self.old) result self.new }
-    {
-        match (sets, on) {
-            (Sets::Tcp, _) => self.tcp = on,
-            (Sets::Dnssec, _) => self.dnssec = on,
-            (Sets::Short, _) => self.short = on,
-            (Sets::Already, true) => {}
-            (Sets::Never, false) => {}
-            (Sets::Time, _) => return Err(WordFault::Wrong(Wrong::Time)),
-            _ => return Err(WordFault::Wrong(Wrong::Lacking)),
-        }
-        Ok(())
-    }
-
-    /// Takes an option with a value.
-    fn set_valued(&mut self, sets: Sets, on: bool, text: &str) -> Result<(), WordFault>
-        ensures { Answers (λ o. o ≡ set_valued sets on text.now self.old) result self.new }
-    {
-        match (sets, on) {
-            (Sets::Time, true) => self.take_time(text),
-            (Sets::Time, false) => Err(WordFault::Wrong(Wrong::Time)),
-            (Sets::Tcp, _) => Err(WordFault::Wrong(Wrong::Valued)),
-            (Sets::Dnssec, _) => Err(WordFault::Wrong(Wrong::Valued)),
-            (Sets::Short, _) => Err(WordFault::Wrong(Wrong::Valued)),
-            (Sets::Already, _) => Err(WordFault::Wrong(Wrong::Valued)),
-            (Sets::Never, _) => Err(WordFault::Wrong(Wrong::Lacking)),
-            (Sets::Absent, _) => Err(WordFault::Wrong(Wrong::Lacking)),
-        }
     }
 
     /// Takes what stands behind a plus.

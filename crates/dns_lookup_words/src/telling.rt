@@ -4,6 +4,7 @@ ghost use Rattle.std.specs.Prelude.{◌≡◌, IfOk};
 ghost use Rattle.std.specs.String.{string_bytes};
 ghost use Rattle.dns_lookup_words.specs.Sentences.{due_sentence, sentence, word_at, word_sentence, wrong_text};
 
+use crate::lacking::lack_text;
 use crate::wrong::{Refusal, Value, Wrong};
 use dns_values::NoMemory;
 use std::alloc::Global;
@@ -12,7 +13,7 @@ fn wrong_text(wrong: Wrong) -> &'static str
     ensures { result.now ≡ wrong_text wrong }
 {
     match wrong {
-        Wrong::Server => "names no server, which only an address does",
+        Wrong::Server => "names no server: it is no address, and no name whose address is found",
         Wrong::Scope => {
             "has a scope behind its %, and no server of one interface alone is asked"
         }
@@ -26,16 +27,18 @@ fn wrong_text(wrong: Wrong) -> &'static str
         Wrong::Idn => {
             "is no name, since it has letters past ASCII; its form that begins with xn-- is"
         }
-        Wrong::Second => "would be a second name, and one is asked for at a time",
+        Wrong::Late => "names a server behind two names, and servers are asked for all names",
+        Wrong::Parted => {
+            "is another name behind a server that stands behind a name, and servers are asked for all names"
+        }
         Wrong::Type => "is neither a known type nor TYPE with a number",
         Wrong::Transfer => "is no type that one message answers",
         Wrong::Class => "is no class",
-        Wrong::OtherClass => "is another class than IN, which alone is asked",
+        Wrong::OtherClass => "is another class than IN, CH and HS",
         Wrong::Time => "gives no seconds from 1 to 600",
         Wrong::Option => "is no option",
-        Wrong::Lacking => "asks for what dig does and dns_lookup does not",
+        Wrong::Lacking(lack) => lack_text(lack),
         Wrong::Valued => "has a value, and its option takes none",
-        Wrong::More => "is neither a type nor a class, and a name stands before it",
     }
 }
 

@@ -2,12 +2,13 @@
 
 ghost use Rattle.std.specs.Prelude.{◌≡◌};
 
+use crate::lacking::Lack;
 use dns_values::NoMemory;
 
 /// What is wrong with a word.
 #[derive(Clone, Copy, Debug, PartialEq, Eq)]
 pub enum Wrong {
-    /// What stands behind its `@` is no address.
+    /// What stands behind its `@` is no address and not `localhost`.
     Server,
     /// What stands behind its `@` has a percent sign, behind which a scope stands (RFC 4007 11).
     Scope,
@@ -23,26 +24,26 @@ pub enum Wrong {
     Name,
     /// It stands where the name must, and has octets past ASCII, as names of people's languages do (RFC 5890 2.3.2.1).
     Idn,
-    /// It stands where a name or an address must, and a name stands before it.
-    Second,
+    /// It names a server, and several names stand before it.
+    Late,
+    /// It stands where a name or an address must, and a server stands before it behind a name.
+    Parted,
     /// It stands where a type must, and is none.
     Type,
-    /// It is AXFR, which no one message answers.
+    /// It is AXFR, or begins with `IXFR=`, which no one message answers.
     Transfer,
     /// It stands where a class must, and is none.
     Class,
-    /// It is a class, and not IN.
+    /// It is a class, and not IN, CH or HS.
     OtherClass,
     /// What stands behind its `+time=` is no number from 1 to 600.
     Time,
     /// It begins as an option does, and is none.
     Option,
     /// It is an option that dig has, and that is not to be had here.
-    Lacking,
+    Lacking(Lack),
     /// A value stands in it, and its option has none.
     Valued,
-    /// It is no option, no type and no class, and a name stands before it.
-    More,
 }
 
 /// What stands behind an option of one letter.

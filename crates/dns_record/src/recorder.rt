@@ -20,7 +20,7 @@ use crate::ended::{Ended, Refused};
 use client_core::{Client, cache, redundant};
 use client_request::{Error, Event, Row, WordList, Words};
 use dns_base::NoMemory;
-use dns_values::{Sink, SinkFault, write_all};
+use dns_values::{MOST_TEXT, Sink, SinkFault, write_all};
 use resolv_conf::{ResolvConf, ServerConf, Transport};
 use script_printing::{
     event_is_in_range, head_is_in_range, head_text, is_whole, push_event, settings_are_told,
@@ -52,9 +52,6 @@ impl Ahead {
         few: 16_384,
     };
 }
-
-/// The most octets that a script has.
-const MOST_OCTETS: usize = 16_777_216;
 
 /// What writes the events of a client as a script.
 #[derive(Drop)]
@@ -144,7 +141,7 @@ impl Recorder {
         let list = drawn(alloc, words, ahead.count)?;
         head_is_in_range(conf, list.as_slice());
         let text = head_text(alloc, conf, choice, cache, list.as_slice())?;
-        if text.len() > MOST_OCTETS {
+        if text.len() > MOST_TEXT {
             return Err(Refused::Full);
         }
         match write_all(sink, &text) {
@@ -199,7 +196,7 @@ impl Recorder {
         }
         let mut line = Vec::new(self.alloc);
         push_event(self.alloc, &mut line, row)?;
-        if line.len() > MOST_OCTETS - self.size {
+        if line.len() > MOST_TEXT - self.size {
             return Err(Ended::Full);
         }
         match write_all(sink, &line) {

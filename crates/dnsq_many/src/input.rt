@@ -7,11 +7,8 @@ ghost use Rattle.dnsq_many.specs.Many.{IsRefused};
 
 use command_parts::statuses::{NO_MEMORY, REFUSED, SOURCE_FAULT};
 use command_parts::{Ending, says};
-use dns_values::{ReadFault, Source, read_to_end};
+use dns_values::{MOST_TEXT, ReadFault, Source, read_to_end};
 use std::alloc::Global;
-
-/// The most octets that an input may have.
-const MOST_OCTETS: usize = 16_777_216;
 
 /// The octets of an input, to its end. It ends with status 1 where there are more than may be, 3 where the source fails, and 6
 /// where memory runs out.
@@ -24,7 +21,7 @@ pub(crate) fn input<S: Source>(alloc: Global, source: &mut S) -> Result<Vec<u8>,
     ensures too_long { IfErr result (λ e. status_of e ≡ 1 → IfSome (S.left source.old) (λ text. IsRefused text (line_of e))) }
     ensures no_numbers { IfErr result (λ e. status_of e ≢ 7) }
 {
-    match read_to_end(alloc, source, MOST_OCTETS) {
+    match read_to_end(alloc, source, MOST_TEXT) {
         Ok(octets) => Ok(octets),
         Err(ReadFault::Failed) => Err(Ending::Silent(SOURCE_FAULT)),
         Err(ReadFault::TooLong) => Err(says(alloc, REFUSED, "input too long\n")),

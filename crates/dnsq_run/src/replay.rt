@@ -11,11 +11,8 @@ use crate::usage::Command;
 use command_parts::statuses::{NO_MEMORY, REFUSED, SOURCE_FAULT};
 use command_parts::{Ending, refused_line, says};
 use dns_script::{Script, ScriptFault, read_script};
-use dns_values::{ReadFault, Source, read_to_end};
+use dns_values::{MOST_TEXT, ReadFault, Source, read_to_end};
 use std::alloc::Global;
-
-/// The most octets that an input may have.
-pub const MOST_OCTETS: usize = 16_777_216;
 
 /// The octets of an input, to its end.
 #[tactic(auto, using(crate::proofs::Refusals::too_long_line))]
@@ -27,7 +24,7 @@ fn input<S: Source>(alloc: Global, source: &mut S) -> Result<Vec<u8>, Ending>
     ensures too_long { IfErr result (λ e. status_of e ≡ 1 → IfSome (S.left source.old) (λ text. IsRefused Command.Replay text (line_of e))) }
     ensures no_numbers { IfErr result (λ e. status_of e ≢ 7) }
 {
-    match read_to_end(alloc, source, MOST_OCTETS) {
+    match read_to_end(alloc, source, MOST_TEXT) {
         Ok(octets) => Ok(octets),
         Err(ReadFault::Failed) => Err(Ending::Silent(SOURCE_FAULT)),
         Err(ReadFault::TooLong) => Err(says(alloc, REFUSED, "input too long\n")),

@@ -1,7 +1,7 @@
 //! A line that tells now and then how much a forwarder did.
 
 use crate::watch::Watch;
-use client_request::Out;
+use client_request::{FIRST_STREAM, Out};
 use command_parts::deliver;
 use dns_values::Sink;
 use front_peers::{FrontOut, FrontRow, FrontWhat};
@@ -13,9 +13,6 @@ const MEMORY: &str = "/proc/self/statm";
 
 /// The octets of a page, in kibibytes.
 const PAGE: u64 = 4;
-
-/// The first number of a peer by stream.
-const FIRST_STREAM: u64 = 1 << 62;
 
 /// How many queries were answered so far, and how.
 #[derive(Clone, Copy)]

@@ -6,7 +6,7 @@ ghost use Rattle.front_peers.specs.Items as spec;
 
 use crate::event::{FrontEvent, FrontWhat};
 use crate::items::{Item, Items, push_datagram, take_frames};
-use client_request::What;
+use client_request::{FIRST_STREAM, What};
 use client_stream::Framer;
 use dns_base::NoMemory;
 use front_queries::sort;
@@ -16,9 +16,6 @@ use std::marker::Model;
 
 /// How many streams may be open (RFC 7766 6.2.2).
 const MOST_STREAMS: usize = 100;
-
-/// The least number of a peer that has a stream.
-const FIRST_STREAM: u64 = 1 << 62;
 
 /// A stream that is open.
 #[derive(Drop)]

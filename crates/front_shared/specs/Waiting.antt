@@ -3,10 +3,7 @@ use Rattle.std.specs.Prelude.{ℕ, ◌==◌, Bool, true, false, if◌then◌else
 use Rattle.front_peers.specs.declared.event.FrontOut.{FrontOut}
 use Rattle.front_peers.specs.declared.event.FrontOut.TheVariants.{Core, Answer, Drop}
 use Rattle.front_shared.specs.declared.entry.Entry.{Entry}
-
--- streams have this number and those behind it
-abbrev pub first_stream : ℕ
-first_stream = 4611686018427387904
+use Rattle.client_request.specs.Peers.{first_stream}
 
 -- Whoever made the row of an out may do it: it is an answer by a datagram.
 abbrev pub is_for_any : FrontOut → Bool

@@ -4,13 +4,11 @@ ghost use Rattle.std.specs.Prelude.{◌≡◌, ◌++◌, [], ◌&&◌, ◌==◌,
 ghost use Rattle.front_shared.specs.Waiting as spec;
 ghost use Rattle.front_shared.specs.Waiting.{after_row, for_first, kept_if, told_to};
 
+use client_request::FIRST_STREAM;
 use dns_values::NoMemory;
 use front_peers::{FrontOut, FrontOuts};
 use std::alloc::Global;
 use std::mem;
-
-/// The first number of a peer by stream. Those of datagrams are below it.
-const FIRST_STREAM: u64 = 4_611_686_018_427_387_904;
 
 /// Whether whoever made the row of an out may do it: it is an answer by a datagram.
 pub fn is_for_any(out: &FrontOut) -> bool

@@ -1,4 +1,5 @@
 -- The books of a server's listeners.
+use Rattle.client_request.specs.Peers.{first_stream}
 use Rattle.std.specs.Prelude.{◌≡◌, ℕ, Bool, true, false, ◌-◌, if◌then◌else◌, nat_lt, List, [], ◌∷◌, ◌++◌, Option, None, Some, option_to_list, slice_get, slice_set}
 use Rattle.socket_places.specs.declared.socket.Answer.{Answer}
 use Rattle.socket_places.specs.declared.socket.Answer.TheVariants.{Done, Failed, Later}
@@ -21,10 +22,6 @@ pub record Books : Type 0 where
   pub senders : Senders
   pub peers : Peers
   pub found : List Spot
-
--- streams have this number and those behind it
-abbrev pub first_stream : ℕ
-first_stream = 4611686018427387904
 
 -- What comes of a datagram that was asked for: its sender is kept under its number.
 abbrev pub TellsDatagram : (at : ℕ) → Answer Letter → (old new : Senders) → Option Heard → Type 0

@@ -1,7 +1,8 @@
 //! The books of a server's listeners.
 
 ghost use Rattle.std.specs.Prelude.{◌≡◌, ◌++◌, [], ◌∷◌, IfOk, IfSome, OnOk, option_map, slice_get};
-ghost use Rattle.listener_peers.specs.Books.{AcceptsAt, AsksDoor, AsksListener, Answers, AnswersDatagram, AnswersStream, Looks, LooksAt, LooksAtPeer, LooksFirst, ReceivesAt, TellsAccepted, TellsDatagram, again, but_open, first_stream, is_idle, once_more};
+ghost use Rattle.listener_peers.specs.Books.{AcceptsAt, AsksDoor, AsksListener, Answers, AnswersDatagram, AnswersStream, Looks, LooksAt, LooksAtPeer, LooksFirst, ReceivesAt, TellsAccepted, TellsDatagram, again, but_open, is_idle, once_more};
+ghost use Rattle.client_request.specs.Peers.{first_stream};
 ghost use Rattle.listener_peers.specs.Doors.{IfDone, SendsAt, without_value};
 ghost use Rattle.socket_places.specs.Told.{IsFresh};
 ghost use Rattle.listener_peers.specs.Waits.{asked_of_books, found_among, found_one, spots_of_books};
@@ -11,14 +12,12 @@ use crate::heard::{Heard, Spot};
 use crate::listener::{DgramListener, Letter, Listener};
 use crate::peers::Peers;
 use crate::senders::{Sender, Senders};
+use client_request::FIRST_STREAM;
 use dns_values::{NoMemory, Octets, SocketAddr};
 use socket_places::{Answer, Asked, Books, Network, Socket};
 use std::alloc::Global;
 use std::collections::VecDeque;
 use std::marker::Model;
-
-/// The first number of a peer by stream. Those of datagrams are below it.
-pub const FIRST_STREAM: u64 = 4_611_686_018_427_387_904;
 
 /// The most octets of a datagram.
 const DATAGRAM: usize = 65_535;

@@ -19,7 +19,7 @@ mod server;
 mod unsent;
 
 pub use batch::{BatchDgrams, Outgoing};
-pub use books::{FIRST_STREAM, PeerBooks};
+pub use books::PeerBooks;
 pub use doors::{DgramDoor, StreamDoor};
 pub use heard::{Heard, Spot};
 pub use laws::octets_go_once;

@@ -10,13 +10,10 @@ ghost use Rattle.resolver_policy.specs.Found.{IsFoundFrom, IsFoundIn, Reads, Rea
 
 use crate::note::{Note, Notes, Why};
 use crate::plain::uncommented;
-use dns_values::{NoMemory, ReadFault, Source, read_to_end};
+use dns_values::{MOST_TEXT, NoMemory, ReadFault, Source, read_to_end};
 use resolv_conf::{LineFault, ResolvConf, ResolvOptions, Servers};
 use std::alloc::Global;
 use std::str::{self, SplitWhitespace};
-
-/// The most octets that are read.
-const MOST_OCTETS: usize = 16_777_216;
 
 /// What is found in a file: a configuration, which is not finalized, and what is told of its lines.
 #[derive(Debug, Drop)]
@@ -225,7 +222,7 @@ impl Found {
         ensures failed { IfErr result (λ e. e ≡ faults.Failed → Rose (S.faults source.old) (S.faults source.new)) }
         ensures count { S.faults source.old ≤ S.faults source.new }
     {
-        let text = read_to_end(alloc, source, MOST_OCTETS)?;
+        let text = read_to_end(alloc, source, MOST_TEXT)?;
         let mut found = Found::new(alloc, options);
         match found.read_lines(alloc, &text) {
             Ok(()) => Ok(found),

@@ -2,14 +2,11 @@
 
 use crate::given::Given;
 use crate::hex::{Hex, octets};
-use client_request::{ListWords, Moment, Out, Outs, What, WordList};
+use client_request::{FIRST_STREAM, ListWords, Moment, Out, Outs, What, WordList};
 use dns_base::{Message, Octets};
 use front_peers::{FrontEvent, FrontOut, FrontWhat};
 use front_steps::Forwarder;
 use std::alloc::Global;
-
-/// The least number of a peer that has a stream.
-const STREAM: u64 = 1 << 62;
 
 /// A question for the addresses of h.example, under the id 1, but for its class.
 const QUERY: [u8; 25] = *b"\0\x01\x01\0\0\x01\0\0\0\0\0\0\x01h\x07example\0\0\x01";
@@ -149,7 +146,7 @@ impl Scene {
     /// So many streams come.
     fn streams(&mut self, text: &mut String, count: u64) -> Option<()> {
         for number in 0..count {
-            let peer = STREAM.saturating_add(number);
+            let peer = FIRST_STREAM.saturating_add(number);
             self.step(text, &FrontWhat::Accepted { peer })?;
         }
         Some(())

@@ -6,7 +6,10 @@
 
 use crate::lets::Lets;
 use crate::reading::first_word;
-use crate::{asked, boards, errors, servers, settings, sockets, telling, timers};
+use crate::{
+    asked, boards, clients, errors, resolving, servers, settings, sockets, telling, timers, turns,
+    upstreams, zones,
+};
 use std::alloc::Global;
 
 /// Says what a line shows of what transports are made of.
@@ -27,7 +30,14 @@ fn show_part(alloc: Global, word: &str, rest: &str, said: &mut String) -> Option
 fn show(alloc: Global, word: &str, rest: &str, said: &mut String) -> Option<()> {
     match word {
         "dgram" | "fallback" | "choice" | "balancer" => telling::show(alloc, word, rest, said),
+        "upstream" => upstreams::show(alloc, rest, said),
         "request" | "recorded" | "transfer" => asked::show(alloc, word, rest, said),
+        "client" | "clock" | "edge" | "fault" => clients::show(alloc, word, rest, said),
+        "ask" | "ask-long" | "ask-both" | "turn" | "learn" | "poor" => {
+            turns::show(alloc, word, rest, said)
+        }
+        "updates" | "zone" | "fetch" => zones::show(alloc, word, rest, said),
+        _ if word.starts_with("resolver") => resolving::show(alloc, word, rest, said),
         _ => show_part(alloc, word, rest, said),
     }
 }

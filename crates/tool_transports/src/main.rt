@@ -6,12 +6,15 @@
 
 mod asked;
 mod boards;
+mod clients;
 mod errors;
 mod lent;
 mod lets;
 mod lines;
 mod making;
+mod memory;
 mod reading;
+mod resolving;
 mod saying;
 mod servers;
 mod settings;
@@ -19,6 +22,9 @@ mod sockets;
 mod telling;
 mod timers;
 mod transport;
+mod turns;
+mod upstreams;
+mod zones;
 
 use lets::Lets;
 use std::io;

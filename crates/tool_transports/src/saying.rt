@@ -30,6 +30,12 @@ pub fn say_name<T: Debug>(said: &mut String, value: &T) -> Option<()> {
     write!(said, "{value:?}").ok()
 }
 
+/// Says a word, and a value as it is printed.
+pub fn say_sentence<T: Display>(said: &mut String, word: &str, value: &T) -> Option<()> {
+    go_on(said)?;
+    write!(said, "{word} {value}").ok()
+}
+
 /// Says the error of a call, and nothing where it has none.
 pub fn say_outcome(said: &mut String, outcome: Result<(), Error>) -> Option<()> {
     match outcome {
@@ -89,6 +95,31 @@ pub fn say_given(said: &mut String, given: &Result<Message, Error>) -> Option<()
     }
 }
 
+/// Writes the reply to a request: the first four octets of a message, or an error.
+fn push_result(said: &mut String, request: u64, given: &Result<Message, Error>) -> Option<()> {
+    write!(said, "reply {request} ").ok()?;
+    match given {
+        Ok(message) => push_octets(said, &message.header().to_octets()),
+        Err(error) => write!(said, "{error:?}").ok(),
+    }
+}
+
+/// Says all octets of a message.
+pub fn say_message(said: &mut String, message: &Message) -> Option<()> {
+    say_octets(said, message.as_slice())
+}
+
+/// Says what a step puts out, or that it is nothing.
+pub fn say_rows_out(said: &mut String, outs: &[Out]) -> Option<()> {
+    if outs.is_empty() {
+        return say(said, "nothing");
+    }
+    for out in outs {
+        say_out(said, out)?;
+    }
+    Some(())
+}
+
 /// Writes what happens at a place of an open connection.
 fn push_sent(said: &mut String, out: &Out) -> Option<()> {
     match out {
@@ -105,6 +136,7 @@ fn push_sent(said: &mut String, out: &Out) -> Option<()> {
             ..
         } => write!(said, "write {place} {request} {id}").ok(),
         Out::Close { place } => write!(said, "close {place}").ok(),
+        Out::Reply { request, result } => push_result(said, *request, result),
         _ => said.push_str("other").ok(),
     }
 }

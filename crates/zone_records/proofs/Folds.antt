@@ -8,8 +8,8 @@ use Rattle.std.specs.declared.cmp.Ordering.TheVariants.{Less, Equal, Greater}
 use Rattle.std.specs.Ordering.{is_eq, ordering_reverse}
 use Rattle.zone_reading.specs.declared.steps.Update.{Update}
 use Rattle.zone_reading.specs.declared.steps.Update.TheVariants.{DeleteAllRecords, BeginBatchDelete, DeleteRecord, BeginBatchAdd, AddRecord, Finished}
-use Rattle.zone_records.specs.Folding.{Records, Holds, Adds, AddsPlain, Removes, FoldsOne, Folds, folded, folded_one, has, is_same, misses, missing}
-use Rattle.zone_records.specs.Records.{record_cmp, record_total, is_soa}
+use Rattle.zone_records.specs.Folding.{Records, Holds, Adds, AddsPlain, Removes, FoldsOne, Folds, folded, folded_one, has, misses, missing}
+use Rattle.zone_records.specs.Records.{record_cmp, record_total, is_same, is_soa}
 use Rattle.zone_records.specs.declared.record.ZoneRecord.{ZoneRecord}
 use Rattle.zone_records.proofs.Comparing.{equal_records}
 
@@ -64,10 +64,18 @@ missing_one : (sx o h : Bool) → h ≡ (not sx && o) → (not sx && not h) ≡ 
 missing_one true o h e = refl
 missing_one false o h e = ap not e
 
+present_one : (sx o h : Bool) → h ≡ (not sx && o) → (not sx && h) ≡ (not sx && o)
+present_one true o h e = refl
+present_one false o h e = e
+
 -- ---- one update
 
 pub updated : (old new : List ZoneRecord) (x : ZoneRecord) → ((r : ZoneRecord) → has new r ≡ cond (is_same x r) true (has old r)) → Adds old x new
 updated old new x h = λ r. h r ∙ by_or (is_same x r) (has old r)
+
+pub was_there : (is_new b : Bool) → is_new ≡ not b → not is_new ≡ b
+was_there is_new true e = ap not e
+was_there is_new false e = ap not e
 
 pub taken_out : (old new : List ZoneRecord) (x : ZoneRecord) → ((r : ZoneRecord) → has new r ≡ cond (is_same x r) false (has old r)) → Removes old x new
 taken_out old new x h = λ r. h r ∙ by_and (is_same x r) (has old r)
@@ -92,8 +100,8 @@ removed old new x missed gone m = λ rs h.
 plainly : (old new : List ZoneRecord) (x : ZoneRecord) → AddsPlain old x new → (rs : Records) → Holds old rs → Holds new (λ r. is_same x r || rs r)
 plainly old new x adds rs h = λ r. adding (is_soa x) (is_soa r) (is_same x r) (rs r) (has old r) (has new r) (alike x r) (h r) (adds r)
 
-pub added : (old new : List ZoneRecord) (x : ZoneRecord) → AddsPlain old x new → FoldsOne old (AddRecord x) new false
-added old new x adds = λ rs h. (plainly old new x adds rs h, refl)
+pub added : (old new : List ZoneRecord) (x : ZoneRecord) (missed : Bool) → AddsPlain old x new → missed ≡ (not (is_soa x) && has old x) → FoldsOne old (AddRecord x) new missed
+added old new x missed adds m = λ rs h. (plainly old new x adds rs h, m ∙ present_one (is_soa x) (rs x) (has old x) (h x))
 
 pub batch_begun : (old : List ZoneRecord) (s : ℕ) (x : ZoneRecord) → FoldsOne old (BeginBatchDelete s x) old false
 batch_begun old s x = λ rs h. ((λ r. h r ∙ sym (twice (is_soa r) (rs r))), refl)

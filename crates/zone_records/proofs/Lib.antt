@@ -3,6 +3,8 @@ pub mod Folds
 pub mod Serials
 pub mod Messages
 pub mod Zones
+pub mod Zoned
 pub mod Items
 pub mod Applied
 pub mod Heads
+pub mod Within

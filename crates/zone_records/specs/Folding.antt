@@ -2,11 +2,10 @@
 use Rattle.std.specs.Prelude.{◌≡◌, ℕ, ◌+◌, ◌==◌, not, ◌&&◌, ◌||◌, Bool, true, false, if◌then◌else◌, List, [], ◌∷◌, ◌++◌, Option, Some, None, option_map, Result, Ok, Err}
 use Rattle.std.specs.List.{list_any}
 use Rattle.std.specs.List.Sorted.{IsStrictlySortedBy}
-use Rattle.std.specs.Ordering.{eq_by_cmp}
 use Rattle.dns_names.specs.Name.{Labels}
 use Rattle.zone_reading.specs.declared.steps.Update.{Update}
 use Rattle.zone_reading.specs.declared.steps.Update.TheVariants.{DeleteAllRecords, BeginBatchDelete, DeleteRecord, BeginBatchAdd, AddRecord, Finished}
-use Rattle.zone_records.specs.Records.{record_cmp, is_soa}
+use Rattle.zone_records.specs.Records.{record_cmp, is_same, is_soa}
 use Rattle.zone_records.specs.declared.record.ZoneRecord.{ZoneRecord}
 use Rattle.zone_records.specs.declared.zone.ApplyFault.{ApplyFault}
 use Rattle.zone_records.specs.declared.zone.ApplyFault.TheVariants as fault
@@ -15,9 +14,6 @@ use Rattle.zone_records.specs.declared.zone.ApplyFault.TheVariants as fault
 
 abbrev pub Records : Type 0
 Records = ZoneRecord → Bool
-
-abbrev pub is_same : ZoneRecord → ZoneRecord → Bool
-is_same = eq_by_cmp record_cmp
 
 -- what one update leaves
 abbrev pub folded_one : Update ZoneRecord → Records → Records
@@ -32,19 +28,28 @@ abbrev pub folded : List (Update ZoneRecord) → Records → Records
 folded [] rs = rs
 folded (u ∷ us) rs = folded us (folded_one u rs)
 
--- A record that is no SOA is to be deleted and isn't there.
+-- A record that is no SOA is to be deleted and isn't there, or to be added and is.
 abbrev pub misses : Update ZoneRecord → Records → Bool
 misses (DeleteRecord gone) rs = not (is_soa gone) && not (rs gone)
+misses (AddRecord new) rs = not (is_soa new) && rs new
 misses DeleteAllRecords rs = false
 misses (BeginBatchDelete _ _) rs = false
 misses (BeginBatchAdd _ _) rs = false
-misses (AddRecord _) rs = false
 misses (Finished _ _) rs = false
 
 -- how often that is so
 abbrev pub missing : List (Update ZoneRecord) → Records → ℕ
 missing [] rs = 0
 missing (u ∷ us) rs = (if misses u rs then 1 else 0) + missing us (folded_one u rs)
+
+-- The whole zone comes.
+abbrev pub is_whole : List (Update ZoneRecord) → Bool
+is_whole (DeleteAllRecords ∷ us) = true
+is_whole us = false
+
+-- how often changes do not fit the records that they meet: a whole zone always does
+abbrev pub misfits : List (Update ZoneRecord) → Records → ℕ
+misfits us rs = if is_whole us then 0 else missing us rs
 
 -- ---- serials
 
@@ -116,14 +121,14 @@ empty_zone apex = record { apex = apex; serial = None; records = [] }
 abbrev pub has : List ZoneRecord → Records
 has rs r = list_any (is_same r) rs
 
--- The new zone has what updates make of the old one's records and the serial of their end; so many deletions met no record.
+-- The new zone has what updates make of the old one's records and the serial of their end; so many changes did not fit the records.
 pub record Applies (old : Zone) (us : List (Update ZoneRecord)) (new : Zone) (count : ℕ) : Type 0 where
   pub apex : new.apex ≡ old.apex
   pub serial : ℕ
   pub leads : checked old.serial us ≡ Ok serial
   pub has_serial : new.serial ≡ Some serial
   pub records : (r : ZoneRecord) → has new.records r ≡ folded us (has old.records) r
-  pub missed : count ≡ missing us (has old.records)
+  pub missed : count ≡ misfits us (has old.records)
 
 -- ---- a sorted list of the records of a set that are no SOA
 

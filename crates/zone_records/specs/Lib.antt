@@ -3,3 +3,4 @@ pub mod Interpreting
 pub mod Folding
 pub mod Heads
 pub mod Transfers
+pub mod Held

@@ -11,7 +11,7 @@ use Rattle.zone_reading.specs.declared.steps.XfrKind.{XfrKind}
 use Rattle.zone_reading.specs.declared.steps.XfrKind.TheVariants.{Axfr, Ixfr}
 use Rattle.zone_reading.specs.Readings.{IsTransfer}
 use Rattle.zone_records.specs.Interpreting.{Interpreter, Read, begun, interpreted}
-use Rattle.zone_records.specs.Records.{entry_of}
+use Rattle.zone_records.specs.Records.{entry_of, is_same}
 use Rattle.zone_records.specs.declared.record.ZoneRecord.{ZoneRecord}
 
 abbrev pub Entries : Type 0
@@ -64,6 +64,6 @@ BeginsWithMore apex Ixfr (message ∷ messages) = (entry : Entry ZoneRecord) →
 -- Messages that are read to the end of a transfer are one, and these are its updates; and each transfer is read so, however it is cut into messages.
 pub record TransfersLaw : Type 0 where
   pub sound : (apex : Labels) (kind : XfrKind) (messages : List (List ℕ)) (s : Interpreter) (us : List (Update ZoneRecord)) → all_read (begun apex kind) messages ≡ Some (s, us) → s.state ≡ Done
-      → (es : Entries) × (all_entries apex messages ≡ Some es) × IsTransfer kind es us
-  pub complete : (apex : Labels) (kind : XfrKind) (messages : List (List ℕ)) (es : Entries) (us : List (Update ZoneRecord)) → all_entries apex messages ≡ Some es → IsTransfer kind es us
-      → BeginsWithMore apex kind messages → all_read (begun apex kind) messages ≡ Some (record (begun apex kind) { state = Done }, us)
+      → (es : Entries) × (all_entries apex messages ≡ Some es) × IsTransfer is_same kind es us
+  pub complete : (apex : Labels) (kind : XfrKind) (messages : List (List ℕ)) (es : Entries) (us : List (Update ZoneRecord)) → all_entries apex messages ≡ Some es → IsTransfer is_same kind es us
+      → BeginsWithMore apex kind messages → (s : Interpreter) × (all_read (begun apex kind) messages ≡ Some (s, us)) × (s.state ≡ Done)

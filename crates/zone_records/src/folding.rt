@@ -12,24 +12,36 @@ use dns_base::NoMemory;
 use std::alloc::Global;
 use std::collections::BTreeSet;
 
-/// Adds a record.
+/// Adds a record, and tells whether it is new.
 #[tactic(auto, using(crate::proofs::Folds::updated))]
-pub(crate) fn insert(set: &mut BTreeSet<Keyed>, new: ZoneRecord) -> Result<(), NoMemory>
-    ensures { OnOk result (Adds set.old.keys new set.new.keys) }
+fn put(set: &mut BTreeSet<Keyed>, new: Keyed) -> Result<bool, NoMemory>
+    ensures added { OnOk result (Adds set.old.keys new set.new.keys) }
+    ensures told { IfOk result (λ is_new. is_new ≡ not (has set.old.keys new)) }
 {
-    match set.insert(Keyed::new(new)) {
-        Ok(_) => Ok(()),
+    match set.insert(new) {
+        Ok(is_new) => Ok(is_new),
         Err(_) => Err(NoMemory),
     }
 }
 
-/// Adds a record unless it is an SOA.
+/// Adds a record, and tells whether it was there.
+#[tactic(auto, using(crate::proofs::Folds::was_there))]
+pub(crate) fn insert(set: &mut BTreeSet<Keyed>, new: ZoneRecord) -> Result<bool, NoMemory>
+    ensures added { OnOk result (Adds set.old.keys new set.new.keys) }
+    ensures told { IfOk result (λ was_there. was_there ≡ has set.old.keys new) }
+{
+    let is_new = put(set, Keyed::new(new))?;
+    Ok(!is_new)
+}
+
+/// Adds a record unless it is an SOA, and tells whether it is none and was there.
 #[tactic(auto, using(crate::proofs::Folds::not_added, crate::proofs::Folds::is_added))]
-fn insert_plain(set: &mut BTreeSet<Keyed>, new: ZoneRecord) -> Result<(), NoMemory>
-    ensures { OnOk result (AddsPlain set.old.keys new set.new.keys) }
+fn insert_plain(set: &mut BTreeSet<Keyed>, new: ZoneRecord) -> Result<bool, NoMemory>
+    ensures added { OnOk result (AddsPlain set.old.keys new set.new.keys) }
+    ensures told { IfOk result (λ was_there. was_there ≡ (not (is_soa new) && has set.old.keys new)) }
 {
     if new.is_soa() {
-        return Ok(());
+        return Ok(false);
     }
     insert(set, new)
 }
@@ -45,7 +57,7 @@ fn remove(set: &mut BTreeSet<Keyed>, gone: ZoneRecord) -> bool
     !is_soa && !was_there
 }
 
-/// What one update does. Tells whether a record was to be deleted that wasn't there.
+/// What one update does. Tells whether a record was to be deleted that wasn't there, or added that was.
 #[tactic(auto, using(crate::proofs::Folds::cleared, crate::proofs::Folds::removed, crate::proofs::Folds::added, crate::proofs::Folds::batch_begun, crate::proofs::Folds::batch_added, crate::proofs::Folds::finished))]
 fn fold_one(set: &mut BTreeSet<Keyed>, update: Update) -> Result<bool, NoMemory>
     ensures { IfOk result (FoldsOne set.old.keys update set.new.keys) }
@@ -57,8 +69,8 @@ fn fold_one(set: &mut BTreeSet<Keyed>, update: Update) -> Result<bool, NoMemory>
         }
         Update::DeleteRecord(gone) => Ok(remove(set, gone)),
         Update::AddRecord(new) => {
-            insert_plain(set, new)?;
-            Ok(false)
+            let was_there = insert_plain(set, new)?;
+            Ok(was_there)
         }
         Update::BeginBatchDelete { .. } => Ok(false),
         Update::BeginBatchAdd { soa, .. } | Update::Finished { soa, .. } => {
@@ -68,7 +80,7 @@ fn fold_one(set: &mut BTreeSet<Keyed>, update: Update) -> Result<bool, NoMemory>
     }
 }
 
-/// What updates do, in order. Tells how many records were to be deleted that weren't there.
+/// What updates do, in order. Tells how many records were to be deleted that weren't there, or added that were.
 pub(crate) fn fold(set: &mut BTreeSet<Keyed>, updates: Vec<Update>) -> Result<u64, NoMemory>
     ensures { IfOk result (Folds set.old.keys updates.items set.new.keys) }
 {

@@ -1,6 +1,7 @@
 //! What holds of records and zones.
 
 ghost use Rattle.zone_records.specs.Folding.{ZonesLaw};
+ghost use Rattle.zone_records.specs.Held.{HeldLaw};
 ghost use Rattle.zone_records.specs.Records.{EqualRecordsLaw};
 ghost use Rattle.zone_records.specs.Transfers.{TransfersLaw};
 
@@ -19,4 +20,10 @@ pub fn transfers_law()
 /// the very list that a transfer of the whole other zone gives.
 pub fn zones_law()
     ensures { ZonesLaw }
+{}
+
+/// A transfer makes a zone of nothing, and of a zone: one SOA, of the apex, and records of one class and of no meta type, whose owners
+/// are the apex or below it.
+pub fn held_law()
+    ensures { HeldLaw }
 {}

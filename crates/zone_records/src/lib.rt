@@ -15,6 +15,7 @@
 #![tactic(auto)]
 
 mod folding;
+mod inside;
 mod interpreter;
 mod keyed;
 mod laws;
@@ -25,7 +26,7 @@ mod record;
 mod zone;
 
 pub use interpreter::{Interpreter, XfrFault};
-pub use laws::{equal_records_law, transfers_law, zones_law};
+pub use laws::{equal_records_law, held_law, transfers_law, zones_law};
 pub use octets::OctetList;
 pub use reading::entry_of;
 pub use record::ZoneRecord;

@@ -1,8 +1,8 @@
 //! A zone, and updates of it.
 
-ghost use Rattle.std.specs.Prelude.{◌≡◌, ◌≢◌, ℕ, [], None, Some, Ok, Err, IfOk, IfErr, OnErr, option_map};
+ghost use Rattle.std.specs.Prelude.{◌≡◌, ◌≢◌, ℕ, [], None, Some, Ok, Err, IfOk, IfErr, OnErr, if◌then◌else◌, option_map};
 ghost use Rattle.std.specs.List.Sorted.{IsStrictlySortedBy};
-ghost use Rattle.zone_records.specs.Folding.{checked, empty_zone, first_wrong, is_met, ok_unless, wrong_serial, Applies, TakesEnd};
+ghost use Rattle.zone_records.specs.Folding.{checked, empty_zone, first_wrong, is_met, is_whole, ok_unless, wrong_serial, Applies, TakesEnd};
 ghost use Rattle.zone_records.specs.Records.{record_cmp};
 ghost use Rattle.zone_records.specs.declared.zone.ApplyFault.TheVariants as applying;
 
@@ -94,6 +94,20 @@ fn take_end(updates: &mut Vec<Update>) -> Option<(u32, ZoneRecord)>
     }
 }
 
+/// Whether the whole zone comes.
+fn is_whole(updates: &[Update]) -> bool
+    ensures { result ≡ is_whole updates.now }
+{
+    matches!(updates.first(), Some(Update::DeleteAllRecords))
+}
+
+/// How many changes did not fit, where so many did not fit if they were changes: a whole zone has none.
+fn misfits_of(whole: bool, missing: u64) -> u64
+    ensures { result ≡ (if whole then 0 else missing) }
+{
+    if whole { 0 } else { missing }
+}
+
 fn wrong_serial(have: Option<u32>, got: u32) -> ApplyFault
     ensures { result ≡ wrong_serial have got }
 {
@@ -145,8 +159,9 @@ impl Zone {
         self.records.as_slice()
     }
 
-    /// Applies updates, and tells how many records were to be deleted and weren't there. Where there are such the updates were
-    /// made for another zone with the same serial (RFC 1995 deletes what is there alone).
+    /// Applies updates, and tells how many records were to be deleted and weren't there, or to be added and were. Where there are
+    /// such the changes were made for another zone with the same serial (RFC 1995 deletes what is there alone, and adds what isn't).
+    /// A whole zone has none.
     ///
     /// A refusal leaves the zone as it was.
     pub fn apply(&mut self, updates: Vec<Update>) -> Result<u64, ApplyFault>
@@ -156,6 +171,7 @@ impl Zone {
     {
         let mut left = updates;
         check_serials(self.serial, left.as_slice())?;
+        let whole = is_whole(left.as_slice());
         let Some((serial, soa)) = take_end(&mut left) else {
             return Err(ApplyFault::Unfinished);
         };
@@ -165,6 +181,6 @@ impl Zone {
         let records = listed(self.alloc, set)?;
         self.serial = Some(serial);
         self.records = records;
-        Ok(missing)
+        Ok(misfits_of(whole, missing))
     }
 }

@@ -22,6 +22,8 @@ use Rattle.zone_reading.specs.declared.steps.State.TheVariants.{Begin, FirstSoa,
 use Rattle.zone_reading.specs.declared.steps.Update.{Update}
 use Rattle.zone_reading.specs.declared.steps.XfrKind.{XfrKind}
 use Rattle.zone_records.proofs.Messages.{sound}
+use Rattle.zone_records.proofs.Zoned.{held}
+use Rattle.zone_records.specs.Records.{is_same}
 use Rattle.zone_records.specs.Folding.{Applies, Zone}
 use Rattle.zone_records.specs.Interpreting.{is_done}
 use Rattle.zone_records.specs.declared.interpreter.XfrFault.TheVariants as xfr
@@ -139,10 +141,10 @@ module _ (s : ReadSoFar) (first : Client) (left most : ℕ) (old new : Scene) wh
 
 -- ---- the zone
 
-done_is : (s : State) → is_done s ≡ true → s ≡ Done
+done_is : (s : State ZoneRecord) → is_done s ≡ true → s ≡ Done
 done_is Begin e = absurd (cc)
-done_is (FirstSoa a) e = absurd (cc)
-done_is (Whole a) e = absurd (cc)
+done_is (FirstSoa a f) e = absurd (cc)
+done_is (Whole a f) e = absurd (cc)
 done_is (Deleting a) e = absurd (cc)
 done_is (Adding a p) e = absurd (cc)
 done_is Done e = refl
@@ -154,16 +156,19 @@ module _ (kind : XfrKind) (words : ℕ → ℕ) (most : ℕ) (old : Zone) (befor
   pub fetched : (new : Zone) (state : ReadSoFar) (missing : ℕ) → Completes (nothing_read old.apex kind) first left state mid after → is_done state.interpreter.state ≡ true → Applies old state.updates new missing
       → IsWithin most state.updates → IsFetched kind words most old new missing before after
   fetched new state missing c d a w =
-      let t = sound old.apex kind (messages_of c.passed.turns ++ c.passed.tail) state.interpreter c.passed.read.more c.passed.read.says (done_is state.interpreter.state d) in
+      let messages = messages_of c.passed.turns ++ c.passed.tail in
+      let t = sound old.apex kind messages state.interpreter c.passed.read.more c.passed.read.says (done_is state.interpreter.state d) in
+      let transfer : IsTransfer is_same kind t.0 state.updates = subst (λ (us : List (Update ZoneRecord)). IsTransfer is_same kind t.0 us) (sym c.passed.read.updates) t.2 in
       record {
         state = state;
         reached = reaches state c.passed;
         ended = c.ends;
         entries = t.0;
         come = t.1;
-        transfer = subst (λ (us : List (Update ZoneRecord)). IsTransfer kind t.0 us) (sym c.passed.read.updates) t.2;
+        transfer = transfer;
         within = w;
         applied = a;
+        zone = λ h. held kind messages t.0 state.updates old new missing t.1 transfer a h;
       }
 
   pub cause_cut : (fault : FetchFault) → IsCut (nothing_read old.apex kind) first left mid after most fault → IsCause kind words most old before after fault

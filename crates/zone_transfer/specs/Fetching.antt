@@ -12,7 +12,9 @@ use Rattle.zone_reading.specs.Readings.{IsTransfer}
 use Rattle.zone_reading.specs.declared.steps.Update.{Update}
 use Rattle.zone_reading.specs.declared.steps.XfrKind.{XfrKind}
 use Rattle.zone_records.specs.Folding.{Applies, Zone, checked}
+use Rattle.zone_records.specs.Held.{AllHeld, IsZone}
 use Rattle.zone_records.specs.Interpreting.{is_done}
+use Rattle.zone_records.specs.Records.{is_same}
 use Rattle.zone_records.specs.Transfers.{Entries, all_entries}
 use Rattle.zone_records.specs.declared.interpreter.XfrFault.TheVariants as xfr
 use Rattle.zone_records.specs.declared.record.ZoneRecord.{ZoneRecord}
@@ -125,16 +127,17 @@ pub record Reaches (kind : XfrKind) (words : ℕ → ℕ) (zone : Zone) (before 
   pub passed : Passes (nothing_read zone.apex kind) first left state mid after
 
 -- The messages that the connection gave of what the edge gave are a transfer of the zone, which ended, and the new zone is what its updates make of
--- the old one. They take no more memory than was allowed.
+-- the old one: a zone, if each record of the old one is one that it may hold. They take no more memory than was allowed.
 pub record IsFetched (kind : XfrKind) (words : ℕ → ℕ) (most : ℕ) (old new : Zone) (missing : ℕ) (before after : Scene) : Type 0 where
   pub state : ReadSoFar
   pub reached : Reaches kind words old before state after
   pub ended : part_of 0 reached.passed.rest ≡ Some (Ok None)
   pub entries : Entries
   pub come : all_entries old.apex (messages_of reached.passed.turns ++ reached.passed.tail) ≡ Some entries
-  pub transfer : IsTransfer kind entries state.updates
+  pub transfer : IsTransfer is_same kind entries state.updates
   pub within : IsWithin most state.updates
   pub applied : Applies old state.updates new missing
+  pub zone : AllHeld old → IsZone new
 
 -- why updates are not applied
 abbrev pub IsUnappliable : Option ℕ → List (Update ZoneRecord) → FetchFault → Type 0

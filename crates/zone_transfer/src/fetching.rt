@@ -19,8 +19,9 @@ use zone_records::{ApplyFault, XfrFault, XfrKind, Zone};
 /// Fetches a zone from server 0 of an edge: whole, or the changes since its serial, in whose place a server may send the whole
 /// zone. The edge is to have learned that server, and no place was opened there before.
 ///
-/// The number is how many records were to be deleted and weren't there: where it isn't 0, the zone was another than the server
-/// knows under its serial. A refusal leaves the zone as it was; the edge is not to be used again then.
+/// The number is how many records were to be deleted and weren't there, or to be added and were: where it isn't 0, the zone was
+/// another than the server knows under its serial. A whole zone has none. A refusal leaves the zone as it was; the edge is not to
+/// be used again then.
 ///
 /// `Connect` where the stream can't be opened, `Transport` where it fails or what comes is no answer, `Refused` where a message
 /// has another response code than 0, `Xfr` where the messages are no transfer or say that there are no changes, `Apply` where

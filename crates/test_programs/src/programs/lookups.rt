@@ -162,12 +162,13 @@ example.com.\t100\tIN\tA\t192.0.2.1
 
 ";
 
-const UNANSWERED: &str = "dns_lookup: no answer: dgram error: connecting failed: connection refused
+const UNANSWERED: &str =
+    "dns_lookup: no answer: dgram error: connecting failed: connection refused; another @SERVER, +tcp or a longer +time= may help
 dns_lookup: 192.0.2.53:53 (UDP): connection refused
 dns_lookup: 192.0.2.53:53 (UDP): connection refused
 ";
 
-const RUNS: [Run; 24] = [
+const RUNS: [Run; 28] = [
     Run {
         words: "@192.0.2.53 example.com A",
         answers: true,
@@ -204,6 +205,34 @@ const RUNS: [Run; 24] = [
         said: UNANSWERED,
     },
     Run {
+        words: "@192.0.2.53 example.com A +noall +answer",
+        answers: true,
+        status: 0,
+        written: "example.com.\t100\tIN\tA\t192.0.2.1\n",
+        said: "",
+    },
+    Run {
+        words: "@192.0.2.53 +noall +answer example.com A +question +noanswer",
+        answers: true,
+        status: 0,
+        written: ";; example.com.\t\tIN\tA\n",
+        said: "",
+    },
+    Run {
+        words: "@192.0.2.53 +short example.com A example.com A +noshort +noall",
+        answers: true,
+        status: 0,
+        written: "192.0.2.1\n",
+        said: "",
+    },
+    Run {
+        words: "@192.0.2.53 -6 example.com A",
+        answers: true,
+        status: 5,
+        written: "",
+        said: "dns_lookup: no answer: no transport available; another @SERVER, +tcp or a longer +time= may help\n",
+    },
+    Run {
         words: "@192.0.2.53 example.com A",
         answers: false,
         status: 5,
@@ -222,7 +251,7 @@ const RUNS: [Run; 24] = [
         answers: true,
         status: 2,
         written: "",
-        said: "dns_lookup: @ns.example names no server, which only an address does; see dns_lookup --help\n",
+        said: "dns_lookup: @ns.example names no server: it is no address, and no name whose address is found; see dns_lookup --help\n",
     },
     Run {
         words: "-p 0 example.com",
@@ -260,11 +289,11 @@ const RUNS: [Run; 24] = [
         said: "dns_lookup: no address stands behind -x; see dns_lookup --help\n",
     },
     Run {
-        words: "-x 192.0.2.1 example.com",
+        words: "example.com A @192.0.2.53 -x 192.0.2.1",
         answers: true,
         status: 2,
         written: "",
-        said: "dns_lookup: example.com is neither a type nor a class, and a name stands before it; see dns_lookup --help\n",
+        said: "dns_lookup: 192.0.2.1 is another name behind a server that stands behind a name, and servers are asked for all names; see dns_lookup --help\n",
     },
     Run {
         words: "example..com",
@@ -295,11 +324,11 @@ const RUNS: [Run; 24] = [
         said: "dns_lookup: @fe80::1%eth0 has a scope behind its %, and no server of one interface alone is asked; see dns_lookup --help\n",
     },
     Run {
-        words: "CH TXT version.bind",
+        words: "NONE TXT version.bind",
         answers: true,
         status: 2,
         written: "",
-        said: "dns_lookup: CH is another class than IN, which alone is asked; see dns_lookup --help\n",
+        said: "dns_lookup: NONE is another class than IN, CH and HS; see dns_lookup --help\n",
     },
     Run {
         words: "-tA IN -q example.com @[192.0.2.53]#53 +SHORT +nodo",
@@ -309,11 +338,11 @@ const RUNS: [Run; 24] = [
         said: "",
     },
     Run {
-        words: "example.com NOTYPE",
+        words: "example.com example.net @192.0.2.53",
         answers: true,
         status: 2,
         written: "",
-        said: "dns_lookup: NOTYPE is neither a type nor a class, and a name stands before it; see dns_lookup --help\n",
+        said: "dns_lookup: @192.0.2.53 names a server behind two names, and servers are asked for all names; see dns_lookup --help\n",
     },
     Run {
         words: "example.com axfr",
@@ -334,7 +363,7 @@ const RUNS: [Run; 24] = [
         answers: true,
         status: 2,
         written: "",
-        said: "dns_lookup: +trace asks for what dig does and dns_lookup does not; see dns_lookup --help\n",
+        said: "dns_lookup: +trace asks for a walk from server to server, and one answer is asked for; see dns_lookup --help\n",
     },
 ];
 

@@ -1,9 +1,8 @@
 //! What a server's peers get and tell.
 
 use crate::listener_books::scenes::{ListServer, Tells, answers, dgrams, server, streams, told_by};
-use client_request::Fault;
+use client_request::{FIRST_STREAM, Fault};
 use dns_values::NoMemory;
-use listener_peers::FIRST_STREAM;
 use socket_places::Answer;
 use std::alloc::Global;
 

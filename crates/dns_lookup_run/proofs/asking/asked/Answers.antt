@@ -5,7 +5,7 @@ use Rattle.dns_lookup_run.proofs.asking.asked.Goals as goal
 
 pub returns-in-Ok-clause-answered : goal.returns-in-Ok-clause-answered
 returns-in-Ok-clause-answered g c =
-    gave c.args.lookup.now c.args.rtype c.args.number c.in-Ok.answer
+    gave c.args.ask.now c.args.number c.in-Ok.answer
     (scene c.args.client.now (g.A.Asks.stream c.args.words.now) (g.E.Edge.deeds c.args.edge.now.edge) (g.E.Edge.waits c.args.edge.now.edge) (g.E.Edge.polls c.args.edge.now.edge) (g.C.Clock.given c.args.clock.now.clock))
     (scene c.ask.new.client (g.A.Asks.stream c.ask.new.self) (g.E.Edge.deeds c.ask.new.edge.edge) (g.E.Edge.waits c.ask.new.edge.edge) (g.E.Edge.polls c.ask.new.edge.edge) (g.C.Clock.given c.ask.new.clock.clock))
     c.in_ok-request.request c.in_ok-request.ensures.made
@@ -14,7 +14,7 @@ returns-in-Ok-clause-answered g c =
 
 pub returns-in-Ok-clause-made : goal.returns-in-Ok-clause-made
 returns-in-Ok-clause-made g c =
-    gave_and c.args.lookup.now c.args.rtype c.args.number c.in-Ok.answer
+    gave_and c.args.ask.now c.args.number c.in-Ok.answer
     (scene c.args.client.now (g.A.Asks.stream c.args.words.now) (g.E.Edge.deeds c.args.edge.now.edge) (g.E.Edge.waits c.args.edge.now.edge) (g.E.Edge.polls c.args.edge.now.edge) (g.C.Clock.given c.args.clock.now.clock))
     (scene c.ask.new.client (g.A.Asks.stream c.ask.new.self) (g.E.Edge.deeds c.ask.new.edge.edge) (g.E.Edge.waits c.ask.new.edge.edge) (g.E.Edge.polls c.ask.new.edge.edge) (g.C.Clock.given c.ask.new.clock.clock))
     c.in_ok-request.request c.in_ok-request.ensures.made
@@ -23,7 +23,7 @@ returns-in-Ok-clause-made g c =
 
 pub returns-in-Err-clause-numbers : goal.returns-in-Err-clause-numbers
 returns-in-Err-clause-numbers g c = λ is.
-    stopped c.args.lookup.now c.args.rtype
+    stopped c.args.ask.now
     (scene c.args.client.now (g.A.Asks.stream c.args.words.now) (g.E.Edge.deeds c.args.edge.now.edge) (g.E.Edge.waits c.args.edge.now.edge) (g.E.Edge.polls c.args.edge.now.edge) (g.C.Clock.given c.args.clock.now.clock))
     (scene c.ask.new.client (g.A.Asks.stream c.ask.new.self) (g.E.Edge.deeds c.ask.new.edge.edge) (g.E.Edge.waits c.ask.new.edge.edge) (g.E.Edge.polls c.ask.new.edge.edge) (g.C.Clock.given c.ask.new.clock.clock))
     c.in_ok-request.request c.in_ok-request.ensures.made

@@ -6,7 +6,7 @@ use Rattle.dns_record.specs.declared.recorder.Ahead.{Ahead}
 use Rattle.dns_lookup_run.specs.Recorded.{AskedEnd}
 use Rattle.dns_lookup_run.specs.Worlds.{world}
 use Rattle.dns_lookup_run.specs.declared.recorded.Recorded.{Recorded}
-use Rattle.dns_lookup_run.proofs.Records.{asked_end, asking_flushed, not_eight, refused_end, refused_status, told_flushed, told_only, with_ahead}
+use Rattle.dns_lookup_run.proofs.Records.{asked_end, asking_flushed, not_eight, refused_end, refused_status, told_done, told_flushed, told_only, with_ahead}
 use Rattle.dns_lookup_run.proofs.recorded.ask_recorded.Goals as goal
 
 pub returns-in-Err-clause-ends : goal.returns-in-Err-clause-ends
@@ -42,7 +42,7 @@ pub returns-in-Err-clause-statuses : goal.returns-in-Err-clause-statuses
 returns-in-Err-clause-statuses g c = rw c.without.ensures (refused_status c.tell_unrecorded.result.0 c.tell_unrecorded.ensures.status)
 
 pub returns-in-Err-clause-flushed : goal.returns-in-Err-clause-flushed
-returns-in-Err-clause-flushed g c = rw c.without.ensures (told_only c.tell_unrecorded.result.0 8 0 _ c.tell_unrecorded.ensures.status (λ h. omega arith) (λ h. omega arith))
+returns-in-Err-clause-flushed g c = rw c.without.ensures (told_done c.tell_unrecorded.result.0 _ c.tell_unrecorded.ensures.status)
 
 pub returns-in-Err-clause-sink_fault : goal.returns-in-Err-clause-sink_fault
 returns-in-Err-clause-sink_fault g c = rw c.without.ensures (told_only c.tell_unrecorded.result.0 8 4 _ c.tell_unrecorded.ensures.status (λ h. omega arith) (λ h. omega arith))

@@ -10,5 +10,5 @@ returns-in-DeleteRecord c =
 
 pub returns-in-AddRecord : goal.returns-in-AddRecord
 returns-in-AddRecord c =
-    subst (λ u. FoldsOne c.args.set.now.keys u c.insert_plain.new.set.keys _) (sym c.in-AddRecord.is)
-    (added c.args.set.now.keys c.insert_plain.new.set.keys c.in-AddRecord.new c.in_ok-insert_plain-in-AddRecord.ensures)
+    subst (λ u. FoldsOne c.args.set.now.keys u c.insert_plain.new.set.keys c.in_ok-was_there-in-AddRecord.was_there) (sym c.in-AddRecord.is)
+    (added c.args.set.now.keys c.insert_plain.new.set.keys c.in-AddRecord.new c.in_ok-was_there-in-AddRecord.was_there c.in_ok-was_there-in-AddRecord.ensures.added c.in_ok-was_there-in-AddRecord.ensures.told)

@@ -11,7 +11,7 @@ returns-in-Ok-clause-begun g c =
     let ok = c.in_ok-text.text.ok in
     let size = c.len-in-Ok.ensures in
     let count = c.len.ensures in
-    let short = c.if-len-gt-MOST_OCTETS.false in
+    let short = c.if-len-gt-MOST_TEXT.false in
     begins c.args.conf.now c.args.choice c.args.cache.now (drawn c.args.ahead.count (g.W.Words.stream c.args.words.now)) c.in_ok-list.list c.new.result.items (g.K.Sink.held c.args.sink.now) (g.K.Sink.held c.write_all.new.sink) c.in_ok-text.text.items c.len-in-Ok.result
     c.in_ok-check.ensures.told c.in_ok-list.ensures.list c.new.ensures c.head_is_in_range.ensures.addresses c.head_is_in_range.ensures.timeout (subst AreWordsInRange c.as_slice.ensures c.head_is_in_range.ensures.words)
     (c.in_ok-text.ensures ∙ ap (λ ws. head_text c.args.conf.now c.args.choice c.args.cache.now ws) c.as_slice-2.ensures)

@@ -1,0 +1,9 @@
+use Rattle.std.proofs.Common.{◌≡◌, ◌+◌, ◌≤◌, drop}
+use Rattle.dns_lookup_run.specs.Reports.{tries_of}
+use Rattle.dns_lookup_run.proofs.reports.tries_of.Given as goal
+
+abbrev pub invariant-loop-one : goal.invariant-loop-one
+invariant-loop-one l = record {
+  counted : l.tries + tries_of l.server (drop l.one-index l.opened) ≡ tries_of l.server l.opened;
+  few : l.tries ≤ l.one-index;
+}

@@ -1,0 +1,12 @@
+pub mod Tables
+pub mod Keeping
+pub mod Waits
+pub mod Streams
+pub mod Paying
+pub mod Histories
+pub mod Rows
+pub mod Forwarded
+pub mod Forging
+pub mod Worked
+pub mod Sizes
+pub mod Bounds

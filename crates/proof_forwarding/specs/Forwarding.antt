@@ -1,0 +1,22 @@
+-- What a forwarder over the project's client does for those who ask it, of traces alone.
+use Rattle.std.specs.Prelude.{ℕ, ◌≤◌, List, [], ◌∷◌, Option, None}
+use Rattle.client_request.specs.declared.event.Row.{Row}
+use Rattle.client_settings.specs.Settings.{CacheSettings, RedundantSettings, seconds}
+use Rattle.client_steps.specs.Whole.{Whole, started}
+use Rattle.front_core.specs.Forwarded.{Forwards}
+use Rattle.front_peers.specs.declared.event.FrontRow.{FrontRow}
+use Rattle.front_queries.specs.Query.{Query}
+use Rattle.front_steps.specs.Steps.{Forwarding, beginning}
+use Rattle.proof_client.specs.Above.{AreWords}
+use Rattle.proof_forwarding.specs.Serving.{ServesAll}
+use Rattle.resolv_conf.specs.declared.conf.ResolvConf.{ResolvConf}
+
+-- the forwarder answers no query by itself
+abbrev pub by_itself : Query → Option (List ℕ)
+by_itself query = None
+
+-- Whatever comes of peers and of servers: each answer of a forwarder pays one thing that it owes to that very peer, a query or its refusal, and nothing is owed for as long as the timeout.
+abbrev pub EveryQueryIsServed : Type 0
+EveryQueryIsServed = (redundant : RedundantSettings) (cache : CacheSettings) (conf : ResolvConf) (words : ℕ → ℕ) (rows : List FrontRow) (trace : List Row) (last : Forwarding Whole) (left : ℕ → ℕ)
+    → Forwards (beginning (started redundant cache conf)) words rows trace last left → cache.max_validity ≤ seconds 6048000 → AreWords words
+    → ServesAll conf.options.timeout by_itself rows (trace ∷ [])

@@ -1,0 +1,8 @@
+pub mod Heard
+pub mod Owing
+pub mod Serving
+pub mod Forwarding
+pub mod Forging
+pub mod Worked
+pub mod Sizes
+pub mod Bounds
