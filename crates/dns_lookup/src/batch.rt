@@ -72,23 +72,17 @@ fn push_file<O: OpenFile + Source>(
     }
 }
 
-/// The name of the file that the first of these words names, or the first two, and how many that is.
-fn file_in<'a>(place: Place, words: &'a [String]) -> Option<(&'a str, usize)> {
-    if !place.is_free() {
-        return None;
-    }
-    match words {
-        [option, name, ..] if option.as_str() == "-f" => Some((name.as_str(), 2)),
-        [option, ..] => match option.as_str().strip_prefix("-f") {
-            Some(name) if !name.is_empty() => Some((name, 1)),
-            _ => None,
-        },
-        [] => None,
+/// What stands behind the `-f` that a word begins with: the name of a file, or nothing where the next word names it.
+fn file_in(place: Place, word: &str) -> Option<&str> {
+    if place.is_free() {
+        word.strip_prefix("-f")
+    } else {
+        None
     }
 }
 
 /// The words, and behind them those of the files that `-f FILE` and `-fFILE` name, which stand there no more. Behind `--`, and where
-/// the value of an option is due, a word stands for itself.
+/// the value of an option is due, a word stands for itself, and so does a `-f` behind which no word stands.
 pub fn with_files<O: OpenFile + Source>(
     alloc: Global,
     opener: &mut O,
@@ -97,19 +91,25 @@ pub fn with_files<O: OpenFile + Source>(
     let mut all = Vec::new(alloc);
     let mut filed = Vec::new(alloc);
     let mut place = Place::FIRST;
-    let mut is_skipped = false;
-    let mut rest = words;
-    while let Some((word, behind)) = rest.split_first() {
-        if is_skipped {
-            is_skipped = false;
-        } else if let Some((name, count)) = file_in(place, rest) {
-            push_file(alloc, opener, name, &mut filed)?;
-            is_skipped = count == 2;
-        } else {
-            place = place.behind(word.as_str());
-            push_word(alloc, &mut all, word.as_str())?;
+    let mut is_name_due = false;
+    for word in words {
+        let word = word.as_str();
+        if is_name_due {
+            push_file(alloc, opener, word, &mut filed)?;
+            is_name_due = false;
+            continue;
         }
-        rest = behind;
+        match file_in(place, word) {
+            Some("") => is_name_due = true,
+            Some(name) => push_file(alloc, opener, name, &mut filed)?,
+            None => {
+                push_word(alloc, &mut all, word)?;
+                place = place.behind(word);
+            }
+        }
+    }
+    if is_name_due {
+        push_word(alloc, &mut all, "-f")?;
     }
     for word in &filed {
         push_word(alloc, &mut all, word.as_str())?;

@@ -25,8 +25,9 @@ stands not here is refused by a sentence that says what is not there.
 
 Servers:
   --record FILE   write what the client saw as a script that replays; it stands first
-  @SERVER         ask this server: an address, IPv4 or IPv6, in brackets or not, or localhost. Several are asked one after another where
-                  one does not serve, and without one those of /etc/resolv.conf are. Behind # may stand the port of all
+  @SERVER         ask this server: an address, IPv4 or IPv6, in brackets or not, or a name, whose addresses are asked for first. Several
+                  are asked one after another where one does not serve, and without one those of /etc/resolv.conf are. Behind # may
+                  stand the port of all
   -p PORT         ask every server at this port, from 1 to 65535
   -4, -6          ask at addresses of IPv4 alone, or of IPv6
   +tcp, +vc       ask by streams alone
@@ -66,7 +67,7 @@ of all names, and stand before a second one. The first request without an answer
 Exit status:
   0   each answer was written whole, whatever its response code
   2   the words are no lookup
-  3   the configuration could not be read, or is too long
+  3   the configuration, or the file of -f, could not be read, or is too long
   4   standard output failed
   5   no answer: an error, or none in time
   6   memory ran out, no random words could be had, or few words of a record are left
