@@ -18,6 +18,10 @@ LIES = [
     ("trusted_lines.py", "crates/dns_names/src/lib.rt", "#![tactic(auto)]\n", "#![tactic(auto)]\n\nuse std::fs;\n", "reaches the system"),
     ("trusted_lines.py", "crates/dns_values/src/octets.rt", "use std::marker::Model;\n", "use std::marker::Model;\nuse libc::net::poll;\n", "stands in no list"),
     ("trusted_lines.py", "README.md", "`worker_edge`, all of it", "all of it", "doesn't name `worker_edge`"),
+    ("bodies.py", "tests/wrong_bodies/dns_base/ignores_ixfr.edit", "# an incremental transfer", "# a transfer", "is not what the edits say"),
+    ("bodies.py", "tests/wrong_bodies/dns_base/ignores_ixfr.edit", "# refused: ", "# ", "do not say what it does"),
+    ("bodies.py", "tests/wrong_bodies/dns_base/ignores_ixfr.edit", "old: ", "old: no such ", "stands 0 times"),
+    ("bodies.py", "docs/WRONG_BODIES.md", "| `trace_judge` | `always_right` |", "| `trace_judge` | `never_right` |", "not in the gate"),
     ("documented.py", "README.md", "| 135 ns |", "| 1885 ns |", "the figure 1885"),
     ("documented.py", "docs/SCRIPTS.md", "| `opened", "| `openned", "openned"),
 ]
@@ -33,7 +37,7 @@ def main():
     with tempfile.TemporaryDirectory() as room:
         top = pathlib.Path(room) / "copy"
         for part in ("tests", "docs", "crates"):
-            shutil.copytree(TOP / part, top / part, ignore=shutil.ignore_patterns("out", "proofs", "wrong_bodies", "__pycache__"))
+            shutil.copytree(TOP / part, top / part, ignore=shutil.ignore_patterns("out", "proofs", "__pycache__"))
         shutil.copy(TOP / "README.md", top)
         for check in sorted({lie[0] for lie in LIES}):
             if asked(top, check)[0]:

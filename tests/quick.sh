@@ -91,7 +91,7 @@ check "the handles" handles
 check "paths in documents" documents
 check "commands in documents, and scripts" commands
 check "the length of clauses" python3 tests/long_clauses.py
-check "the list of wrong bodies" python3 tests/listed_bodies.py
+check "the list of wrong bodies" python3 tests/bodies.py
 check "names and statuses in documents" python3 tests/documented.py
 check "the pictures of traces" python3 tests/pictures.py
 check "the trusted lines" python3 tests/trusted_lines.py
