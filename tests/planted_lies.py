@@ -3,7 +3,7 @@
 
 usage: python3 tests/planted_lies.py
 
-Each row: the check, the file, what is put in place of what, and a part of the sentence that must be said. Status 1 where a check finds
+Each row: the check with its words, the file, what is put in place of what, and a part of the sentence that must be said. Status 1 where a check finds
 something before the lie stands, or doesn't find it.
 """
 
@@ -22,13 +22,18 @@ LIES = [
     ("bodies.py", "tests/wrong_bodies/dns_base/ignores_ixfr.edit", "# refused: ", "# ", "do not say what it does"),
     ("bodies.py", "tests/wrong_bodies/dns_base/ignores_ixfr.edit", "old: ", "old: no such ", "stands 0 times"),
     ("bodies.py", "docs/WRONG_BODIES.md", "| `trace_judge` | `always_right` |", "| `trace_judge` | `never_right` |", "not in the gate"),
+    ("tools/crates --check", "docs/CRATES.md", "**`dns_names`**", "**`dns_name`**", "is not what the crates say"),
+    ("tools/crates --check", "crates/dns_names/src/lib.rt", "//! Domain names", "//! Names", "is not what the crates say"),
+    ("tools/crates --check", "crates.txt", "dns_names: dns_values", "dns_names:", "is not what the crates say"),
     ("documented.py", "README.md", "| 135 ns |", "| 1885 ns |", "the figure 1885"),
     ("documented.py", "docs/SCRIPTS.md", "| `opened", "| `openned", "openned"),
 ]
 
 
 def asked(top, check):
-    ran = subprocess.run([sys.executable, str(top / "tests" / check)], capture_output=True, text=True, check=False)
+    name, *words = check.split()
+    path = top / name if "/" in name else top / "tests" / name
+    ran = subprocess.run([sys.executable, str(path), *words], capture_output=True, text=True, check=False)
     return ran.returncode, ran.stdout
 
 
@@ -36,9 +41,10 @@ def main():
     faults = []
     with tempfile.TemporaryDirectory() as room:
         top = pathlib.Path(room) / "copy"
-        for part in ("tests", "docs", "crates"):
+        for part in ("tests", "docs", "crates", "tools", "bench"):
             shutil.copytree(TOP / part, top / part, ignore=shutil.ignore_patterns("out", "proofs", "__pycache__"))
-        shutil.copy(TOP / "README.md", top)
+        for name in ("README.md", "crates.txt"):
+            shutil.copy(TOP / name, top)
         for check in sorted({lie[0] for lie in LIES}):
             if asked(top, check)[0]:
                 faults.append(f"{check} finds something before any lie stands")

@@ -96,6 +96,7 @@ check "names and statuses in documents" python3 tests/documented.py
 check "the pictures of traces" python3 tests/pictures.py
 check "the trusted lines" python3 tests/trusted_lines.py
 check "the crates that are cited" python3 tests/cited_crates.py
+check "the list of crates" tools/crates --check
 check "the rows that were tests" python3 tests/rows_of_tests.py
 check "lies that are planted" python3 tests/planted_lies.py
 check "man pages" pages
