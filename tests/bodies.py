@@ -2,7 +2,7 @@
 
 usage: python3 tests/bodies.py [--write]
 
-An edit begins with two lines, `# WHAT IT DOES` and `# refused: WHERE`, which no reader of edits but this one takes. Each `old:` text of it
+An edit begins with two lines, `# what it does` and `# refused: where`, which no reader of edits but this one takes. Each `old:` text of it
 stands once in its file, as the earlier pairs left it. The list is made of these lines; --write writes it anew. An edit in a crate's
 `must-fail`, which the gate tries, has its two lines in the table of docs/WRONG_BODIES.md in place of them; a crate has five such at most.
 """

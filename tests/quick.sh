@@ -98,6 +98,7 @@ check "the trusted lines" python3 tests/trusted_lines.py
 check "the crates that are cited" python3 tests/cited_crates.py
 check "the list of crates" tools/crates --check
 check "the rows that were tests" python3 tests/rows_of_tests.py
+check "the rules of the house" python3 tests/house.py
 check "lies that are planted" python3 tests/planted_lies.py
 check "man pages" pages
 check "units for systemd" units
