@@ -26,7 +26,7 @@ said greatest n word e =
     let is = cond_some (is_decimal greatest word) (digits_value 10 word) n e in
     let parts = and_parts (nat_lt 0 (length word)) (all_ascii_digits word && nat_le (digits_value 10 word) greatest) is.0 in
     let behind = and_parts (all_ascii_digits word) (nat_le (digits_value 10 word) greatest) parts.1 in
-    (ltb-true _ _ parts.0, behind.0, is.1, rw is.1 (leb-true _ _ behind.1))
+    (ltb-true _ _ parts.0, behind.0, is.1, rw (sym is.1) (leb-true _ _ behind.1))
 
 no_leading_zero : (word : List ℕ) → 0 < length word → (nat_lt 1 (length word) && slice_index word 0 == 48) ≡ false → get_or word 0 0 ≡ 48 → length word ≡ 1
 no_leading_zero word some e zero =

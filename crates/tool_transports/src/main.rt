@@ -14,6 +14,7 @@ mod lets;
 mod lines;
 mod making;
 mod memory;
+mod poor;
 mod reading;
 mod resolving;
 mod saying;
