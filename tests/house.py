@@ -14,6 +14,7 @@ tests/house.txt has what breaks them today, a line for each, and each number may
 doesn't have is added by hand, where a reader sees it. Status 1 where a rule is broken.
 """
 
+import os
 import pathlib
 import re
 import sys
@@ -60,21 +61,29 @@ def long_lines():
             yield f"{kind} {name}", len(numbers), f"{name}: {len(numbers)} lines ({kind}) over {LONGEST} characters, as line {numbers[-1]}"
 
 
+def sources():
+    """Each file whose words are names; what was built from them is passed by."""
+    for part in SOURCES:
+        if (TOP / part).is_file():
+            yield TOP / part
+        for folder, folders, names in os.walk(TOP / part):
+            folders[:] = [it for it in folders if it not in ("out", "__pycache__")]
+            for path in (pathlib.Path(folder) / name for name in names):
+                if path.suffix not in (".svg", ".md") and path not in APART:
+                    yield path
+
+
 def known_words():
     """Each word of the sources and of files' names, with the files that have it."""
     found = {}
-    for part in SOURCES:
-        paths = [TOP / part] if (TOP / part).is_file() else sorted((TOP / part).rglob("*"))
-        for path in paths:
-            if not path.is_file() or {"out", "__pycache__"} & set(path.relative_to(TOP).parts) or path.suffix in (".svg", ".md") or path in APART:
-                continue
-            name = str(path.relative_to(TOP))
-            try:
-                text = name if path.suffix == ".edit" else f"{name}\n{read(path)}"
-            except UnicodeDecodeError:
-                text = name
-            for word in set(WORD.findall(text)):
-                found.setdefault(word, set()).add(name)
+    for path in sources():
+        name = str(path.relative_to(TOP))
+        try:
+            text = name if path.suffix == ".edit" else f"{name}\n{read(path)}"
+        except UnicodeDecodeError:
+            text = name
+        for word in set(WORD.findall(text)):
+            found.setdefault(word, set()).add(name)
     return found
 
 
