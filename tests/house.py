@@ -102,7 +102,8 @@ def unknown_names():
 
 def lost_files():
     """Each file that the rules of docs/MAP.md name and that is not there."""
-    rows = read(TOP / "docs/MAP.md").partition(RULES)[2].partition("\n\n")[0].splitlines()[2:]
+    tables = read(TOP / "docs/MAP.md").split(RULES)[1:]
+    rows = [row for table in tables for row in table.partition("\n\n")[0].splitlines()[2:]]
     if not rows:
         yield "", 1, f"docs/MAP.md: there is no table `{RULES}`"
     for row in rows:
