@@ -1,8 +1,7 @@
 //! What two requests share where one result may serve both.
 
-ghost use Rattle.std.specs.Prelude.{◌≡◌, ◌==◌, ◌≤◌, length, map, IfOk};
+ghost use Rattle.std.specs.Prelude.{◌≡◌, ◌==◌, IfOk};
 ghost use Rattle.std.specs.Cmp.Lexicographic.{pointwise};
-ghost use Rattle.std.specs.Char.{to_ascii_lowercase};
 ghost use Rattle.dns_names.specs.Name.{lowered, spelling};
 ghost use Rattle.right_trace.specs.Keys as keys;
 ghost use Rattle.cache_rules.specs.Key.{flag_class, class_in, class_number, key_asking, key_in, same_key, same_key_laws, same_key_partly, key_octets, key_hash, same_key_hash};
@@ -56,9 +55,19 @@ pub fn is_signing(rtype: Rtype) -> bool
     rtype == Rtype::RRSIG || rtype == Rtype::NSEC || rtype == Rtype::NSEC3
 }
 
+/// The name of a question in lower case.
+fn name_in_lower_case(alloc: Global, question: &Question<'_>) -> Result<Name, NoMemory>
+    ensures { IfOk result (λ name. name ≡ lowered question.now.name) }
+{
+    let mut name = question.qname().to_name(alloc)?;
+    name.lower();
+    Ok(name)
+}
+
 /// What is asked, as far as a result depends on it. Two keys are the same but for the case of names.
 #[derive(Debug, Drop)]
 pub struct Key {
+    /// In lower case, so that keys are compared and hashed by their octets.
     qname: Name,
     qclass: Class,
     qtype: Rtype,
@@ -71,13 +80,15 @@ impl Model for Key {
     ghost Value = { keys.Key };
 
     ghost view = { λ k. record {
-      name = lowered k.qname;
+      name = k.qname;
       rtype = k.qtype.0;
       class = k.qclass.0;
       flags = flag_class k.addo;
       cd = k.cd;
       rd = k.rd;
     } };
+
+    ghost invariant = { λ k. lowered k.qname ≡ k.qname };
 }
 
 impl Key {
@@ -96,6 +107,7 @@ impl Key {
 
     /// The key of a request for this question, with this header and this DO. None exactly where its results are not
     /// kept: its opcode is not QUERY, or there is no question of class IN.
+    #[tactic(auto, using(crate::proofs::LowerNames::lowered_low))]
     pub fn asking(
         alloc: Global,
         question: Option<Question<'_>>,
@@ -113,9 +125,8 @@ impl Key {
         if question.qclass() != Class::IN {
             return Ok(None);
         }
-        let qname = question.qname().to_name(alloc)?;
         Ok(Some(Key {
-            qname,
+            qname: name_in_lower_case(alloc, &question)?,
             qclass: question.qclass(),
             qtype: question.qtype(),
             addo: AdDo::of(header, dnssec_ok),
@@ -124,9 +135,10 @@ impl Key {
         }))
     }
 
-    /// The name that is asked for, as the request spells it.
+    /// The name that is asked for, in lower case.
     pub fn qname(&self) -> &Name
-        ensures { lowered result.now ≡ self.now.name }
+        ensures name { result.now ≡ self.now.name }
+        ensures lower_case { lowered result.now ≡ self.now.name }
     {
         &self.qname
     }
@@ -207,45 +219,12 @@ impl Key {
     }
 }
 
-/// Hashes octets in lower case, which are written to a room.
-fn hash_lower_in<H: Hasher>(room: &mut [u8], octets: &[u8], state: &mut H)
-    requires { length octets.now ≤ length room.old }
-    ensures { state.new ≡ H.write state.old (map to_ascii_lowercase octets.now) }
-{
-    let lower = &mut room[..octets.len()];
-    lower.copy_from_slice(octets);
-    lower.make_ascii_lowercase();
-    state.write(lower);
-}
-
-/// Most names take no more octets: a room of 255 costs more to clear than such a name to hash.
-const USUAL_NAME: usize = 48;
-
-/// Hashes octets in lower case.
-fn hash_lower<H: Hasher>(octets: &[u8], state: &mut H)
-    requires { length octets.now ≤ 255 }
-    ensures { state.new ≡ H.write state.old (map to_ascii_lowercase octets.now) }
-{
-    if octets.len() <= USUAL_NAME {
-        hash_lower_in(&mut [0; USUAL_NAME], octets, state);
-    } else {
-        hash_lower_in(&mut [0; 255], octets, state);
-    }
-}
-
-/// Hashes a name in lower case, as it is spelled in a message.
-#[tactic(auto, using(crate::proofs::LowerNames::spelled_in_lower_case, crate::proofs::LowerNames::spelled_short))]
-fn hash_name<H: Hasher>(name: &Name, state: &mut H)
-    ensures { state.new ≡ H.write state.old (spelling (lowered name.now)) }
-{
-    hash_lower(name.as_octets(), state);
-}
-
-/// Whether two names are the same but for case, by their octets: the counts of labels are no letters.
+/// Whether two names have the same octets.
+#[tactic(auto, using(crate::proofs::LowerNames::same_octets))]
 fn is_spelled_alike(first: &Name, second: &Name) -> bool
-    ensures { result ≡ pointwise (pointwise ◌==◌) (lowered first.now) (lowered second.now) }
+    ensures { result ≡ pointwise (pointwise ◌==◌) first.now second.now }
 {
-    first.as_octets().eq_ignore_ascii_case(second.as_octets())
+    first.as_octets() == second.as_octets()
 }
 
 impl PartialEq for Key {
@@ -274,6 +253,6 @@ impl Hash for Key {
 
     fn hash<H: Hasher>(&self, state: &mut H) {
         state.write(&self.to_octets());
-        hash_name(&self.qname, state);
+        state.write(self.qname.as_octets());
     }
 }
