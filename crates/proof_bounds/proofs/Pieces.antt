@@ -156,7 +156,7 @@ module _ (moment : ℕ) (peer : ℕ) (first second : List ℕ) (before : Streams
   ends None is drop = refl
   ends (Some t) is drop = here_ends t is drop
 
-  cut_in_two : EventIsCut moment peer first second before
+  pub cut_in_two : EventIsCut moment peer first second before
   cut_in_two = record { goes_on = goes_on (entry_at peer s.streams) refl; ends = ends (entry_at peer s.streams) refl }
 
 pub every_event_may_be_cut : EveryEventMayBeCut

@@ -1,6 +1,6 @@
 -- The worked rows and posts.
 use Rattle.std.proofs.Common.{◌≡◌, ℕ, ◌≤◌, ◌<◌, List, [], ◌∷◌, length, Bool, true, false, refl, ap, arith}
-use Rattle.std.specs.Prelude.{◌==◌, if◌then◌else◌}
+use Rattle.std.specs.Prelude.{◌==◌, ◌^◌, if◌then◌else◌}
 use Rattle.dns_values.specs.declared.address.SocketAddr.{SocketAddr}
 use Rattle.front_peers.specs.Items.{is_stream, of_frames}
 use Rattle.front_peers.specs.declared.event.FrontOut.TheVariants.{Answer}
@@ -10,7 +10,8 @@ use Rattle.listener_peers.specs.declared.listener.Letter.{Letter}
 use Rattle.right_trace.specs.Time.{one_if}
 use Rattle.proof_bounds.specs.Bounds.{AnswersAreEarned}
 use Rattle.proof_bounds.specs.Cuts.{of_octets}
-use Rattle.proof_bounds.specs.Worked.{WorkedBounds, WorkedCut, WorkedEarning, WorkedPosts, at}
+use Rattle.proof_bounds.specs.Worked.{WorkedBounds, WorkedCut, WorkedEarning, WorkedEvent, WorkedPosts, at, half}
+use Rattle.proof_bounds.proofs.Pieces.{cut_in_two}
 use Rattle.proof_bounds.proofs.Weighing.{is_same}
 use Rattle.socket_places.specs.declared.socket.Answer.{Answer as Told}
 
@@ -57,5 +58,8 @@ posts is door letter answer octets = record {
   twice = λ so le. (let one : one_if (is letter.from) ≡ 1 = ap one_if so in omega arith);
 }
 
+event : WorkedEvent
+event = record { is_cut = cut_in_two 5 (2 ^ 62) [] (0 ∷ []) half ((tt, tt), omega arith, omega arith); whole = refl; first = refl }
+
 pub worked : WorkedBounds
-worked = record { earning = earning; cut = cut; posts = posts }
+worked = record { event = event; earning = earning; cut = cut; posts = posts }

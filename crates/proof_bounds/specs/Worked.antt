@@ -1,8 +1,8 @@
 -- Worked rows and posts that are within the bounds, and some that are refused.
-use Rattle.std.specs.Prelude.{◌≡◌, ℕ, ◌<◌, true, Bool, List, [], ◌∷◌, length, Some}
+use Rattle.std.specs.Prelude.{◌≡◌, ℕ, ◌<◌, true, Bool, List, [], ◌∷◌, length, ◌^◌, Some}
 use Rattle.client_request.specs.declared.event.What.TheVariants.{Tick}
 use Rattle.dns_values.specs.declared.address.SocketAddr.{SocketAddr}
-use Rattle.front_peers.specs.Items.{is_stream, of_frames}
+use Rattle.front_peers.specs.Items.{Streams, is_stream, of_frames, takes}
 use Rattle.front_peers.specs.declared.event.FrontOut.{FrontOut}
 use Rattle.front_peers.specs.declared.event.FrontOut.TheVariants.{Answer}
 use Rattle.front_peers.specs.declared.event.FrontRow.{FrontRow}
@@ -14,7 +14,7 @@ use Rattle.listener_peers.specs.declared.listener.Letter.{Letter}
 use Rattle.listener_peers.specs.declared.listener.Post.{Post}
 use Rattle.listener_peers.specs.declared.listener.Post.TheVariants.{Came, Went}
 use Rattle.proof_bounds.specs.Bounds.{AnswersAreEarned}
-use Rattle.proof_bounds.specs.Cuts.{of_octets, then_more}
+use Rattle.proof_bounds.specs.Cuts.{EventIsCut, bytes_at, of_octets, then_more}
 use Rattle.proof_bounds.specs.Posts.{SendsNoMore}
 use Rattle.socket_places.specs.declared.socket.Answer.{Answer as Told}
 use Rattle.socket_places.specs.declared.socket.Answer.TheVariants.{Done}
@@ -50,7 +50,17 @@ pub record WorkedPosts (is : SocketAddr → Bool) (door : DgramDoor) (letter : L
   pub unasked : is letter.from ≡ true → SendsNoMore is (telling (Went letter.from octets answer ∷ []) door) → ⊥
   pub twice : is letter.from ≡ true → SendsNoMore is (telling (Came (Done letter) ∷ Went letter.from octets answer ∷ Went letter.from octets answer ∷ []) door) → ⊥
 
+-- A stream keeps the first octet of a length. One more completes a message of no octet, which drops it, in one event as in two at one moment.
+abbrev pub half : Streams
+half = record { streams = (2 ^ 62, record { framer = 0 ∷ []; heard = 0 }) ∷ []; last = Some (2 ^ 62); moment = 0 }
+
+pub record WorkedEvent : Type 0 where
+  pub is_cut : EventIsCut 5 (2 ^ 62) [] (0 ∷ []) half
+  pub whole : (takes (bytes_at 5 (2 ^ 62) (0 ∷ [])) half).0 ≡ Drops (2 ^ 62) ∷ []
+  pub first : (takes (bytes_at 5 (2 ^ 62) []) half).0 ≡ []
+
 pub record WorkedBounds : Type 0 where
+  pub event : WorkedEvent
   pub earning : (octets sent : List ℕ) → WorkedEarning octets sent
   pub cut : (peer : ℕ) → WorkedCut peer
   pub posts : (is : SocketAddr → Bool) (door : DgramDoor) (letter : Letter) (answer : Told ℕ) (octets : List ℕ) → WorkedPosts is door letter answer octets
