@@ -6,7 +6,6 @@ use Rattle.std.specs.Str.{bytes_eq, str_eq_ignore_ascii_case}
 use Rattle.std.specs.String.{string_bytes}
 use Rattle.std.specs.declared.alloc.Global.{Global}
 use Rattle.dns_names.specs.Name.{Labels}
-use Rattle.dns_names.specs.Reverse.{reverse_labels}
 use Rattle.dns_names.specs.Text.{name_of_text}
 use Rattle.dns_values.specs.Address.{IsAddressText}
 use Rattle.dns_values.specs.NumberNames.{begins_with, class_of_text}
@@ -16,6 +15,7 @@ use Rattle.dns_values.specs.declared.numbers.Rtype.{Rtype}
 use Rattle.resolv_conf.specs.Number.{number_of}
 use Rattle.dns_lookup_words.specs.Asks.{all_set, asks_of, flag_set, part_set, usual_asking}
 use Rattle.dns_lookup_words.specs.Options.{is_off, plus_options, sets_of, without_no}
+use Rattle.dns_lookup_words.specs.ShortAddress.{IsNoAddress, IsShortAddress, short_labels}
 use Rattle.dns_lookup_words.specs.Types.{type_number}
 use Rattle.dns_lookup_words.specs.declared.lacking.Lack.{Lack}
 use Rattle.dns_lookup_words.specs.declared.lacking.Lack.TheVariants as lacks
@@ -158,7 +158,7 @@ begun_at (Some before) name said = record said { asks = said.asks ++ asks_of bef
 abbrev pub begun : Labels → Said → Said
 begun name said = begun_at said.name name said
 
--- `-x ADDRESS`: the name that maps the address to names, and the type PTR where none was said before
+-- `-x ADDRESS`: the name that maps the address to names, or the one above those of all addresses that begin so, and the type PTR where none was said before
 abbrev pub or_ptr : Option Rtype → Option Rtype
 or_ptr None = Some (record { 0 = 12 })
 or_ptr (Some rtype) = Some rtype
@@ -166,14 +166,14 @@ or_ptr (Some rtype) = Some rtype
 abbrev pub with_ptr : Said → Said
 with_ptr said = record said { asking = record said.asking { rtype = or_ptr said.asking.rtype } }
 
-abbrev pub with_address : IpAddr → Said → Said
-with_address ip said = with_ptr (begun (reverse_labels ip) said)
+abbrev pub with_address : (missing : ℕ) → IpAddr → Said → Said
+with_address missing ip said = with_ptr (begun (short_labels missing ip) said)
 
 -- no name begins behind a server that stands behind a name
 abbrev pub AddressAt : Bool → List ℕ → Said → Result Said Wrong → Type 0
 AddressAt true word said answer = answer ≡ Err wrongs.Parted
-AddressAt false word said (Ok new) = (ip : IpAddr) × IsAddressText word ip × (new ≡ with_address ip said)
-AddressAt false word said (Err wrong) = ((ip : IpAddr) → ¬ (IsAddressText word ip)) × (wrong ≡ wrongs.Address)
+AddressAt false word said (Ok new) = (missing : ℕ) × (ip : IpAddr) × IsShortAddress word missing ip × (new ≡ with_address missing ip said)
+AddressAt false word said (Err wrong) = IsNoAddress word × (wrong ≡ wrongs.Address)
 
 abbrev pub AddressGives : List ℕ → Said → Result Said Wrong → Type 0
 AddressGives word said answer = AddressAt said.late word said answer

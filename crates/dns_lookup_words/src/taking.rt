@@ -15,6 +15,7 @@ use crate::parts::{
     name_text, port_text, value_text,
 };
 use crate::said::{Next, Said, push_asks};
+use crate::short_address::short_address;
 use crate::types::{class_in, type_in};
 use crate::wrong::{Fault, Refusal, Value, WordFault, Wrong};
 use dns_names::{Name, NameFault};
@@ -163,10 +164,10 @@ impl Said {
         if self.late {
             return Err(WordFault::Wrong(Wrong::Parted));
         }
-        let Ok(ip) = IpAddr::from_text(word) else {
+        let Some(short) = short_address(alloc, word)? else {
             return Err(WordFault::Wrong(Wrong::Address));
         };
-        let name = Name::reverse_from_addr(alloc, ip)?;
+        let name = short.name(alloc)?;
         self.begin(alloc, name)?;
         if self.asking.rtype.is_none() {
             self.asking.rtype = Some(Rtype::PTR);
