@@ -6,3 +6,5 @@ pub mod Forging
 pub mod Worked
 pub mod Sizes
 pub mod Bounds
+pub mod Age
+pub mod Isolation
