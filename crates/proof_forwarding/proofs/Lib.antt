@@ -14,6 +14,7 @@ pub mod Alike
 pub mod Apart
 pub mod Isolated
 pub mod Keyed
+pub mod NoServer
 pub mod Forging
 pub mod Reading
 pub mod Worked

@@ -8,3 +8,4 @@ pub mod Sizes
 pub mod Bounds
 pub mod Age
 pub mod Isolation
+pub mod NoServer

@@ -5,6 +5,7 @@ ghost use Rattle.proof_forwarding.specs.Bounds.{StreamsAreFew};
 ghost use Rattle.proof_forwarding.specs.Forging.{ForgedAnswersAreFew};
 ghost use Rattle.proof_forwarding.specs.Forwarding.{EveryQueryIsServed, NoAnswerIsOlder};
 ghost use Rattle.proof_forwarding.specs.Isolation.{EqualQueriesAskTheSame, PeersAreApart};
+ghost use Rattle.proof_forwarding.specs.NoServer.{WorkedForwardings};
 ghost use Rattle.proof_forwarding.specs.Sizes.{DatagramAnswersAreShort};
 ghost use Rattle.proof_forwarding.specs.Worked.{WorkedServing, WrongAnswersAreRefused};
 
@@ -75,4 +76,10 @@ pub fn peers_are_apart()
 /// Queries that ask the same, whatever their ids, spellings, records and options, make requests that ask the same of the client.
 pub fn equal_queries_ask_the_same()
     ensures { EqualQueriesAskTheSame }
+{}
+
+/// Where no server is configured, a forwarder answers a query at once by SERVFAIL, and so one that has an OPT record besides: two
+/// histories that are made from the beginning on, whose events are alike.
+pub fn worked_forwardings()
+    ensures { WorkedForwardings }
 {}
