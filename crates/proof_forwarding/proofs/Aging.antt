@@ -1,9 +1,7 @@
 -- How long ago servers said what replies say.
 use Rattle.std.proofs.Common.{◌≡◌, ℕ, ◌+◌, ◌<◌, ◌≤◌, List, [], ◌∷◌, Some, Bool, true, false, refl, sym, subst, ap, ◌∙◌, arith, inl, inr}
-use Rattle.std.specs.Prelude.{◌⊎◌, ◌||◌, max, Result, Ok, Err}
+use Rattle.std.specs.Prelude.{◌||◌, Ok, Err}
 use Rattle.client_request.specs.Request.{Request}
-use Rattle.client_request.specs.declared.error.Error.{Error}
-use Rattle.client_request.specs.declared.event.Event.{Event}
 use Rattle.client_request.specs.declared.event.Out.{Out}
 use Rattle.client_request.specs.declared.event.Out.TheVariants.{Reply, Stale}
 use Rattle.client_request.specs.declared.event.Row.{Row}

@@ -22,7 +22,7 @@ use Rattle.front_peers.specs.declared.peers.Stream.{Stream}
 use Rattle.front_steps.specs.Askers.{count_by_streams}
 use Rattle.front_steps.specs.Waiting.{Waits, askers_of}
 use Rattle.front_steps.specs.Waiting as table
-use Rattle.front_steps.specs.Waits.{answered, answers_by_stream, answers_each, answers_one, answers_where, asks_anew, before, by_streams_of, count_waiting, has_room, if_it_waits, is_key, joins, joins_one, may_join, puts_all, puts_out, replies, same_asked}
+use Rattle.front_steps.specs.Waits.{answered, answers_by_stream, answers_each, answers_one, answers_where, asks_anew, by_streams_of, has_room, if_it_waits, is_key, joins, joins_one, may_join, puts_all, puts_out, replies, same_asked}
 use Rattle.front_steps.specs.declared.putting.Desk.{Desk}
 use Rattle.front_steps.specs.declared.waits.Waiting.{Waiting}
 use Rattle.proof_forwarding.specs.Isolation.{AreOutsAlike}

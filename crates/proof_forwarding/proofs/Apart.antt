@@ -1,6 +1,6 @@
 -- Two histories of a forwarder whose events are alike.
 use Rattle.std.proofs.Common.{◌≡◌, ℕ, List, [], ◌∷◌, ◌++◌, Option, Some, None, Bool, true, false, refl, sym, subst, ap, ◌∙◌}
-use Rattle.std.specs.Prelude.{◌||◌, max, if◌then◌else◌}
+use Rattle.std.specs.Prelude.{◌||◌, if◌then◌else◌}
 use Rattle.client_request.specs.Request.{Request}
 use Rattle.client_request.specs.declared.event.Event.{Event}
 use Rattle.client_request.specs.declared.event.Moment.{Moment}
@@ -9,22 +9,20 @@ use Rattle.client_request.specs.declared.event.What.{What}
 use Rattle.client_request.specs.declared.event.What.TheVariants.{Ask, Tick}
 use Rattle.front_queries.specs.Answers.{turned_away}
 use Rattle.front_queries.specs.Query.{Query, key_of}
-use Rattle.front_queries.specs.Refusals.{sorted}
 use Rattle.front_queries.specs.Requests.{request_of}
 use Rattle.front_queries.specs.declared.sorting.Sorted.{Sorted}
 use Rattle.front_queries.specs.declared.sorting.Sorted.TheVariants as become
 use Rattle.front_peers.specs.Items.{Streams, asker, at_moment, closes, is_stream, of_datagram, takes, takes_now}
 use Rattle.front_peers.specs.declared.event.FrontEvent.{FrontEvent}
 use Rattle.front_peers.specs.declared.event.FrontOut.{FrontOut}
-use Rattle.front_peers.specs.declared.event.FrontOut.TheVariants.{Answer, Core, Drop}
+use Rattle.front_peers.specs.declared.event.FrontOut.TheVariants.{Answer, Drop}
 use Rattle.front_peers.specs.declared.event.FrontWhat.{FrontWhat}
-use Rattle.front_peers.specs.declared.event.FrontWhat.TheVariants.{Datagram}
 use Rattle.front_peers.specs.declared.items.Asker.{Asker}
 use Rattle.front_peers.specs.declared.items.Item.{Item}
 use Rattle.front_peers.specs.declared.items.Item.TheVariants.{Asks, Refuses, Drops, Happens}
 use Rattle.front_steps.specs.Steps as steps
 use Rattle.front_steps.specs.Steps.{DidAskIf, DidItem, DidQuery, DidRow, DidTick, Doing, Leaves, Scene, Serves, Steps, TookIn, is_some_row, scene, with_streams, with_waits}
-use Rattle.front_steps.specs.Waits.{asks_anew, away, has_room, joins, joins_if, may_join, puts_all, same_asked, turned, turns_away}
+use Rattle.front_steps.specs.Waits.{asks_anew, away, has_room, joins_if, may_join, puts_all, same_asked, turned}
 use Rattle.front_steps.specs.declared.putting.Desk.{Desk}
 use Rattle.proof_forwarding.specs.Isolation.{AreAlike, AreOfPeer, AreOutsAlike, AreSame, IsEventAlike}
 use Rattle.proof_forwarding.proofs.Alike.{AskersAlike, DeskAlike, Put, all_put, anew_alike, asker_itself, joins_alike, may_same, outs_more, room_same, same_same}

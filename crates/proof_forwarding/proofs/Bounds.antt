@@ -3,7 +3,6 @@ use Rattle.std.proofs.Common.{◌≡◌, ℕ, suc, ◌<◌, ◌≤◌, List, [],
 use Rattle.std.specs.Prelude.{◌==◌, ◌||◌, nat_lt, Result, ◌⊎◌, if◌then◌else◌}
 use Rattle.std.specs.Ordering.{match_ordering, is_eq}
 use Rattle.std.proofs.lemmas.Bool.Decides.{nat_tests}
-use Rattle.std.proofs.lemmas.Cmp.{nat_cmp_total, tied_itself}
 use Rattle.number_table.specs.Entries.{puts, frees, entry_at}
 use Rattle.client_request.specs.declared.error.Error.{Error}
 use Rattle.client_request.specs.declared.event.Event.{Event}
@@ -14,7 +13,7 @@ use Rattle.client_request.specs.declared.event.Row.{Row}
 use Rattle.client_steps.specs.Whole.{Whole}
 use Rattle.front_core.specs.Core.{IsCoreStep, core_serves}
 use Rattle.front_core.specs.Forwarded.{Forwards, begins, goes_on}
-use Rattle.front_peers.specs.Items.{Streams, at_moment, brings, drops, is_new, is_stream, makes_room, of_datagram, of_frames, opens, quieter, quietest, takes, takes_now}
+use Rattle.front_peers.specs.Items.{Streams, at_moment, brings, drops, is_new, is_stream, makes_room, of_datagram, of_frames, opens, quietest, takes, takes_now}
 use Rattle.front_peers.specs.declared.event.FrontEvent.{FrontEvent}
 use Rattle.front_peers.specs.declared.event.FrontOut.{FrontOut}
 use Rattle.front_peers.specs.declared.event.FrontRow.{FrontRow}

@@ -1,6 +1,6 @@
 -- How many queries wait.
-use Rattle.std.proofs.Common.{◌≡◌, ◌≢◌, ℕ, zero, suc, ◌+◌, ◌≤◌, List, [], ◌∷◌, ◌++◌, length, Option, Some, None, Ordering, cond, Bool, true, false, refl, sym, subst, ap, ◌∙◌, arith, inl, inr, length-append}
-use Rattle.std.specs.Prelude.{◌==◌, ◌&&◌, ◌||◌, ◌⊎◌, not, nat_lt}
+use Rattle.std.proofs.Common.{◌≡◌, ◌≢◌, ℕ, suc, ◌+◌, ◌≤◌, List, [], ◌∷◌, length, Option, Some, Ordering, cond, Bool, true, false, refl, sym, subst, ap, ◌∙◌, arith, inl, inr, length-append}
+use Rattle.std.specs.Prelude.{◌==◌, ◌&&◌, ◌||◌, not, nat_lt}
 use Rattle.std.specs.Cmp.Lexicographic.{pointwise}
 use Rattle.std.specs.List.{AllByRecursion, filter}
 use Rattle.std.specs.Ordering.{is_eq}
@@ -17,7 +17,7 @@ use Rattle.front_steps.specs.Waiting as table
 use Rattle.front_steps.specs.Waits.{by_streams_of, count_waiting, has_room, may_join}
 use Rattle.front_steps.specs.declared.waits.Waiting.{Waiting}
 use Rattle.right_trace.specs.Trace.{History}
-use Rattle.proof_forwarding.specs.Owing.{AreMany, Owed, asks_so_by_stream}
+use Rattle.proof_forwarding.specs.Owing.{AreMany, asks_so_by_stream}
 use Rattle.proof_forwarding.proofs.Tables.{Above, Rises, key_apart, none_above}
 use Rattle.proof_forwarding.proofs.Keeping.{Pending, Shares, WaitsKept, askers_in, is_same, none_of, not_of, of_number, others_of, owed, owed_in, same_number}
 

@@ -1,5 +1,5 @@
 -- All rows of two histories whose events are alike.
-use Rattle.std.proofs.Common.{◌≡◌, ℕ, List, [], ◌∷◌, ◌++◌, Option, Some, Bool, refl, sym, subst, ap, ◌∙◌}
+use Rattle.std.proofs.Common.{◌≡◌, ℕ, List, [], ◌∷◌, ◌++◌, Some, refl, sym, subst, ap, ◌∙◌}
 use Rattle.std.specs.Prelude.{max}
 use Rattle.client_request.specs.Request.{Request}
 use Rattle.client_request.specs.declared.event.Event.{Event}

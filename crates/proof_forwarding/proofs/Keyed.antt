@@ -1,21 +1,20 @@
 -- Queries with one key make requests with one key.
-use Rattle.std.proofs.Common.{◌≡◌, ◌≢◌, ℕ, suc, ◌+◌, ◌<◌, ◌≤◌, List, [], ◌∷◌, ◌++◌, length, Option, Some, None, Bool, true, false, refl, sym, subst, ap, ◌∙◌, arith, append-nil, length-append}
-use Rattle.std.specs.Prelude.{◌^◌, ◌==◌, ◌&&◌, ◌||◌, not, map, nat_le, slice_index, bit_and, option_map, if◌then◌else◌}
+use Rattle.std.proofs.Common.{◌≡◌, ℕ, suc, ◌+◌, ◌<◌, ◌≤◌, List, [], ◌∷◌, ◌++◌, length, Option, Some, None, Bool, true, false, refl, sym, ap, ◌∙◌, arith, append-nil, length-append}
+use Rattle.std.specs.Prelude.{◌^◌, ◌==◌, ◌||◌, not, map, slice_index, option_map, if◌then◌else◌}
 use Rattle.std.specs.Char.{to_ascii_lowercase}
 use Rattle.std.specs.Int.{w16, from_be_bytes, to_be_bytes}
 use Rattle.std.specs.List.{AllByRecursion}
-use Rattle.std.specs.Option.{option_map_or}
 use Rattle.std.proofs.lemmas.Bool.Decides.{nat_tests}
 use Rattle.std.proofs.lemmas.List.{length-map}
 use Rattle.std.proofs.lemmas.Nat.{and_assoc, from_be_bytes-to_be_bytes_2}
 use Rattle.dns_names.specs.Name.{IsLabel, Labels, lowered, octet_count, spelling}
 use Rattle.dns_names.proofs.NameLaws.{spelled_length}
-use Rattle.dns_base.specs.Header.{ad_of, cd_of, has_bit, rd_of}
+use Rattle.dns_base.specs.Header.{ad_of, cd_of, rd_of}
 use Rattle.dns_base.specs.Holding.{IsAskable}
 use Rattle.dns_base.specs.Message.{Asked, question_at, sole_question}
 use Rattle.dns_base.proofs.EntriesBack.{question_found}
 use Rattle.dns_base.proofs.Stands.{Stands, first_stands, name_stands, number_stands, second_stands, stands_within}
-use Rattle.client_request.specs.Request.{Request, is_dnssec_ok}
+use Rattle.client_request.specs.Request.{is_dnssec_ok}
 use Rattle.front_queries.specs.Query as front
 use Rattle.front_queries.specs.Query.{Query, asks_authentic, bit, takes_dnssec}
 use Rattle.front_queries.specs.Requests.{request_header, request_of}

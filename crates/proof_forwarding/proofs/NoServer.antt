@@ -1,5 +1,5 @@
 -- A query of which a forwarder makes a row, where no server is configured.
-use Rattle.std.proofs.Common.{◌≡◌, ℕ, zero, suc, ◌<◌, ◌≤◌, List, [], ◌∷◌, ◌++◌, length, Option, Some, None, Bool, true, false, refl, sym, subst, ap, ◌∙◌, arith}
+use Rattle.std.proofs.Common.{◌≡◌, ℕ, zero, suc, ◌<◌, List, [], ◌∷◌, Option, Some, None, Bool, true, false, refl, sym, subst, ap, ◌∙◌, arith}
 use Rattle.std.specs.Prelude.{Err, nat_lt, option_and_then, option_map, slice_index, ◌&&◌}
 use Rattle.std.proofs.lemmas.Bool.Decides.{nat_tests}
 use Rattle.dns_names.specs.Name.{name_at, walk, head_at}
@@ -13,11 +13,9 @@ use Rattle.dns_base.specs.Sections.{counts_spelling}
 use Rattle.client_request.specs.Carries.{IsOfOctets}
 use Rattle.client_request.specs.Composed.{appended, composed}
 use Rattle.client_request.specs.declared.error.Error.TheVariants.{NoTransportAvailable}
-use Rattle.client_request.specs.declared.event.Moment.{Moment}
 use Rattle.client_request.specs.declared.event.Out.{Out}
 use Rattle.client_request.specs.declared.event.Out.TheVariants.{Reply}
 use Rattle.client_request.specs.Timers.{due_now}
-use Rattle.client_request.specs.declared.event.Row.{Row}
 use Rattle.client_request.specs.declared.event.What.TheVariants.{Ask}
 use Rattle.client_steps.specs.Client as plain
 use Rattle.client_steps.specs.Whole.{Client, Whole, client_with, machine, plain_step}
@@ -27,7 +25,6 @@ use Rattle.front_core.specs.Forwarded.{Forwards}
 use Rattle.front_core.specs.Forwarded as forwarded
 use Rattle.front_peers.specs.Items.{asker, no_streams, of_datagram, takes}
 use Rattle.front_peers.specs.declared.items.Asker.{Asker}
-use Rattle.front_peers.specs.declared.items.Item.{Item}
 use Rattle.front_peers.specs.declared.items.Item.TheVariants.{Asks}
 use Rattle.front_peers.specs.declared.event.FrontOut.TheVariants.{Answer}
 use Rattle.client_request.specs.Request.{Request}

@@ -1,5 +1,5 @@
 -- Who was quiet longest of those whose streams are open, and how many these are.
-use Rattle.std.proofs.Common.{◌≡◌, ◌≢◌, ℕ, zero, suc, ◌+◌, ◌<◌, ◌≤◌, List, [], ◌∷◌, length, Option, Some, None, Ordering, Less, Equal, Greater, nat_cmp, cond, Bool, true, false, refl, sym, subst, ap, ◌∙◌, arith, inl, inr}
+use Rattle.std.proofs.Common.{◌≡◌, ◌≢◌, ℕ, zero, suc, ◌+◌, ◌<◌, ◌≤◌, List, [], ◌∷◌, length, Option, Some, None, Ordering, nat_cmp, cond, Bool, true, false, refl, sym, subst, ap, ◌∙◌, arith, inl, inr}
 use Rattle.std.specs.Prelude.{◌==◌, nat_lt, is_some, ◌⊎◌, if◌then◌else◌, option_map}
 use Rattle.std.specs.Option.{option_map_or}
 use Rattle.std.specs.Ordering.{is_eq}
@@ -10,7 +10,7 @@ use Rattle.front_peers.specs.Items.{Streams, is_new, quieter, quietest}
 use Rattle.front_peers.specs.declared.peers.Stream.{Stream}
 use Rattle.right_trace.specs.Time.{count_below, one_if}
 use Rattle.proof_forwarding.specs.Heard.{Heard, count_open}
-use Rattle.proof_forwarding.proofs.Tables.{Above, Rises, none_above}
+use Rattle.proof_forwarding.proofs.Tables.{Rises, none_above}
 use Rattle.proof_forwarding.proofs.Keeping.{StreamsKept, is_same, same_number}
 
 abbrev Table : Type 0

@@ -1,6 +1,6 @@
 -- One row of a forwarder.
-use Rattle.std.proofs.Common.{◌≡◌, ℕ, ◌≤◌, List, [], ◌∷◌, ◌++◌, Option, Some, None, cond, Bool, true, false, refl, sym, subst, ap, ◌∙◌, arith, inl}
-use Rattle.std.specs.Prelude.{◌||◌, not, is_some, max, option_and_then, option_map, Result}
+use Rattle.std.proofs.Common.{◌≡◌, ℕ, ◌≤◌, List, [], ◌∷◌, ◌++◌, Option, Some, None, Bool, true, false, refl, sym, subst, ap, ◌∙◌, arith, inl}
+use Rattle.std.specs.Prelude.{◌||◌, max, option_and_then, option_map, Result}
 use Rattle.std.specs.List.{AllByRecursion}
 use Rattle.std.specs.Map.{lookup}
 use Rattle.number_table.specs.Entries.{entry_at}

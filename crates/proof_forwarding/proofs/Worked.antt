@@ -1,5 +1,5 @@
 -- A worked history, and rows that are refused.
-use Rattle.std.proofs.Common.{◌≡◌, ◌≢◌, ℕ, ◌+◌, ◌<◌, ◌≤◌, Bool, true, false, List, [], ◌∷◌, ◌++◌, cond, refl, sym, subst, ap, ◌∙◌, arith, inl, inr}
+use Rattle.std.proofs.Common.{◌≡◌, ◌≢◌, ℕ, ◌+◌, ◌<◌, ◌≤◌, Bool, true, false, List, [], ◌∷◌, refl, sym, subst, ap, ◌∙◌, arith, inl, inr}
 use Rattle.std.specs.Prelude.{◌==◌, ◌||◌, not, is_some, max, length, None, Result, if◌then◌else◌}
 use Rattle.std.specs.List.{AllByRecursion}
 use Rattle.client_request.specs.declared.error.Error.{Error}
@@ -18,7 +18,6 @@ use Rattle.front_queries.specs.Answers.{answer_to, turned_away}
 use Rattle.front_queries.specs.Query.{Query}
 use Rattle.front_queries.specs.Refusals.{sorted}
 use Rattle.front_queries.specs.Requests.{request_of}
-use Rattle.front_queries.specs.declared.sorting.Sorted.{Sorted}
 use Rattle.front_queries.specs.declared.sorting.Sorted.TheVariants.{Taken}
 use Rattle.proof_forwarding.specs.Forwarding.{by_itself}
 use Rattle.proof_forwarding.specs.Heard.{Heard, after_row, nothing_heard, told_by, with_kept}

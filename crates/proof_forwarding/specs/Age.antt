@@ -1,5 +1,5 @@
 -- How long ago servers said what the replies of a client say, of its trace alone.
-use Rattle.std.specs.Prelude.{◌≡◌, ℕ, ◌+◌, ◌<◌, ◌≤◌, ◌⊎◌, false, List, [], ◌∷◌, Ok}
+use Rattle.std.specs.Prelude.{◌≡◌, ℕ, ◌+◌, ◌<◌, ◌⊎◌, false, List, [], ◌∷◌, Ok}
 use Rattle.dns_base.specs.Data.{Data}
 use Rattle.client_request.specs.Request.{Request}
 use Rattle.client_request.specs.declared.event.Out.{Out}
