@@ -3,7 +3,6 @@ use Rattle.std.proofs.Common.{◌≡◌, ℕ, suc, ◌<◌, ◌≤◌, List, [],
 use Rattle.std.specs.Prelude.{◌==◌, ◌||◌, nat_lt, Result, ◌⊎◌, if◌then◌else◌}
 use Rattle.std.specs.Ordering.{match_ordering, is_eq}
 use Rattle.std.proofs.lemmas.Bool.Decides.{nat_tests}
-use Rattle.std.proofs.lemmas.Cmp.{nat_cmp_total, tied_itself}
 use Rattle.number_table.specs.Entries.{puts, frees, entry_at}
 use Rattle.client_request.specs.declared.error.Error.{Error}
 use Rattle.client_request.specs.declared.event.Event.{Event}
@@ -14,7 +13,7 @@ use Rattle.client_request.specs.declared.event.Row.{Row}
 use Rattle.client_steps.specs.Whole.{Whole}
 use Rattle.front_core.specs.Core.{IsCoreStep, core_serves}
 use Rattle.front_core.specs.Forwarded.{Forwards, begins, goes_on}
-use Rattle.front_peers.specs.Items.{Streams, at_moment, brings, drops, is_new, is_stream, makes_room, of_datagram, of_frames, opens, quieter, quietest, takes, takes_now}
+use Rattle.front_peers.specs.Items.{Streams, at_moment, brings, drops, is_new, is_stream, makes_room, of_datagram, of_frames, opens, quietest, takes, takes_now}
 use Rattle.front_peers.specs.declared.event.FrontEvent.{FrontEvent}
 use Rattle.front_peers.specs.declared.event.FrontOut.{FrontOut}
 use Rattle.front_peers.specs.declared.event.FrontRow.{FrontRow}
@@ -36,6 +35,7 @@ use Rattle.front_steps.specs.declared.waits.Waiting.{Waiting}
 use Rattle.proof_forwarding.specs.Bounds.{StreamsAreFew}
 use Rattle.proof_forwarding.proofs.Tables.{put_here, put_other}
 use Rattle.proof_forwarding.proofs.Keeping.{is_same, same_number}
+use Rattle.proof_forwarding.proofs.Quiet.{HasKey, none_quiet, quiet_there}
 
 abbrev Table : Type 0
 Table = List (ℕ × Stream)
@@ -164,50 +164,6 @@ module _ {C : Type 0} (how : Steps C) (serves : Serves C) (moment : Moment) wher
   ticked_few false old new rows few did = row_few _ old.desk old.within old.words old.outs new rows did few
 
 -- ---- as an event is taken in
-
--- an entry with a key
-record HasKey (q : ℕ) (es : Table) : Type 0 where
-  stream : Stream
-  is_there : entry_at q es ≡ Some stream
-
-first_key : (e : ℕ × Stream) (es : Table) → HasKey e.0 (e ∷ es)
-first_key e es = record { stream = e.1; is_there = ap (λ (o : Ordering). cond (is_eq o) (Some e.1) (entry_at e.0 es)) (tied_itself nat_cmp_total e.0) }
-
-later_key : (q : ℕ) (e : ℕ × Stream) (es : Table) → HasKey q es → HasKey q (e ∷ es)
-later_key q e es has = go (is_eq (nat_cmp q e.0)) refl
-  where
-    go : (b : Bool) → is_eq (nat_cmp q e.0) ≡ b → HasKey q (e ∷ es)
-    go true is = record { stream = e.1; is_there = ap (λ (c : Bool). cond c (Some e.1) (entry_at q es)) is }
-    go false is = record { stream = has.stream; is_there = ap (λ (c : Bool). cond c (Some e.1) (entry_at q es)) is ∙ has.is_there }
-
-some_same : (a b : ℕ × ℕ) → Some a ≡ Some b → a ≡ b
-some_same a b is = cc
-
--- who was quiet longest is the first, or one of these
-quiet_there : (first : Option (ℕ × ℕ)) (es : Table) (r : ℕ × ℕ) → quietest first es ≡ Some r → (first ≡ Some r) ⊎ HasKey r.0 es
-quiet_there first [] r is = inl is
-quiet_there first (e ∷ es) r is = by first (quiet_there (quieter first e.0 e.1.heard) es r is)
-  where
-    one : (b : Bool) (f : ℕ × ℕ) → (if b then Some (e.0, e.1.heard) else Some f) ≡ Some r → (Some f ≡ Some r) ⊎ HasKey r.0 (e ∷ es)
-    one true f so = let key : e.0 ≡ r.0 = ap (λ (x : ℕ × ℕ). x.0) (some_same (e.0, e.1.heard) r so) in inr (subst (λ (n : ℕ). HasKey n (e ∷ es)) key (first_key e es))
-    one false f so = inl so
-
-    by : (o : Option (ℕ × ℕ)) → (quieter o e.0 e.1.heard ≡ Some r) ⊎ HasKey r.0 es → (o ≡ Some r) ⊎ HasKey r.0 (e ∷ es)
-    by o (inr has) = inr (later_key r.0 e es has)
-    by None (inl so) = let key : e.0 ≡ r.0 = ap (λ (x : ℕ × ℕ). x.0) (some_same (e.0, e.1.heard) r so) in inr (subst (λ (n : ℕ). HasKey n (e ∷ es)) key (first_key e es))
-    by (Some f) (inl so) = one (nat_lt e.1.heard f.1) f so
-
-some_quiet : (f : ℕ × ℕ) (es : Table) → quietest (Some f) es ≡ None → ⊥
-some_quiet f [] is = cc
-some_quiet f (e ∷ es) is = by (nat_lt e.1.heard f.1) (λ g. some_quiet g es) is
-  where
-    by : (b : Bool) → ((g : ℕ × ℕ) → quietest (Some g) es ≡ None → ⊥) → quietest (if b then Some (e.0, e.1.heard) else Some f) es ≡ None → ⊥
-    by true ih so = ih (e.0, e.1.heard) so
-    by false ih so = ih f so
-
-none_quiet : (es : Table) → quietest None es ≡ None → length es ≡ 0
-none_quiet [] is = refl
-none_quiet (e ∷ es) is = absurd (some_quiet (e.0, e.1.heard) es is)
 
 module _ (s : Streams) (few : length s.streams ≤ 100) (peer : ℕ) where
   still_there : (q : ℕ) (t : Stream) → entry_at q s.streams ≡ Some t → HasKey q (opens peer s).streams

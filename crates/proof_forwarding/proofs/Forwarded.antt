@@ -1,5 +1,5 @@
 -- All rows of a forwarder, one behind another.
-use Rattle.std.proofs.Common.{◌≡◌, ℕ, ◌+◌, ◌<◌, List, [], ◌∷◌, ◌++◌, Option, cond, Bool, true, false, refl, sym, subst, ap, ◌∙◌, arith}
+use Rattle.std.proofs.Common.{◌≡◌, ℕ, ◌+◌, ◌<◌, List, [], ◌∷◌, ◌++◌, Option, true, refl, sym, subst, ap, ◌∙◌, arith}
 use Rattle.std.specs.Prelude.{max}
 use Rattle.std.specs.List.{AllByRecursion}
 use Rattle.client_request.specs.declared.event.Row.{Row}
@@ -12,6 +12,7 @@ use Rattle.front_peers.specs.declared.event.FrontEvent.{FrontEvent}
 use Rattle.front_peers.specs.declared.event.FrontOut.{FrontOut}
 use Rattle.front_peers.specs.declared.event.FrontRow.{FrontRow}
 use Rattle.front_peers.specs.declared.event.FrontWhat.{FrontWhat}
+use Rattle.front_peers.specs.declared.items.Item.{Item}
 use Rattle.front_peers.specs.declared.event.FrontWhat.TheVariants.{Datagram, Accepted, Bytes, Gone, Core}
 use Rattle.front_queries.specs.Query.{Query}
 use Rattle.front_steps.specs.Steps.{Forwarding, Scene, Serves, Steps, TookIn, beginning, is_some_row, scene, with_streams}
@@ -23,13 +24,15 @@ use Rattle.right_trace.specs.Settings.{Settings}
 use Rattle.right_trace.specs.Time.{now}
 use Rattle.right_trace.specs.Timely.{InTime, TimelyAfter}
 use Rattle.right_trace.specs.Trace.{Conf, History}
-use Rattle.proof_forwarding.specs.Forwarding.{EveryQueryIsServed, by_itself}
-use Rattle.proof_forwarding.specs.Heard.{Heard, after_row, closed_by, comes, nothing_heard, told_by}
-use Rattle.proof_forwarding.specs.Owing.{AreYoung, IsYoung, Owed, Pays, owed_for, unless_gone}
+use Rattle.proof_forwarding.specs.Forwarding.{EveryQueryIsServed, NoAnswerIsOlder, by_itself}
+use Rattle.proof_forwarding.specs.Heard.{Comes, DropsNone, DropsOne, Heard, MakesRoom, after_row, closed_by, nothing_heard, told_by}
+use Rattle.proof_forwarding.specs.Owing.{AreYoung, Due, IsYoung, Pays, due, rests}
 use Rattle.proof_forwarding.specs.Serving as serving
 use Rattle.proof_forwarding.specs.Serving.{RowServes, ServesAll, Turn, behind}
-use Rattle.proof_forwarding.proofs.Keeping.{IsWaiting, Pending, StreamsKept, WaitsKept, append_nil, owed, owed_in, stands}
-use Rattle.proof_forwarding.proofs.Streams.{items_fit, items_owed, owed_heard, same_now, streams_after, waits_heard}
+use Rattle.proof_forwarding.proofs.Keeping.{IsWaiting, Pending, StreamsKept, WaitsKept, owed, owed_in}
+use Rattle.proof_forwarding.proofs.Aging.{every_reply_is_aged}
+use Rattle.proof_forwarding.proofs.Coming.{items_come}
+use Rattle.proof_forwarding.proofs.Streams.{items_fit, same_now, streams_after, waits_heard}
 use Rattle.proof_forwarding.proofs.Histories.{RowsFit, behind_append, right_split, rows_fit, rows_split, said_in, timely_end, timely_split, turn}
 use Rattle.proof_forwarding.proofs.Rows.{Mid, items_done, ticked_done}
 
@@ -55,27 +58,27 @@ module _ (own : Query → Option (List ℕ)) (past : List Row) (desk : Desk) (he
   base_kept : StreamsKept timed base
   base_kept = record { rises = kept.streams.rises; kept = kept.streams.kept; last = kept.streams.last; old = kept.streams.old }
 
-  timed_owed : (qs : List Pending) → owed_in timed qs ≡ owed_in heard qs
-  timed_owed [] = refl
-  timed_owed (p ∷ qs) = ap (λ (rest : List Owed). cond (stands heard p) (owed p ∷ rest) rest) (timed_owed qs)
-
   timed_waits : WaitsKept desk.waits (behind past []) timed.last ps
   timed_waits = kept.waits
 
-  abbrev due : List Owed
-  due = unless_gone event.what (owed_in heard ps) ++ owed_for (told_by event heard).now (comes event.what heard)
+  abbrev start : Due
+  start = due (told_by event heard) (takes event desk.streams).0 (owed_in ps)
 
   time_is : (told_by event heard).now ≡ time
   time_is = same_now timed (behind past []) event.what
 
-  timed_comes : (what : FrontWhat) → comes what timed ≡ comes what heard
-  timed_comes (Datagram peer octets) = refl
-  timed_comes (Accepted peer) = refl
-  timed_comes (Bytes peer octets) = refl
-  timed_comes (Gone peer) = refl
-  timed_comes (Core what) = refl
+  timed_room : (peer : ℕ) (items : List Item) → MakesRoom peer timed items → MakesRoom peer heard items
+  timed_room peer items (DropsNone none) = DropsNone none
+  timed_room peer items (DropsOne quiet is new some many) = DropsOne quiet is new some many
 
-  begun : Mid own past event.moment (told_by event heard) due time (takes event desk.streams).0 (with_streams (takes event desk.streams).1 desk) [] []
+  timed_comes : (what : FrontWhat) (items : List Item) → Comes what timed items → Comes what heard items
+  timed_comes (Datagram peer octets) items come = come
+  timed_comes (Accepted peer) items come = timed_room peer items come
+  timed_comes (Bytes peer octets) items come = come
+  timed_comes (Gone peer) items come = come
+  timed_comes (Core what) items come = come
+
+  begun : Mid own past event.moment (told_by event heard) start time (takes event desk.streams).0 (with_streams (takes event desk.streams).1 desk) [] []
   begun = record {
     told = told_by event heard;
     pending = ps;
@@ -83,18 +86,14 @@ module _ (own : Query → Option (List ℕ)) (past : List Row) (desk : Desk) (he
     waits = waits_heard timed (behind past []) desk.waits ps event.what timed_waits;
     streams = streams_after timed base base_kept event.what;
     fit = items_fit timed base base_kept event.what;
-    pays =
-        sym (ap (λ (os : List Owed). os ++ owed_for time (takes event desk.streams).0)
-        (owed_heard timed (behind past []) ps timed_waits.waiting event.what ∙ ap (unless_gone event.what) (timed_owed ps))
-        ∙ ap (λ (os : List Owed). unless_gone event.what (owed_in heard ps) ++ os)
-        (items_owed timed base base_kept time event.what ∙ ap (owed_for time) (timed_comes event.what) ∙ ap (λ (n : ℕ). owed_for n (comes event.what heard)) (sym time_is)));
+    pays = rests start start [] refl refl;
     in_time = (let is = kept.in_time in omega arith);
     now_is = λ some. absurd (cc);
     same_now = time_is;
   }
 
   record Done (outs : List FrontOut) (desk' : Desk) (rows : List Row) : Type 0 where
-    mid : Mid own past event.moment (told_by event heard) due time [] desk' outs rows
+    mid : Mid own past event.moment (told_by event heard) start time [] desk' outs rows
     some : is_some_row rows ≡ true
 
   module _ {C : Type 0} (steps : Steps C) (serves : Serves C) (within : C) (words : ℕ → ℕ) (new : Scene C) (took : TookIn steps serves event within words desk new)
@@ -102,9 +101,9 @@ module _ (own : Query → Option (List ℕ)) (past : List Row) (desk : Desk) (he
     done : Done new.outs new.desk (took.rows ++ took.now)
     done =
         let split = rows_split took.rows took.now (behind past []) fit in
-        let middle = items_done own past event.moment (told_by event heard) due time steps serves (takes event desk.streams).0
+        let middle = items_done own past event.moment (told_by event heard) start time steps serves (takes event desk.streams).0
         (scene within words (with_streams (takes event desk.streams).1 desk) []) [] took.middle took.rows begun split.0 took.doing in
-        let ends = ticked_done own past event.moment (told_by event heard) due time steps serves (is_some_row took.rows) took.middle new took.rows took.now refl middle fit took.ticked in
+        let ends = ticked_done own past event.moment (told_by event heard) start time steps serves (is_some_row took.rows) took.middle new took.rows took.now refl middle fit took.ticked in
         record { mid = ends.0; some = ends.1 }
 
   -- ---- and what is left then
@@ -120,18 +119,16 @@ module _ (own : Query → Option (List ℕ)) (past : List Row) (desk : Desk) (he
         let since = is.since in
         omega (arith, is_timeout)
 
-    young : (qs : List Pending) → AllByRecursion (IsWaiting (behind rows (behind past [])) done.mid.told.last) qs → AreYoung timeout time (owed_in done.mid.told qs)
+    young : (qs : List Pending) → AllByRecursion (IsWaiting (behind rows (behind past [])) done.mid.told.last) qs → AreYoung timeout time (owed_in qs)
     young [] all = tt
-    young (p ∷ qs) all = go (stands done.mid.told p) (young qs all.1)
-      where
-        go : (b : Bool) → AreYoung timeout time (owed_in done.mid.told qs) → AreYoung timeout time (cond b (owed p ∷ owed_in done.mid.told qs) (owed_in done.mid.told qs))
-        go true rest = (one_young p all.0, rest)
-        go false rest = rest
+    young (p ∷ qs) all = (one_young p all.0, young qs all.1)
 
-    row_serves : RowServes timeout own (record { event = event; outs = outs }) (turn past rows ∷ []) heard (owed_in heard ps) (owed_in done.mid.told done.mid.pending)
+    row_serves : RowServes timeout own (record { event = event; outs = outs }) (turn past rows ∷ []) heard (owed_in ps) (owed_in done.mid.pending)
     row_serves = record {
-      pays = subst (Pays (said_in past rows) own outs due) (append_nil (owed_in done.mid.told done.mid.pending)) done.mid.pays;
-      young = subst (λ (n : ℕ). AreYoung timeout n (owed_in done.mid.told done.mid.pending))
+      items = (takes event desk.streams).0;
+      come = timed_comes event.what (takes event desk.streams).0 (items_come timed base base_kept event.what);
+      pays = subst (λ (g : Heard). Pays (said_in past rows) own start outs (due g [] (owed_in done.mid.pending))) (sym done.mid.told_is) done.mid.pays;
+      young = subst (λ (n : ℕ). AreYoung timeout n (owed_in done.mid.pending))
           (sym (ap (λ (g : Heard). g.now) done.mid.told_is ∙ done.mid.same_now))
           (young done.mid.pending done.mid.waits.waiting);
     }
@@ -151,7 +148,7 @@ module _ (own : Query → Option (List ℕ)) (past : List Row) (desk : Desk) (he
 record SoFar (timeout : ℕ) (own : Query → Option (List ℕ)) (rows : List FrontRow) (trace : List Row) (desk : Desk) : Type 0 where
   heard : Heard
   pending : List Pending
-  serves : serving.Serves timeout own rows (trace ∷ []) heard (owed_in heard pending)
+  serves : serving.Serves timeout own rows (trace ∷ []) heard (owed_in pending)
   kept : Between trace desk heard pending
 
 nothing_kept : Between [] (record { waits = none_waits; streams = no_streams }) nothing_heard []
@@ -163,6 +160,7 @@ nothing_kept = record {
     keys = λ k v is. absurd (cc);
     each = λ k. refl;
     waiting = tt;
+    shares = tt;
     asked = λ k is. absurd (cc);
   };
   streams = record { rises = tt; kept = λ peer. refl; last = refl; old = λ peer is. absurd (cc) };
@@ -189,9 +187,8 @@ module _ (own : Query → Option (List ℕ)) (c : Conf) (s : Settings) where
       record {
         heard = after_row row so.heard;
         pending = ended.mid.pending;
-        serves = serving.goes_on some all row (turn before more ∷ []) (whole ∷ []) so.heard (owed_in so.heard so.pending) (owed_in (after_row row so.heard) ended.mid.pending) so.serves
-            (subst (λ (h : Heard). RowServes c.timeout own row (turn before more ∷ []) so.heard (owed_in so.heard so.pending) (owed_in h ended.mid.pending)) (sym ended.mid.told_is)
-            (row_serves own before a.desk so.heard so.pending so.kept row.event c.timeout c refl row.outs b.desk more ended in_time))
+        serves = serving.goes_on some all row (turn before more ∷ []) (whole ∷ []) so.heard (owed_in so.pending) (owed_in ended.mid.pending) so.serves
+            (row_serves own before a.desk so.heard so.pending so.kept row.event c.timeout c refl row.outs b.desk more ended in_time)
             rows_are
             (ap (λ (rs : List Row). rs ∷ []) trace_is);
         kept = subst (λ (rs : List Row). Between rs b.desk (after_row row so.heard) ended.mid.pending) (sym trace_is)
@@ -202,4 +199,9 @@ pub every_query_served : EveryForwardedTraceIsRight → EveryQueryIsServed
 every_query_served every redundant cache conf words rows trace last left forwards limited small =
     let right = every redundant cache conf words rows trace last left forwards limited small in
     let so = all_served by_itself (conf_of conf) (settings_of redundant cache) (beginning (started redundant cache conf)) words rows trace last left refl forwards right.right right.timely in
-    record { heard = so.heard; owing = owed_in so.heard so.pending; serves = so.serves }
+    record { heard = so.heard; owing = owed_in so.pending; serves = so.serves }
+
+pub none_older : EveryForwardedTraceIsRight → NoAnswerIsOlder
+none_older every redundant cache conf words rows trace last left forwards limited small =
+    let right = every redundant cache conf words rows trace last left forwards limited small in
+    every_reply_is_aged (conf_of conf) (settings_of redundant cache) trace right.right right.timely

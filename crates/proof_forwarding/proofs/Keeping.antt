@@ -1,6 +1,6 @@
 -- What the tables of a forwarder are, in terms of the queries that wait.
 use Rattle.std.proofs.Common.{◌≡◌, ◌≢◌, ℕ, suc, ◌<◌, ◌≤◌, List, [], ◌∷◌, ◌++◌, Option, Some, cond, Bool, true, false, refl, sym, ap, ◌∙◌, arith}
-use Rattle.std.specs.Prelude.{◌==◌, ◌||◌, ◌&&◌, not, is_some, map, max, option_map, if◌then◌else◌}
+use Rattle.std.specs.Prelude.{◌==◌, ◌&&◌, not, is_some, map, max, option_map, if◌then◌else◌}
 use Rattle.std.specs.List.{AllByRecursion, filter}
 use Rattle.std.proofs.lemmas.Bool.Decides.{nat_tests}
 use Rattle.number_table.specs.Entries.{entry_at}
@@ -19,7 +19,7 @@ use Rattle.right_trace.specs.Requests.{Asking, asking, asking_of, asks, is_ask, 
 use Rattle.right_trace.specs.Time.{now}
 use Rattle.right_trace.specs.Trace.{History, Came, Put}
 use Rattle.proof_forwarding.specs.Heard.{Heard}
-use Rattle.proof_forwarding.specs.Owing.{Owed, Query as owed_query}
+use Rattle.proof_forwarding.specs.Owing.{Owed}
 use Rattle.proof_forwarding.proofs.Tables.{Rises}
 
 -- A query that waits for the reply to a request, and since when.
@@ -37,16 +37,11 @@ not_of k ps = filter (λ p. not (p.number == k)) ps
 abbrev pub askers_in : List Pending → List Asker
 askers_in ps = map (λ p. p.asker) ps
 
--- its peer may be reached
-abbrev pub stands : Heard → Pending → Bool
-stands heard p = not p.asker.by_stream || is_some (heard.kept p.asker.peer)
-
 abbrev pub owed : Pending → Owed
-owed p = owed_query p.asker p.since
+owed p = record { asker = p.asker; since = p.since }
 
-abbrev pub owed_in : Heard → List Pending → List Owed
-owed_in heard [] = []
-owed_in heard (p ∷ ps) = cond (stands heard p) (owed p ∷ owed_in heard ps) (owed_in heard ps)
+abbrev pub owed_in : List Pending → List Owed
+owed_in ps = map owed ps
 
 pub record IsWaiting (h : History) (last : Option ℕ) (p : Pending) : Type 0 where
   pub asked : Asking
@@ -63,6 +58,10 @@ pub record IsKeyed (next : ℕ) (requests : List (ℕ × Waiting)) (e : List ℕ
   pub below : e.1 < next
   pub same : (v : Waiting) → entry_at e.1 requests ≡ Some v → v.key ≡ e.0
 
+-- It asks what the request asks for whose reply it waits.
+abbrev pub Shares : List (ℕ × Waiting) → Pending → Type 0
+Shares requests p = (v : Waiting) → entry_at p.number requests ≡ Some v → key_of p.asker.query ≡ v.key
+
 pub record WaitsKept (w : Waits) (h : History) (last : Option ℕ) (ps : List Pending) : Type 0 where
   pub next : w.next ≡ asks h
   pub rises : Rises w.requests
@@ -70,6 +69,7 @@ pub record WaitsKept (w : Waits) (h : History) (last : Option ℕ) (ps : List Pe
   pub keys : (k : ℕ) (v : Waiting) → entry_at k w.requests ≡ Some v → v.key ≡ key_of v.first.query
   pub each : (k : ℕ) → askers_or_none (entry_at k w.requests) ≡ askers_in (of_number k ps)
   pub waiting : AllByRecursion (IsWaiting h last) ps
+  pub shares : AllByRecursion (Shares w.requests) ps
   pub asked : (k : ℕ) → replied k h ≡ true → k < asks h
 
 pub record StreamsKept (heard : Heard) (s : Streams) : Type 0 where
@@ -83,6 +83,10 @@ pub record StreamsKept (heard : Heard) (s : Streams) : Type 0 where
 pub all_changed : {A : Type 0} (P Q : A → Type 0) → ((a : A) → P a → Q a) → (xs : List A) → AllByRecursion P xs → AllByRecursion Q xs
 all_changed P Q more [] all = tt
 all_changed P Q more (x ∷ xs) all = (more x all.0, all_changed P Q more xs all.1)
+
+pub all_joined : {A : Type 0} (P Q R : A → Type 0) → ((a : A) → P a → Q a → R a) → (xs : List A) → AllByRecursion P xs → AllByRecursion Q xs → AllByRecursion R xs
+all_joined P Q R more [] all also = tt
+all_joined P Q R more (x ∷ xs) all also = (more x all.0 also.0, all_joined P Q R more xs all.1 also.1)
 
 pub all_more : {A : Type 0} (P : A → Type 0) (xs : List A) (x : A) → AllByRecursion P xs → P x → AllByRecursion P (xs ++ x ∷ [])
 all_more P [] x all p = (p, tt)

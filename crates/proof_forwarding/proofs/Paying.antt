@@ -13,6 +13,7 @@ use Rattle.front_peers.specs.Items.{Streams, answers_by}
 use Rattle.front_peers.specs.declared.event.FrontOut.{FrontOut}
 use Rattle.front_peers.specs.declared.event.FrontOut.TheVariants.{Core, Answer, Drop}
 use Rattle.front_peers.specs.declared.items.Asker.{Asker}
+use Rattle.front_peers.specs.declared.items.Item.{Item}
 use Rattle.front_peers.specs.declared.peers.Stream.{Stream}
 use Rattle.front_steps.specs.Waiting.{askers_or_none}
 use Rattle.front_steps.specs.Waits.{answered_if, answers_by_stream, answers_each, answers_one, answers_where, before, puts_all, puts_out, replies}
@@ -22,9 +23,8 @@ use Rattle.right_trace.specs.Requests.{Asking, asking, is_reply}
 use Rattle.right_trace.specs.Right.{Among, IsAsked}
 use Rattle.right_trace.specs.Trace.{History, Put, put_all}
 use Rattle.proof_forwarding.specs.Heard.{Heard, closed_by}
-use Rattle.proof_forwarding.specs.Owing.{Owed, Refusal, Answers, TurnsAway, Replies, OfItself, IsAnswer, Pays, TakesOne}
-use Rattle.proof_forwarding.specs.Owing as owing
-use Rattle.proof_forwarding.proofs.Keeping.{Pending, IsWaiting, StreamsKept, WaitsKept, append_assoc, askers_in, not_of, of_number, owed, owed_in, same_number, stands}
+use Rattle.proof_forwarding.specs.Owing.{Answers, Does, Drops, Due, Happens, IsAnswered, IsLost, IsOneOf, OfItself, Owed, Pays, PutsOut, Refuses, Replies, Takes, TurnsAway, due, goes_on, is_reached, rests}
+use Rattle.proof_forwarding.proofs.Keeping.{Pending, IsWaiting, StreamsKept, WaitsKept, append_assoc, append_nil, askers_in, not_of, of_number, owed, owed_in, same_number}
 use Rattle.proof_forwarding.proofs.Waits.{after_out, after_reply}
 use Rattle.proof_forwarding.proofs.Streams.{after_answer}
 
@@ -51,104 +51,104 @@ TellsOf says h outs = (k : ℕ) (x : Result (List ℕ) Error) (a : Asking) (firs
 
 module _ (own : Query → Option (List ℕ)) where
   module _ (says : Says) where
-    pub pays_more : (a b : List FrontOut) (x y z : List Owed) → Pays says own a x y → Pays says own b y z → Pays says own (a ++ b) x z
-    pays_more [] b x y z is more = subst (λ (o : List Owed). Pays says own b o z) (sym is) more
-    pays_more (Core o ∷ a) b x y z is more = pays_more a b x y z is more
-    pays_more (Drop peer ∷ a) b x y z is more = pays_more a b (owing.without peer x) y z is more
-    pays_more (Answer peer octets ∷ a) b x y z is more = record {
-      owed = is.owed;
-      before = is.before;
-      behind = is.behind;
-      is_owed = is.is_owed;
-      is_answer = is.is_answer;
-      left = pays_more a b (is.before ++ is.behind) y z is.left more;
-    }
+    pub pays_more : (a b : Due) (first : List FrontOut) → Pays says own a first b → (c : Due) (later : List FrontOut) → Pays says own b later c → Pays says own a (first ++ later) c
+    pays_more a b first (rests x y outs same none) c later more =
+        subst (λ (os : List FrontOut). Pays says own a (os ++ later) c) (sym none) (subst (λ (d : Due). Pays says own d later c) (sym same) more)
+    pays_more a b first (goes_on x middle y now rest outs does pays is) c later more =
+        goes_on x middle c now (rest ++ later) (outs ++ later) does (pays_more middle y rest pays c later more) (ap (λ (os : List FrontOut). os ++ later) is ∙ append_assoc now rest later)
+
+    pub pays_one : (a b : Due) (outs : List FrontOut) → Does says own a outs b → Pays says own a outs b
+    pays_one a b outs does = goes_on a b b outs [] outs does (rests b b [] refl refl) (sym (append_nil outs))
+
+    -- something by which nothing is put out
+    pub then_silent : (a b c : Due) (outs : List FrontOut) → Pays says own a outs b → Does says own b [] c → Pays says own a outs c
+    then_silent a b c outs pays does = subst (λ (os : List FrontOut). Pays says own a os c) (append_nil outs) (pays_more a b outs pays c [] (pays_one b c [] does))
 
   module _ (says tells : Says) (more : (q : Query) (x : Result (List ℕ) Error) → says q x → tells q x) where
     answers_by_more : (asker : Asker) (octets : List ℕ) → Answers says own asker octets → Answers tells own asker octets
-    answers_by_more asker octets (TurnsAway is) = TurnsAway is
     answers_by_more asker octets (Replies reply said is) = Replies reply (more asker.query reply said) is
     answers_by_more asker octets (OfItself message of is) = OfItself message of is
 
-    answer_by_more : (peer : ℕ) (octets : List ℕ) (o : Owed) → IsAnswer says own peer octets o → IsAnswer tells own peer octets o
-    answer_by_more peer octets (owing.Query asker since) is = (is.0, answers_by_more asker octets is.1)
-    answer_by_more peer octets (Refusal p refusal) is = is
+    does_by_more : (a b : Due) (outs : List FrontOut) → Does says own a outs b → Does tells own a outs b
+    does_by_more a b outs (PutsOut out is then) = PutsOut out is then
+    does_by_more a b outs (Happens what items item is then) = Happens what items item is then
+    does_by_more a b outs (Drops peer items item is then) = Drops peer items item is then
+    does_by_more a b outs (Refuses peer octets items item is then) = Refuses peer octets items item is then
+    does_by_more a b outs (Takes asker items item is then) = Takes asker items item is then
+    does_by_more a b outs (TurnsAway asker items item many is then) = TurnsAway asker items item many is then
+    does_by_more a b outs (IsAnswered one octets others of reached made is then) = IsAnswered one octets others of reached (answers_by_more one.asker octets made) is then
+    does_by_more a b outs (IsLost one reply others of lost said is then) = IsLost one reply others of lost (more one.asker.query reply said) is then
 
-    pub pays_by_more : (outs : List FrontOut) (x y : List Owed) → Pays says own outs x y → Pays tells own outs x y
-    pays_by_more [] x y is = is
-    pays_by_more (Core o ∷ outs) x y is = pays_by_more outs x y is
-    pays_by_more (Drop peer ∷ outs) x y is = pays_by_more outs (owing.without peer x) y is
-    pays_by_more (Answer peer octets ∷ outs) x y is = record {
-      owed = is.owed;
-      before = is.before;
-      behind = is.behind;
-      is_owed = is.is_owed;
-      is_answer = answer_by_more peer octets is.owed is.is_answer;
-      left = pays_by_more outs (is.before ++ is.behind) y is.left;
-    }
+    pub pays_by_more : (a b : Due) (outs : List FrontOut) → Pays says own a outs b → Pays tells own a outs b
+    pays_by_more a b outs (rests x y all same none) = rests x y all same none
+    pays_by_more a b outs (goes_on x middle y now later all does pays is) = goes_on x middle y now later all (does_by_more x middle now does) (pays_by_more middle y later pays) is
 
-  module _ (says : Says) (x : Result (List ℕ) Error) (k : ℕ) (g : Heard) where
+  module _ (says : Says) (x : Result (List ℕ) Error) (k : ℕ) (g : Heard) (items : List Item) where
     -- answers to those that wait for a reply, among all that wait
-    abbrev Walked : (askers : List Asker) (pre rest all left : List Owed) (s : Streams) → Type 0
-    Walked askers pre rest all left s = Pays says own (answers_each x askers s).0 (pre ++ (all ++ rest)) (pre ++ (left ++ rest)) × StreamsKept g (answers_each x askers s).1
+    abbrev pub Walked : (askers : List Asker) (pre all left : List Owed) (s : Streams) → Type 0
+    Walked askers pre all left s = Pays says own (due g items (pre ++ all)) (answers_each x askers s).0 (due g items (pre ++ left)) × StreamsKept g (answers_each x askers s).1
 
-    moved : (outs : List FrontOut) (pre : List Owed) (o : Owed) (a b : List Owed) → Pays says own outs ((pre ++ o ∷ []) ++ a) ((pre ++ o ∷ []) ++ b) → Pays says own outs (pre ++ o ∷ a) (pre ++ o ∷ b)
-    moved outs pre o a b is =
-        subst (λ (z : List Owed). Pays says own outs (pre ++ o ∷ a) z) (append_assoc pre (o ∷ []) b)
-        (subst (λ (z : List Owed). Pays says own outs z ((pre ++ o ∷ []) ++ b)) (append_assoc pre (o ∷ []) a) is)
+    moved : (askers : List Asker) (pre : List Owed) (o : Owed) (a b : List Owed) (s : Streams) → Walked askers (pre ++ o ∷ []) a b s → Walked askers pre (o ∷ a) (o ∷ b) s
+    moved askers pre o a b s is = (
+      subst (λ (z : List Owed). Pays says own (due g items (pre ++ o ∷ a)) (answers_each x askers s).0 (due g items z)) (append_assoc pre (o ∷ []) b)
+          (subst (λ (z : List Owed). Pays says own (due g items z) (answers_each x askers s).0 (due g items ((pre ++ o ∷ []) ++ b))) (append_assoc pre (o ∷ []) a) is.0),
+      is.1,
+    )
 
-    passes_by : (askers : List Asker) (pre rest all left : List Owed) (o : Owed) (s : Streams) (c : Bool)
-        → ((p : List Owed) → Walked askers p rest all left s) → Walked askers pre rest (cond c (o ∷ all) all) (cond c (o ∷ left) left) s
-    passes_by askers pre rest all left o s true ih = (moved (answers_each x askers s).0 pre o (all ++ rest) (left ++ rest) (ih (pre ++ o ∷ [])).0, (ih pre).1)
-    passes_by askers pre rest all left o s false ih = ih pre
-
-    module _ (p : Pending) (said : says p.asker.query x) (askers : List Asker) (pre rest all left : List Owed) (ih : (t : Streams) → StreamsKept g t → Walked askers pre rest all left t) where
+    module _ (p : Pending) (said : says p.asker.query x) (askers : List Asker) (pre all left : List Owed) (ih : (t : Streams) → StreamsKept g t → Walked askers pre all left t) where
       abbrev octets : List ℕ
       octets = answer_to p.asker.query p.asker.by_stream x
 
-      abbrev AnswersIt : (done : List FrontOut × Streams) (c : Bool) → Type 0
-      AnswersIt done c =
-          Pays says own (before done.0 (answers_each x askers done.1)).0 (pre ++ (cond c (owed p ∷ all) all ++ rest)) (pre ++ (left ++ rest))
+      abbrev AnswersIt : (done : List FrontOut × Streams) → Type 0
+      AnswersIt done =
+          Pays says own (due g items (pre ++ owed p ∷ all)) (before done.0 (answers_each x askers done.1)).0 (due g items (pre ++ left))
           × StreamsKept g (before done.0 (answers_each x askers done.1)).1
 
-      paid : (t : Streams) → StreamsKept g t → AnswersIt (Answer p.asker.peer octets ∷ [], t) true
-      paid t kept = (
-        record {
-          owed = owed p;
-          before = pre;
-          behind = all ++ rest;
-          is_owed = refl;
-          is_answer = (refl, Replies x said refl);
-          left = (ih t kept).0;
-        },
+      it_is : IsOneOf (owed p) (pre ++ owed p ∷ all) (pre ++ all)
+      it_is = record { before = pre; behind = all; is_there = refl; others_are = refl }
+
+      paid : is_reached g p.asker ≡ true → (t : Streams) → StreamsKept g t → AnswersIt (Answer p.asker.peer octets ∷ [], t)
+      paid reached t kept = (
+        goes_on (due g items (pre ++ owed p ∷ all)) (due g items (pre ++ all)) (due g items (pre ++ left)) (Answer p.asker.peer octets ∷ []) (answers_each x askers t).0
+            (Answer p.asker.peer octets ∷ (answers_each x askers t).0)
+            (IsAnswered (owed p) octets (pre ++ all) it_is reached (Replies x said refl) refl refl) (ih t kept).0 refl,
         (ih t kept).1,
       )
 
-      by_stream : (s : Streams) → StreamsKept g s → (o : Option Stream) → entry_at p.asker.peer s.streams ≡ o → AnswersIt (answers_by_stream p.asker octets s o) (is_some o)
-      by_stream s kept None entry = ih s kept
-      by_stream s kept (Some t) entry = paid (answers_by p.asker.peer s (Some t)) (after_answer g s kept p.asker.peer t entry)
+      lost : is_reached g p.asker ≡ false → (t : Streams) → StreamsKept g t → AnswersIt ([], t)
+      lost gone t kept = (
+        goes_on (due g items (pre ++ owed p ∷ all)) (due g items (pre ++ all)) (due g items (pre ++ left)) [] (answers_each x askers t).0 (answers_each x askers t).0
+            (IsLost (owed p) x (pre ++ all) it_is gone said refl refl) (ih t kept).0 refl,
+        (ih t kept).1,
+      )
 
       some_framed : (o : Option Stream) → is_some (option_map (λ (t : Stream). t.framer) o) ≡ is_some o
       some_framed None = refl
       some_framed (Some t) = refl
 
-      answers_it : (s : Streams) → StreamsKept g s → (b : Bool) → AnswersIt (answers_where b p.asker octets s) (not b || is_some (g.kept p.asker.peer))
-      answers_it s kept false = paid s kept
-      answers_it s kept true =
-          subst (AnswersIt (answers_by_stream p.asker octets s (entry_at p.asker.peer s.streams)))
-          (sym (ap is_some (kept.kept p.asker.peer) ∙ some_framed (entry_at p.asker.peer s.streams)))
-          (by_stream s kept (entry_at p.asker.peer s.streams) refl)
+      reached_by : (s : Streams) → StreamsKept g s → p.asker.by_stream ≡ true → is_reached g p.asker ≡ is_some (entry_at p.asker.peer s.streams)
+      reached_by s kept stream =
+          ap (λ (b : Bool). not b || is_some (g.kept p.asker.peer)) stream ∙ ap is_some (kept.kept p.asker.peer) ∙ some_framed (entry_at p.asker.peer s.streams)
 
-    pub walk : (ps : List Pending) (pre rest : List Owed) (s : Streams) → StreamsKept g s → AllByRecursion (λ (p : Pending). p.number ≡ k → says p.asker.query x) ps
-        → Walked (askers_in (of_number k ps)) pre rest (owed_in g ps) (owed_in g (not_of k ps)) s
-    walk [] pre rest s kept all = (refl, kept)
-    walk (p ∷ ps) pre rest s kept all = go (p.number == k) refl (λ q t is. walk ps q rest t is all.1)
+      by_stream : (s : Streams) → StreamsKept g s → p.asker.by_stream ≡ true → (o : Option Stream) → entry_at p.asker.peer s.streams ≡ o → AnswersIt (answers_by_stream p.asker octets s o)
+      by_stream s kept stream None entry = lost (reached_by s kept stream ∙ ap is_some entry) s kept
+      by_stream s kept stream (Some t) entry =
+          paid (reached_by s kept stream ∙ ap is_some entry) (answers_by p.asker.peer s (Some t)) (after_answer g s kept p.asker.peer t entry)
+
+      answers_it : (s : Streams) → StreamsKept g s → (b : Bool) → p.asker.by_stream ≡ b → AnswersIt (answers_where b p.asker octets s)
+      answers_it s kept false datagram = paid (ap (λ (b : Bool). not b || is_some (g.kept p.asker.peer)) datagram) s kept
+      answers_it s kept true stream = by_stream s kept stream (entry_at p.asker.peer s.streams) refl
+
+    pub walk : (ps : List Pending) (pre : List Owed) (s : Streams) → StreamsKept g s → AllByRecursion (λ (p : Pending). p.number ≡ k → says p.asker.query x) ps
+        → Walked (askers_in (of_number k ps)) pre (owed_in ps) (owed_in (not_of k ps)) s
+    walk [] pre s kept all = (rests (due g items (pre ++ [])) (due g items (pre ++ [])) [] refl refl, kept)
+    walk (p ∷ ps) pre s kept all = go (p.number == k) refl (λ q t is. walk ps q t is all.1)
       where
-        go : (b : Bool) → (p.number == k) ≡ b → ((q : List Owed) (t : Streams) → StreamsKept g t → Walked (askers_in (of_number k ps)) q rest (owed_in g ps) (owed_in g (not_of k ps)) t)
-            → Walked (askers_in (cond b (p ∷ of_number k ps) (of_number k ps))) pre rest (owed_in g (p ∷ ps)) (owed_in g (cond (not b) (p ∷ not_of k ps) (not_of k ps))) s
-        go false is ih = passes_by (askers_in (of_number k ps)) pre rest (owed_in g ps) (owed_in g (not_of k ps)) (owed p) s (stands g p) (λ q. ih q s kept)
+        go : (b : Bool) → (p.number == k) ≡ b → ((q : List Owed) (t : Streams) → StreamsKept g t → Walked (askers_in (of_number k ps)) q (owed_in ps) (owed_in (not_of k ps)) t)
+            → Walked (askers_in (cond b (p ∷ of_number k ps) (of_number k ps))) pre (owed_in (p ∷ ps)) (owed_in (cond (not b) (p ∷ not_of k ps) (not_of k ps))) s
+        go false is ih = moved (askers_in (of_number k ps)) pre (owed p) (owed_in ps) (owed_in (not_of k ps)) s (ih (pre ++ owed p ∷ []) s kept)
         go true is ih =
-            answers_it p (all.0 (same_number p.number k is)) (askers_in (of_number k ps)) pre rest (owed_in g ps) (owed_in g (not_of k ps)) (λ t kept. ih pre t kept) s kept p.asker.by_stream
+            answers_it p (all.0 (same_number p.number k is)) (askers_in (of_number k ps)) pre (owed_in ps) (owed_in (not_of k ps)) (λ t kept. ih pre t kept) s kept p.asker.by_stream refl
 
   -- no stream is dropped by answers
   where_open : (b : Bool) (a : Asker) (sent : List ℕ) (s : Streams) (g : Heard) → closed_by (answers_where b a sent s).0 g ≡ g
@@ -171,16 +171,16 @@ module _ (own : Query → Option (List ℕ)) where
     pub left : List Pending
     pub waits : WaitsKept done.1.waits h g.last left
     pub streams : StreamsKept g done.1.streams
-    pub pays : (rest : List Owed) → Pays says own done.0 (owed_in g ps ++ rest) (owed_in g left ++ rest)
+    pub pays : (items : List Item) → Pays says own (due g items (owed_in ps)) done.0 (due g items (owed_in left))
     pub still : closed_by done.0 g ≡ g
 
   module _ (says : Says) (g : Heard) where
     module _ (h : History) (ps : List Pending) (d : Desk) (waits : WaitsKept d.waits h g.last ps) (streams : StreamsKept g d.streams) where
       module _ (k : ℕ) (x : Result (List ℕ) Error) (asked : IsAsked k h) (said : AllByRecursion (λ (p : Pending). p.number ≡ k → says p.asker.query x) ps) where
-        walked : (o : Option Waiting) → entry_at k d.waits.requests ≡ o → (rest : List Owed) → Walked says x k g (askers_or_none o) [] rest (owed_in g ps) (owed_in g (not_of k ps)) d.streams
-        walked o entry rest =
-            subst (λ (askers : List Asker). Walked says x k g askers [] rest (owed_in g ps) (owed_in g (not_of k ps)) d.streams) (sym (waits.each k) ∙ ap askers_or_none entry)
-            (walk says x k g ps [] rest d.streams streams said)
+        walked : (o : Option Waiting) → entry_at k d.waits.requests ≡ o → (items : List Item) → Walked says x k g items (askers_or_none o) [] (owed_in ps) (owed_in (not_of k ps)) d.streams
+        walked o entry items =
+            subst (λ (askers : List Asker). Walked says x k g items askers [] (owed_in ps) (owed_in (not_of k ps)) d.streams) (sym (waits.each k) ∙ ap askers_or_none entry)
+            (walk says x k g items ps [] d.streams streams said)
 
         reply_by : (o : Option Waiting) → entry_at k d.waits.requests ≡ o → WaitsKept (answered_if k o d.waits) (Put (Reply k x) ∷ h) g.last (not_of k ps)
             → AfterOuts says g (Put (Reply k x) ∷ h) ps (replies k x d o)
@@ -188,14 +188,14 @@ module _ (own : Query → Option (List ℕ)) where
           left = not_of k ps;
           waits = after;
           streams = streams;
-          pays = λ rest. (walked None entry rest).0;
+          pays = λ items. (walked None entry items).0;
           still = refl;
         }
         reply_by (Some v) entry after = record {
           left = not_of k ps;
           waits = after;
           streams = (walked (Some v) entry []).1;
-          pays = λ rest. (walked (Some v) entry rest).0;
+          pays = λ items. (walked (Some v) entry items).0;
           still = each_open x (v.first ∷ v.others) d.streams g;
         }
 
@@ -203,7 +203,7 @@ module _ (own : Query → Option (List ℕ)) where
         reply_put = reply_by (entry_at k d.waits.requests) refl (after_reply d.waits h g.last ps k x asked.0 asked.1 waits)
 
       other_put : (o : Out) → ((k : ℕ) → is_reply k o ≡ false) → AfterOuts says g (Put o ∷ h) ps (Core o ∷ [], d)
-      other_put o none = record { left = ps; waits = after_out d.waits h g.last ps o none waits; streams = streams; pays = λ rest. refl; still = refl }
+      other_put o none = record { left = ps; waits = after_out d.waits h g.last ps o none waits; streams = streams; pays = λ items. pays_one says (due g items (owed_in ps)) (due g items (owed_in ps)) (Core o ∷ []) (PutsOut o refl refl); still = refl }
 
     then_put : (h : History) (ps : List Pending) (first : List FrontOut × Desk) (rest : List FrontOut × Desk) (end : History) (a : AfterOuts says g h ps first)
         → AfterOuts says g end a.left rest → AfterOuts says g end ps (before first.0 rest)
@@ -211,7 +211,7 @@ module _ (own : Query → Option (List ℕ)) where
       left = b.left;
       waits = b.waits;
       streams = b.streams;
-      pays = λ more. pays_more says first.0 rest.0 (owed_in g ps ++ more) (owed_in g a.left ++ more) (owed_in g b.left ++ more) (a.pays more) (b.pays more);
+      pays = λ items. pays_more says (due g items (owed_in ps)) (due g items (owed_in a.left)) first.0 (a.pays items) (due g items (owed_in b.left)) rest.0 (b.pays items);
       still = closed_append first.0 rest.0 g ∙ ap (closed_by rest.0) a.still ∙ b.still;
     }
 
@@ -225,7 +225,7 @@ module _ (own : Query → Option (List ℕ)) where
 
     pub outs_put : (outs : List Out) (h : History) (ps : List Pending) (d : Desk) → WaitsKept d.waits h g.last ps → StreamsKept g d.streams → OutsFit h outs → TellsOf says h outs
         → AfterOuts says g (put_all outs h) ps (puts_all outs d)
-    outs_put [] h ps d waits streams fit tells = record { left = ps; waits = waits; streams = streams; pays = λ rest. refl; still = refl }
+    outs_put [] h ps d waits streams fit tells = record { left = ps; waits = waits; streams = streams; pays = λ items. rests (due g items (owed_in ps)) (due g items (owed_in ps)) [] refl refl; still = refl }
     outs_put (Reply k x ∷ outs) h ps d waits streams fit tells =
         let one = reply_put h ps d waits streams k x fit.0 (said_of h g.last k x outs tells ps waits.waiting) in
         then_put (Put (Reply k x) ∷ h) ps (puts_out (Reply k x) d) (puts_all outs (puts_out (Reply k x) d).1) (put_all outs (Put (Reply k x) ∷ h)) one

@@ -1,6 +1,6 @@
 -- One row of a forwarder.
-use Rattle.std.proofs.Common.{◌≡◌, ℕ, ◌≤◌, List, [], ◌∷◌, ◌++◌, Option, Some, None, cond, Bool, true, false, refl, sym, subst, ap, ◌∙◌, arith, inl}
-use Rattle.std.specs.Prelude.{◌||◌, not, is_some, max, option_and_then, option_map, Result}
+use Rattle.std.proofs.Common.{◌≡◌, ℕ, ◌≤◌, List, [], ◌∷◌, ◌++◌, Option, Some, None, Bool, true, false, refl, sym, subst, ap, ◌∙◌, arith, inl}
+use Rattle.std.specs.Prelude.{◌||◌, max, option_and_then, option_map, Result}
 use Rattle.std.specs.List.{AllByRecursion}
 use Rattle.std.specs.Map.{lookup}
 use Rattle.number_table.specs.Entries.{entry_at}
@@ -30,25 +30,16 @@ use Rattle.right_trace.specs.Right.{Among}
 use Rattle.right_trace.specs.Time.{now}
 use Rattle.right_trace.specs.Trace.{History, Came, after, put_all}
 use Rattle.proof_forwarding.specs.Heard.{Heard, closed_by, with_kept}
-use Rattle.proof_forwarding.specs.Owing.{Owed, Answers, Pays, Refusal, TakesOne, TurnsAway, as_sent, owed_for, without}
+use Rattle.proof_forwarding.specs.Owing.{AreMany, Does, Due, Owed, Pays, Takes, TurnsAway, as_sent, due}
 use Rattle.proof_forwarding.specs.Owing as owing
 use Rattle.proof_forwarding.specs.Serving.{behind}
 use Rattle.proof_forwarding.proofs.Tables.{each_found}
-use Rattle.proof_forwarding.proofs.Keeping.{IsKeyed, Pending, StreamsKept, WaitsKept, append_assoc, append_nil, owed_in, stands}
+use Rattle.proof_forwarding.proofs.Keeping.{IsKeyed, Pending, StreamsKept, WaitsKept, append_nil, map_snoc, owed, owed_in}
 use Rattle.proof_forwarding.proofs.Waits.{after_ask, after_event, after_join}
-use Rattle.proof_forwarding.proofs.Streams.{ItemsFit, after_close, owed_lost}
-use Rattle.proof_forwarding.proofs.Paying.{AfterOuts, OutsFit, closed_append, outs_put, pays_by_more, pays_more}
+use Rattle.proof_forwarding.proofs.Counting.{may_not_join, not_taken}
+use Rattle.proof_forwarding.proofs.Streams.{ItemsFit, after_close}
+use Rattle.proof_forwarding.proofs.Paying.{AfterOuts, OutsFit, closed_append, outs_put, pays_by_more, pays_more, pays_one, then_silent}
 use Rattle.proof_forwarding.proofs.Histories.{RowsFit, among_last, asking_put_all, behind_append, now_after, rows_split, said_in, said_more, some_last, some_more}
-
--- one more that waits, and may be reached, is owed
-pub owed_snoc : (g : Heard) (ps : List Pending) (p : Pending) → stands g p ≡ true → owed_in g (ps ++ p ∷ []) ≡ owed_in g ps ++ owing.Query p.asker p.since ∷ []
-owed_snoc g [] p is = ap (λ (b : Bool). cond b (owing.Query p.asker p.since ∷ []) []) is
-owed_snoc g (q ∷ ps) p is = go (stands g q) (owed_snoc g ps p is)
-  where
-    go : (b : Bool) → owed_in g (ps ++ p ∷ []) ≡ owed_in g ps ++ owing.Query p.asker p.since ∷ []
-        → cond b (owing.Query q.asker q.since ∷ owed_in g (ps ++ p ∷ [])) (owed_in g (ps ++ p ∷ [])) ≡ cond b (owing.Query q.asker q.since ∷ owed_in g ps) (owed_in g ps) ++ owing.Query p.asker p.since ∷ []
-    go true ih = ap (λ (os : List Owed). owing.Query q.asker q.since ∷ os) ih
-    go false ih = ih
 
 away_is : (b : Bool) (octets : List ℕ) → away b octets ≡ as_sent b octets
 away_is true octets = refl
@@ -72,8 +63,8 @@ module _ (key : List ℕ) (w : Waits) (keyed : AllByRecursion (IsKeyed w.next w.
   found_same : same_asked key w ≡ Some number → FoundSame key w number
   found_same found = by_number (lookup (is_key key) w.numbers) refl found
 
--- A row, whose event came at a moment, of a forwarder whose client had made these rows, where nothing was put out yet and this is owed.
-module _ (own : Query → Option (List ℕ)) (past : List Row) (moment : Moment) (heard : Heard) (due : List Owed) (time : ℕ) where
+-- A row, whose event came at a moment, of a forwarder whose client had made these rows, where nothing was put out yet and this is due.
+module _ (own : Query → Option (List ℕ)) (past : List Row) (moment : Moment) (heard : Heard) (start : Due) (time : ℕ) where
   abbrev past_history : History
   past_history = behind past []
 
@@ -85,7 +76,7 @@ module _ (own : Query → Option (List ℕ)) (past : List Row) (moment : Moment)
     pub waits : WaitsKept desk.waits (behind rows past_history) told.last pending
     pub streams : StreamsKept told desk.streams
     pub fit : ItemsFit told left
-    pub pays : Pays (said_in past rows) own outs due (owed_in told pending ++ owed_for time left)
+    pub pays : Pays (said_in past rows) own start outs (due told left (owed_in pending))
     pub in_time : max moment.0 (now (behind rows past_history)) ≡ time
     pub now_is : is_some_row rows ≡ true → now (behind rows past_history) ≡ time
     pub same_now : told.now ≡ time
@@ -94,7 +85,7 @@ module _ (own : Query → Option (List ℕ)) (past : List Row) (moment : Moment)
     -- without a row of the client
     still : (told : Heard) (pending : List Pending) (done : List FrontOut × Desk) → closed_by done.0 mid.told ≡ told → WaitsKept done.1.waits (behind rows past_history) told.last pending
         → StreamsKept told done.1.streams → ItemsFit told left
-        → Pays (said_in past rows) own done.0 (owed_in mid.told mid.pending ++ owed_for time (item ∷ left)) (owed_in told pending ++ owed_for time left) → told.now ≡ time
+        → Pays (said_in past rows) own (due mid.told (item ∷ left) (owed_in mid.pending)) done.0 (due told left (owed_in pending)) → told.now ≡ time
         → Mid left done.1 (outs ++ done.0) rows
     still told pending done told_is waits streams fit pays same = record {
       told = told;
@@ -103,7 +94,7 @@ module _ (own : Query → Option (List ℕ)) (past : List Row) (moment : Moment)
       waits = waits;
       streams = streams;
       fit = fit;
-      pays = pays_more own (said_in past rows) outs done.0 due (owed_in mid.told mid.pending ++ owed_for time (item ∷ left)) (owed_in told pending ++ owed_for time left) mid.pays pays;
+      pays = pays_more own (said_in past rows) start (due mid.told (item ∷ left) (owed_in mid.pending)) outs mid.pays (due told left (owed_in pending)) done.0 pays;
       in_time = mid.in_time;
       now_is = mid.now_is;
       same_now = same;
@@ -111,7 +102,7 @@ module _ (own : Query → Option (List ℕ)) (past : List Row) (moment : Moment)
 
   module _ (left : List Item) (outs : List FrontOut) (rows : List Row) (told : Heard) (pending : List Pending) (told_is : closed_by outs heard ≡ told) (row : Row) (desk : Desk)
       (waits : WaitsKept desk.waits (Came row.event ∷ behind rows past_history) told.last pending) (streams : StreamsKept told desk.streams) (fit : ItemsFit told left)
-      (pays : Pays (said_in past rows) own outs due (owed_in told pending ++ owed_for time left)) (in_time : max moment.0 (now (behind rows past_history)) ≡ time)
+      (pays : Pays (said_in past rows) own start outs (due told left (owed_in pending))) (in_time : max moment.0 (now (behind rows past_history)) ≡ time)
       (same : told.now ≡ time) (at : row.event.moment.0 ≡ moment.0) (outs_fit : OutsFit (Came row.event ∷ behind rows past_history) row.outs) where
     abbrev more : List Row
     more = rows ++ row ∷ []
@@ -149,9 +140,9 @@ module _ (own : Query → Option (List ℕ)) (past : List Row) (moment : Moment)
           waits = subst (λ (h : History). WaitsKept (puts_all row.outs desk).1.waits h told.last d.left) (sym history_is) d.waits;
           streams = d.streams;
           fit = fit;
-          pays = pays_more own (said_in past more) outs (puts_all row.outs desk).0 due (owed_in told pending ++ owed_for time left) (owed_in told d.left ++ owed_for time left)
-              (pays_by_more own (said_in past rows) (said_in past more) (said_more past rows (row ∷ [])) outs due (owed_in told pending ++ owed_for time left) pays)
-              (d.pays (owed_for time left));
+          pays = pays_more own (said_in past more) start (due told left (owed_in pending)) outs
+              (pays_by_more own (said_in past rows) (said_in past more) (said_more past rows (row ∷ [])) start (due told left (owed_in pending)) outs pays)
+              (due told left (owed_in d.left)) (puts_all row.outs desk).0 (d.pays left);
           in_time = (let is = later_now in let was = in_time in omega arith);
           now_is = λ some. later_now;
           same_now = same;
@@ -161,7 +152,7 @@ module _ (own : Query → Option (List ℕ)) (past : List Row) (moment : Moment)
     -- what is done to the client within
     happened : (left : List Item) (what : What) (desk : Desk) (pending : List Pending) (told : Heard) (old new : Scene C) (rows now_rows : List Row)
         → closed_by old.outs heard ≡ told → ((e : Event) → e.moment.0 ≡ moment.0 → e.what ≡ what → WaitsKept desk.waits (Came e ∷ behind rows past_history) told.last pending)
-        → StreamsKept told desk.streams → ItemsFit told left → Pays (said_in past rows) own old.outs due (owed_in told pending ++ owed_for time left)
+        → StreamsKept told desk.streams → ItemsFit told left → Pays (said_in past rows) own start old.outs (due told left (owed_in pending))
         → max moment.0 (now (behind rows past_history)) ≡ time → told.now ≡ time → RowsFit (behind rows past_history) now_rows
         → Happened steps (record { moment = moment; what = what }) desk old new now_rows → Mid left new.desk new.outs (rows ++ now_rows)
     happened left what desk pending told old new rows now_rows told_is waits streams fit pays in_time same rows_fit did =
@@ -182,57 +173,52 @@ module _ (own : Query → Option (List ℕ)) (past : List Row) (moment : Moment)
       abbrev pending_now : ℕ → Pending
       pending_now k = record { number = k; asker = asker; since = time }
 
-      reached : (k : ℕ) → stands mid.told (pending_now k) ≡ true
-      reached k = go asker.by_stream (mid.fit.0)
-        where
-          go : (b : Bool) → (b ≡ true → is_some (mid.told.kept asker.peer) ≡ true) → (not b || is_some (mid.told.kept asker.peer)) ≡ true
-          go true is = is refl
-          go false is = refl
-
       is_old : asker.by_stream ≡ true → is_new asker.peer mid.told.last ≡ false
       is_old stream = mid.streams.old asker.peer (mid.fit.0 stream)
 
-      owed_now : (k : ℕ) → owed_in mid.told mid.pending ++ owed_for time (Asks asker ∷ left) ≡ owed_in mid.told (mid.pending ++ pending_now k ∷ []) ++ owed_for time left
-      owed_now k =
-          sym (ap (λ (os : List Owed). os ++ owed_for time left) (owed_snoc mid.told mid.pending (pending_now k) (reached k))
-          ∙ append_assoc (owed_in mid.told mid.pending) (owing.Query asker time ∷ []) (owed_for time left))
+      taken : (k : ℕ) → Does (said_in past rows) own (due mid.told (Asks asker ∷ left) (owed_in mid.pending)) [] (due mid.told left (owed_in (mid.pending ++ pending_now k ∷ [])))
+      taken k = Takes asker left refl refl
+          (ap (λ (os : List Owed). due mid.told left os) (map_snoc owed mid.pending (pending_now k)
+          ∙ ap (λ (n : ℕ). owed_in mid.pending ++ record { asker = asker; since = n } ∷ []) (sym mid.same_now)))
 
-      turned_so : Mid left old.desk (old.outs ++ turned asker) rows
-      turned_so = still left (Asks asker) old.desk old.outs rows mid mid.told mid.pending (turned asker, old.desk) refl mid.waits mid.streams mid.fit.1
-          (record {
-            owed = owing.Query asker time;
-            before = owed_in mid.told mid.pending;
-            behind = owed_for time left;
-            is_owed = refl;
-            is_answer = (refl, TurnsAway (away_is asker.by_stream (turned_away asker.query)));
-            left = refl;
-          }) mid.same_now
+      turned_so : AreMany asker (owed_in mid.pending) → Mid left old.desk (old.outs ++ turned asker) rows
+      turned_so many = still left (Asks asker) old.desk old.outs rows mid mid.told mid.pending (turned asker, old.desk) refl mid.waits mid.streams mid.fit.1
+          (pays_one own (said_in past rows) (due mid.told (Asks asker ∷ left) (owed_in mid.pending)) (due mid.told left (owed_in mid.pending)) (turned asker)
+          (TurnsAway asker left refl many (ap (λ (octets : List ℕ). Answer asker.peer octets ∷ []) (away_is asker.by_stream (turned_away asker.query))) refl)) mid.same_now
 
       before_time : now (behind rows past_history) ≤ time
       before_time = (let is = mid.in_time in omega arith)
 
-      joined_so : (k : ℕ) → same_asked (key_of asker.query) old.desk.waits ≡ Some k → (may : Bool)
+      joined_so : (k : ℕ) → same_asked (key_of asker.query) old.desk.waits ≡ Some k → (may : Bool) → may_join k asker.by_stream old.desk.waits ≡ may
           → Mid left (joins_if may k asker old.desk).1 (old.outs ++ (joins_if may k asker old.desk).0) rows
-      joined_so k same false = turned_so
-      joined_so k same true =
+      joined_so k same false is =
+          let f = found_same (key_of asker.query) old.desk.waits mid.waits.keyed k same in
+          turned_so (may_not_join old.desk.waits (behind rows past_history) mid.told.last mid.pending mid.waits asker k f.waiting f.entry f.same is)
+      joined_so k same true is =
           let f = found_same (key_of asker.query) old.desk.waits mid.waits.keyed k same in
           still left (Asks asker) old.desk old.outs rows mid mid.told (mid.pending ++ pending_now k ∷ []) ([], record old.desk { waits = joins k asker old.desk.waits }) refl
           (after_join old.desk.waits (behind rows past_history) mid.told.last mid.pending asker time mid.waits is_old k f.waiting f.entry f.same before_time)
-          mid.streams mid.fit.1 (owed_now k) mid.same_now
+          mid.streams mid.fit.1
+          (pays_one own (said_in past rows) (due mid.told (Asks asker ∷ left) (owed_in mid.pending)) (due mid.told left (owed_in (mid.pending ++ pending_now k ∷ []))) [] (taken k)) mid.same_now
 
-      ask_if : (may : Bool) → DidAskIf steps may moment asker old new now_rows → Mid left new.desk new.outs (rows ++ now_rows)
-      ask_if false did = left_so left (turned asker, old.desk) old new rows now_rows did turned_so
-      ask_if true did =
+      ask_if : (served may : Bool) → (has_room old.desk.waits || served) ≡ may → DidAskIf steps may moment asker old new now_rows → Mid left new.desk new.outs (rows ++ now_rows)
+      ask_if served false is did =
+          left_so left (turned asker, old.desk) old new rows now_rows did (turned_so (not_taken old.desk.waits (behind rows past_history) mid.told.last mid.pending mid.waits asker served is))
+      ask_if served true is did =
           let next = old.desk.waits.next in
           happened left (Ask (request_of asker.query)) (with_waits (asks_anew asker old.desk.waits) old.desk) (mid.pending ++ pending_now next ∷ []) mid.told old new rows now_rows mid.told_is
           (λ e at what. after_ask old.desk.waits (behind rows past_history) mid.told.last mid.pending asker time mid.waits is_old e what
           (let is = mid.in_time in subst (λ (m : ℕ). max m (now (behind rows past_history)) ≤ time) (sym at) (omega arith)))
-          mid.streams mid.fit.1 (subst (Pays (said_in past rows) own old.outs due) (owed_now next) mid.pays) mid.in_time mid.same_now rows_fit did
+          mid.streams mid.fit.1
+          (then_silent own (said_in past rows) start (due mid.told (Asks asker ∷ left) (owed_in mid.pending)) (due mid.told left (owed_in (mid.pending ++ pending_now next ∷ []))) old.outs mid.pays (taken next))
+          mid.in_time mid.same_now rows_fit did
 
       query_done : (same : Option ℕ) → same_asked (key_of asker.query) old.desk.waits ≡ same → DidQuery steps serves same moment asker old new now_rows → Mid left new.desk new.outs (rows ++ now_rows)
       query_done (Some k) same did =
-          left_so left (joins_if (may_join k asker.by_stream old.desk.waits) k asker old.desk) old new rows now_rows did (joined_so k same (may_join k asker.by_stream old.desk.waits))
-      query_done None same did = ask_if (has_room old.desk.waits || serves old.within moment (request_of asker.query)) did
+          left_so left (joins_if (may_join k asker.by_stream old.desk.waits) k asker old.desk) old new rows now_rows did (joined_so k same (may_join k asker.by_stream old.desk.waits) refl)
+      query_done None same did =
+          let served : Bool = serves old.within moment (request_of asker.query) in
+          ask_if served (has_room old.desk.waits || served) refl did
 
     item_done : (left : List Item) (item : Item) (old new : Scene C) (rows now_rows : List Row) → Mid (item ∷ left) old.desk old.outs rows → RowsFit (behind rows past_history) now_rows
         → DidItem steps serves moment item old new now_rows → Mid left new.desk new.outs (rows ++ now_rows)
@@ -240,25 +226,20 @@ module _ (own : Query → Option (List ℕ)) (past : List Row) (moment : Moment)
     item_done left (Happens what) old new rows now_rows mid rows_fit did =
         happened left what old.desk mid.pending mid.told old new rows now_rows mid.told_is
         (λ e at is. after_event old.desk.waits (behind rows past_history) mid.told.last mid.pending e (ap is_ask is ∙ mid.fit.0) mid.waits)
-        mid.streams mid.fit.1 mid.pays mid.in_time mid.same_now rows_fit did
+        mid.streams mid.fit.1
+        (then_silent own (said_in past rows) start (due mid.told (Happens what ∷ left) (owed_in mid.pending)) (due mid.told left (owed_in mid.pending)) old.outs mid.pays (owing.Happens what left refl refl refl))
+        mid.in_time mid.same_now rows_fit did
     item_done left (Refuses peer octets) old new rows now_rows mid rows_fit did =
         left_so left (Answer peer octets ∷ [], old.desk) old new rows now_rows did
         (still left (Refuses peer octets) old.desk old.outs rows mid mid.told mid.pending (Answer peer octets ∷ [], old.desk) refl mid.waits mid.streams mid.fit
-        (record {
-          owed = Refusal peer octets;
-          before = owed_in mid.told mid.pending;
-          behind = owed_for time left;
-          is_owed = refl;
-          is_answer = (refl, refl);
-          left = refl;
-        }) mid.same_now)
+        (pays_one own (said_in past rows) (due mid.told (Refuses peer octets ∷ left) (owed_in mid.pending)) (due mid.told left (owed_in mid.pending)) (Answer peer octets ∷ [])
+        (owing.Refuses peer octets left refl refl refl)) mid.same_now)
     item_done left (Drops peer) old new rows now_rows mid rows_fit did =
         left_so left (Drop peer ∷ [], with_streams (closes peer old.desk.streams) old.desk) old new rows now_rows did
         (still left (Drops peer) old.desk old.outs rows mid (with_kept peer None mid.told) mid.pending (Drop peer ∷ [], with_streams (closes peer old.desk.streams) old.desk) refl
         mid.waits (after_close mid.told old.desk.streams mid.streams peer) (subst (ItemsFit (with_kept peer None mid.told)) (sym mid.fit) tt)
-        (subst (λ (items : List Item). without peer (owed_in mid.told mid.pending ++ owed_for time items) ≡ owed_in (with_kept peer None mid.told) mid.pending ++ owed_for time items) (sym mid.fit)
-        (ap (without peer) (append_nil (owed_in mid.told mid.pending)) ∙ sym (owed_lost mid.told peer mid.pending) ∙ sym (append_nil (owed_in (with_kept peer None mid.told) mid.pending))))
-        mid.same_now)
+        (pays_one own (said_in past rows) (due mid.told (Drops peer ∷ left) (owed_in mid.pending)) (due (with_kept peer None mid.told) left (owed_in mid.pending)) (Drop peer ∷ [])
+        (owing.Drops peer left refl refl refl)) mid.same_now)
 
     pub items_done : (items : List Item) (old : Scene C) (left : List Item) (new : Scene C) (rows : List Row) → Mid items old.desk old.outs [] → RowsFit past_history rows
         → Doing steps serves moment items old left new rows → Mid left new.desk new.outs rows

@@ -1,7 +1,6 @@
 -- What rows tell of streams is what a forwarder keeps of them.
-use Rattle.std.proofs.Common.{◌≡◌, ℕ, zero, suc, List, [], ◌∷◌, ◌++◌, length, Option, Some, None, cond, Bool, true, false, refl, sym, subst, ap, ◌∙◌, arith}
-use Rattle.std.specs.Prelude.{◌==◌, ◌||◌, ◌&&◌, not, is_some, option_map, nat_lt, if◌then◌else◌}
-use Rattle.std.specs.List.{AllByRecursion, filter}
+use Rattle.std.proofs.Common.{◌≡◌, ℕ, zero, suc, List, [], ◌∷◌, ◌++◌, length, Option, Some, None, Bool, true, false, refl, sym, subst, ap, ◌∙◌, arith}
+use Rattle.std.specs.Prelude.{◌==◌, ◌&&◌, is_some, option_map, nat_lt, if◌then◌else◌}
 use Rattle.std.proofs.lemmas.Bool.Decides.{nat_tests}
 use Rattle.number_table.specs.Entries.{entry_at, puts, frees}
 use Rattle.client_request.specs.declared.event.What.{What}
@@ -19,10 +18,9 @@ use Rattle.front_peers.specs.declared.peers.Stream.{Stream}
 use Rattle.front_steps.specs.Waiting.{Waits}
 use Rattle.right_trace.specs.Requests.{is_ask}
 use Rattle.right_trace.specs.Trace.{History}
-use Rattle.proof_forwarding.specs.Heard.{Heard, brought, comes, hears, rest_behind, with_kept}
-use Rattle.proof_forwarding.specs.Owing.{Owed, is_of_stream, owed_for, unless_gone, without}
+use Rattle.proof_forwarding.specs.Heard.{Heard, hears, rest_behind, with_kept}
 use Rattle.proof_forwarding.proofs.Tables.{Rises, put_rises, freed_rises, put_here, put_other, free_here, free_other}
-use Rattle.proof_forwarding.proofs.Keeping.{Pending, IsWaiting, WaitsKept, StreamsKept, all_changed, is_same, owed, owed_in, same_number, stands}
+use Rattle.proof_forwarding.proofs.Keeping.{Pending, IsWaiting, WaitsKept, StreamsKept, all_changed, is_same, same_number}
 
 abbrev Table : Type 0
 Table = List (ℕ × Stream)
@@ -197,19 +195,6 @@ accept_fits heard es s t true true = room_fits heard es (nat_lt (length es) 100)
 accept_fits heard es s t true false = tt
 accept_fits heard es s t false b = tt
 
-owed_for_drops : (n : ℕ) (o : Option (ℕ × ℕ)) → owed_for n (drops o) ≡ []
-owed_for_drops n None = refl
-owed_for_drops n (Some quiet) = refl
-
-owed_for_room : (n : ℕ) (es : Table) (b : Bool) → owed_for n (if b then [] else drops (quietest None es)) ≡ []
-owed_for_room n es true = refl
-owed_for_room n es false = owed_for_drops n (quietest None es)
-
-owed_for_accept : (n : ℕ) (es : Table) (s t : Streams) (a b : Bool) → owed_for n (if◌then◌else◌ {A = List Item × Streams} a (if◌then◌else◌ {A = List Item × Streams} b (makes_room es, t) ([], s)) ([], s)).0 ≡ []
-owed_for_accept n es s t true true = owed_for_room n es (nat_lt (length es) 100)
-owed_for_accept n es s t true false = refl
-owed_for_accept n es s t false b = refl
-
 module _ (heard : Heard) (s : Streams) (kept : StreamsKept heard s) where
   datagram_taken : (peer : ℕ) (is : Sorted) (b : Bool) → ItemsFit heard (if◌then◌else◌ {A = List Item × Streams} b ([], s) (of_datagram peer is, s)).0
   datagram_taken peer is true = tt
@@ -230,89 +215,9 @@ module _ (heard : Heard) (s : Streams) (kept : StreamsKept heard s) where
   items_fit (Gone peer) = tt
   items_fit (Core what) = (no_ask what, tt)
 
-  datagram_owed : (n peer : ℕ) (is : Sorted) (b : Bool) → owed_for n (if◌then◌else◌ {A = List Item × Streams} b ([], s) (of_datagram peer is, s)).0 ≡ owed_for n (if b then [] else of_datagram peer is)
-  datagram_owed n peer is true = refl
-  datagram_owed n peer is false = refl
-
-  bytes_owed : (n peer : ℕ) (octets : List ℕ) (o : Option Stream) → owed_for n (brings peer octets s o).0 ≡ owed_for n (brought peer octets (option_map (λ (t : Stream). t.framer) o))
-  bytes_owed n peer octets None = refl
-  bytes_owed n peer octets (Some t) = refl
-
-  -- what is owed for them
-  pub items_owed : (n : ℕ) (what : FrontWhat) → owed_for n (takes_now what s).0 ≡ owed_for n (comes what heard)
-  items_owed n (Datagram peer octets) = datagram_owed n peer (sorted octets) (is_stream peer)
-  items_owed n (Accepted peer) = owed_for_accept n s.streams s (opens peer s) (is_stream peer) (is_new peer s.last)
-  items_owed n (Bytes peer octets) = bytes_owed n peer octets (entry_at peer s.streams) ∙ ap (λ (o : Option (List ℕ)). owed_for n (brought peer octets o)) (sym (kept.kept peer))
-  items_owed n (Gone peer) = refl
-  items_owed n (Core what) = refl
-
--- ---- whose streams are open
-
-pub owed_alike : (a b : Heard) (ps : List Pending) → AllByRecursion (λ (p : Pending). stands a p ≡ stands b p) ps → owed_in a ps ≡ owed_in b ps
-owed_alike a b [] all = refl
-owed_alike a b (p ∷ ps) all =
-    ap (λ (rest : List Owed). cond (stands a p) (owed p ∷ rest) rest) (owed_alike a b ps all.1) ∙ ap (λ (t : Bool). cond t (owed p ∷ owed_in b ps) (owed_in b ps)) all.0
-
-filter_cond : (test : Owed → Bool) (c : Bool) (x : Owed) (xs : List Owed) → filter test (cond c (x ∷ xs) xs) ≡ cond c (cond (test x) (x ∷ filter test xs) (filter test xs)) (filter test xs)
-filter_cond test true x xs = refl
-filter_cond test false x xs = refl
-
-lost_one : (b e : Bool) (o : Option (List ℕ)) (x : Owed) (xs : List Owed)
-    → cond (not b || is_some (if e then None else o)) (x ∷ xs) xs ≡ cond (not b || is_some o) (cond (not (b && e)) (x ∷ xs) xs) xs
-lost_one true true None x xs = refl
-lost_one true true (Some kept) x xs = refl
-lost_one true false None x xs = refl
-lost_one true false (Some kept) x xs = refl
-lost_one false e o x xs = refl
-
--- to a peer whose stream is gone nothing is owed
-pub owed_lost : (heard : Heard) (peer : ℕ) (ps : List Pending) → owed_in (with_kept peer None heard) ps ≡ without peer (owed_in heard ps)
-owed_lost heard peer [] = refl
-owed_lost heard peer (p ∷ ps) =
-    let test : Owed → Bool = λ it. not (is_of_stream peer it) in
-    ap (λ (rest : List Owed). cond (stands (with_kept peer None heard) p) (owed p ∷ rest) rest) (owed_lost heard peer ps)
-    ∙ lost_one p.asker.by_stream (p.asker.peer == peer) (heard.kept p.asker.peer) (owed p) (filter test (owed_in heard ps))
-    ∙ sym (filter_cond test (stands heard p) (owed p) (owed_in heard ps))
+-- ---- what is told of them later
 
 module _ (heard : Heard) (h : History) where
-  stands_if : (p : Pending) (peer : ℕ) (o : Option (List ℕ)) (last : Option ℕ) → (p.asker.by_stream ≡ true → p.asker.peer ≡ peer → is_some o ≡ is_some (heard.kept p.asker.peer))
-      → stands (record heard { kept = λ q. if q == peer then o else heard.kept q; last = last }) p ≡ stands heard p
-  stands_if p peer o last is = go p.asker.by_stream refl
-    where
-      by : (c : Bool) → (p.asker.peer == peer) ≡ c → (p.asker.peer ≡ peer → is_some o ≡ is_some (heard.kept p.asker.peer)) → is_some (if c then o else heard.kept p.asker.peer) ≡ is_some (heard.kept p.asker.peer)
-      by true same it = it (same_number p.asker.peer peer same)
-      by false same it = refl
-
-      go : (b : Bool) → p.asker.by_stream ≡ b → (not b || is_some (if p.asker.peer == peer then o else heard.kept p.asker.peer)) ≡ (not b || is_some (heard.kept p.asker.peer))
-      go true stream = by (p.asker.peer == peer) refl (is stream)
-      go false stream = refl
-
-  module _ (ps : List Pending) (waiting : AllByRecursion (IsWaiting h heard.last) ps) where
-    owed_open : (peer : ℕ) (a b : Bool) → is_new peer heard.last ≡ b → owed_in (if a && b then with_kept peer (Some []) (record heard { last = Some peer }) else heard) ps ≡ owed_in heard ps
-    owed_open peer true true new = owed_alike (with_kept peer (Some []) (record heard { last = Some peer })) heard ps
-        (all_changed (IsWaiting h heard.last) (λ (p : Pending). stands (with_kept peer (Some []) (record heard { last = Some peer })) p ≡ stands heard p)
-        (λ p is. stands_if p peer (Some []) (Some peer) (λ stream same.
-        (let old : is_new p.asker.peer heard.last ≡ false = is.old stream in let it : is_new p.asker.peer heard.last ≡ is_new peer heard.last = ap (λ (n : ℕ). is_new n heard.last) same in absurd (cc))))
-        ps waiting)
-    owed_open peer true false new = refl
-    owed_open peer false b new = refl
-
-    still_some : (peer : ℕ) (octets : List ℕ) (o : Option (List ℕ)) → is_some (rest_behind peer octets o) ≡ is_some o
-    still_some peer octets None = refl
-    still_some peer octets (Some kept) = refl
-
-    -- what is owed once this is heard
-    pub owed_heard : (what : FrontWhat) → owed_in (hears what heard) ps ≡ unless_gone what (owed_in heard ps)
-    owed_heard (Datagram peer octets) = refl
-    owed_heard (Accepted peer) = owed_open peer (is_stream peer) (is_new peer heard.last) refl
-    owed_heard (Bytes peer octets) = owed_alike (hears (Bytes peer octets) heard) heard ps
-        (all_changed (IsWaiting h heard.last) (λ (p : Pending). stands (hears (Bytes peer octets) heard) p ≡ stands heard p)
-        (λ p is. stands_if p peer (rest_behind peer octets (heard.kept peer)) heard.last (λ stream same.
-        still_some peer octets (heard.kept peer) ∙ ap (λ (n : ℕ). is_some (heard.kept n)) (sym same)))
-        ps waiting)
-    owed_heard (Gone peer) = owed_lost heard peer ps
-    owed_heard (Core what) = refl
-
   last_over : (q peer : ℕ) (last : Option ℕ) → is_new q last ≡ false → is_new peer last ≡ true → is_new q (Some peer) ≡ false
   last_over q peer None old new = absurd (cc)
   last_over q peer (Some l) old new = grind (arith, nat_tests)
@@ -347,6 +252,7 @@ module _ (heard : Heard) (h : History) where
       none = is.none;
       old = λ stream. old_stays what p.asker.peer (is.old stream);
     }) ps kept.waiting;
+    shares = kept.shares;
     asked = kept.asked;
   }
 

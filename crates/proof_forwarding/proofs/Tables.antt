@@ -16,8 +16,8 @@ greater k l h = grind (arith, nat_tests)
 equal_keys : (j k : ℕ) → nat_cmp j k ≡ Equal → j ≡ k
 equal_keys j k is = grind (arith, nat_tests)
 
-apart : (j k : ℕ) → j ≢ k → is_eq (nat_cmp j k) ≡ false
-apart j k ne = go (nat_cmp j k) refl
+pub key_apart : (j k : ℕ) → j ≢ k → is_eq (nat_cmp j k) ≡ false
+key_apart j k ne = go (nat_cmp j k) refl
   where
     go : (r : Ordering) → nat_cmp j k ≡ r → is_eq r ≡ false
     go Less is = refl
@@ -83,17 +83,17 @@ module _ {V : Type 0} where
       go Greater is ih = ap (λ (o : Ordering). cond (is_eq o) (Some e.1) (entry_at k (puts k v es))) is ∙ ih
 
   pub put_other : (j k : ℕ) (v : V) (es : List (ℕ × V)) → j ≢ k → entry_at j (puts k v es) ≡ entry_at j es
-  put_other j k v [] ne = ap (λ (b : Bool). cond b (Some v) None) (apart j k ne)
+  put_other j k v [] ne = ap (λ (b : Bool). cond b (Some v) None) (key_apart j k ne)
   put_other j k v (e ∷ es) ne = go (nat_cmp k e.0) refl (put_other j k v es ne)
     where
       go : (r : Ordering) → nat_cmp k e.0 ≡ r → entry_at j (puts k v es) ≡ entry_at j es → entry_at j (match_ordering r ((k, v) ∷ e ∷ es) ((e.0, v) ∷ es) (e ∷ puts k v es)) ≡ entry_at j (e ∷ es)
-      go Less is ih = ap (λ (b : Bool). cond b (Some v) (entry_at j (e ∷ es))) (apart j k ne)
+      go Less is ih = ap (λ (b : Bool). cond b (Some v) (entry_at j (e ∷ es))) (key_apart j k ne)
       go Equal is ih =
-          let not_it : is_eq (nat_cmp j e.0) ≡ false = apart j e.0 (λ same. ne (same ∙ sym (equal_keys k e.0 is))) in
+          let not_it : is_eq (nat_cmp j e.0) ≡ false = key_apart j e.0 (λ same. ne (same ∙ sym (equal_keys k e.0 is))) in
           ap (λ (b : Bool). cond b (Some v) (entry_at j es)) not_it ∙ sym (ap (λ (b : Bool). cond b (Some e.1) (entry_at j es)) not_it)
       go Greater is ih = ap (λ (o : Option V). cond (is_eq (nat_cmp j e.0)) (Some e.1) o) ih
 
-  none_above : (k : ℕ) (es : List (ℕ × V)) → Above k es → entry_at k es ≡ None
+  pub none_above : (k : ℕ) (es : List (ℕ × V)) → Above k es → entry_at k es ≡ None
   none_above k [] all = refl
   none_above k (e ∷ es) all = ap (λ (o : Ordering). cond (is_eq o) (Some e.1) (entry_at k es)) all.0 ∙ none_above k es all.1
 
@@ -112,7 +112,7 @@ module _ {V : Type 0} where
     where
       go : (r : Ordering) → nat_cmp k e.0 ≡ r → entry_at j (frees k es) ≡ entry_at j es → entry_at j (cond (is_eq r) es (e ∷ frees k es)) ≡ entry_at j (e ∷ es)
       go Less is ih = ap (λ (o : Option V). cond (is_eq (nat_cmp j e.0)) (Some e.1) o) ih
-      go Equal is ih = sym (ap (λ (b : Bool). cond b (Some e.1) (entry_at j es)) (apart j e.0 (λ same. ne (same ∙ sym (equal_keys k e.0 is)))))
+      go Equal is ih = sym (ap (λ (b : Bool). cond b (Some e.1) (entry_at j es)) (key_apart j e.0 (λ same. ne (same ∙ sym (equal_keys k e.0 is)))))
       go Greater is ih = ap (λ (o : Option V). cond (is_eq (nat_cmp j e.0)) (Some e.1) o) ih
 
 -- Tables by lists of octets, of whose entries something holds.

@@ -20,7 +20,7 @@ use Rattle.right_trace.specs.Time.{now}
 use Rattle.right_trace.specs.Trace.{History, Came, Put}
 use Rattle.right_trace.proofs.Asked.{asking_below, asking_came}
 use Rattle.proof_forwarding.proofs.Tables.{put_rises, freed_rises, put_here, put_other, free_here, free_other, each_put, each_removed}
-use Rattle.proof_forwarding.proofs.Keeping.{Pending, of_number, not_of, askers_in, IsWaiting, IsKeyed, WaitsKept, IsFirstOf, all_changed, all_more, filter_snoc, append_nil, map_snoc, same_number, is_same, is_other, none_of, others_of, left_waits, first_of, asking_moment, asked_now, asks_now, asks_still, few_asked}
+use Rattle.proof_forwarding.proofs.Keeping.{Pending, of_number, not_of, askers_in, IsWaiting, IsKeyed, Shares, WaitsKept, IsFirstOf, all_changed, all_joined, all_more, filter_snoc, append_nil, map_snoc, same_number, is_same, is_other, none_of, others_of, left_waits, first_of, asking_moment, asked_now, asks_now, asks_still, few_asked}
 
 -- ---- an event that asks nothing
 
@@ -41,6 +41,7 @@ after_event w h last ps e no_ask kept = record {
     none = is.none;
     old = is.old;
   }) ps kept.waiting;
+  shares = kept.shares;
   asked = λ k is. (let few = few_asked e h in let low = kept.asked k is in omega arith);
 }
 
@@ -66,6 +67,7 @@ after_out w h last ps o no_reply kept = record {
     none = off_either (is_reply p.number o) (replied p.number h) (no_reply p.number) is.none;
     old = is.old;
   }) ps kept.waiting;
+  shares = kept.shares;
   asked = λ k is. kept.asked k (sym (ap (λ (b : Bool). b || replied k h) (no_reply k)) ∙ is);
 }
 
@@ -114,6 +116,7 @@ module _ (w : Waits) (h : History) (last : Option ℕ) (ps : List Pending) (k : 
     keys = kept.keys;
     each = each_after w.requests none (λ j apart. refl);
     waiting = left_waiting;
+    shares = left_waits (Shares w.requests) (Shares w.requests) k (λ p apart is. is) ps kept.shares;
     asked = asked_later;
   }
 
@@ -138,6 +141,7 @@ module _ (w : Waits) (h : History) (last : Option ℕ) (ps : List Pending) (k : 
     keys = λ j u at. kept.keys j u (freed_entry j u at);
     each = each_after (frees k w.requests) (free_here k w.requests kept.rises) (λ j apart. free_other j k w.requests apart);
     waiting = left_waiting;
+    shares = left_waits (Shares w.requests) (Shares (frees k w.requests)) k (λ p apart is. λ u at. is u (freed_entry p.number u at)) ps kept.shares;
     asked = asked_later;
   }
 
@@ -264,6 +268,10 @@ module _ (w : Waits) (h : History) (last : Option ℕ) (ps : List Pending) (aske
             old = is.old;
           }) ps kept.waiting)
           one_waits;
+      shares = all_more (Shares (puts w.next first w.requests)) ps (one w.next)
+          (all_joined (IsWaiting h last) (Shares w.requests) (Shares (puts w.next first w.requests))
+          (λ p is was. λ v at. was v (sym (put_other p.number w.next first w.requests (low p.number is.asked is.is_asked)) ∙ at)) ps kept.waiting kept.shares)
+          (λ v at. sym (keyed_now.same v at));
       asked = λ k is. (let few = few_asked e h in let low = kept.asked k is in omega arith);
     }
 
@@ -335,6 +343,20 @@ module _ (w : Waits) (h : History) (last : Option ℕ) (ps : List Pending) (aske
         by (inl both) = subst (λ (x : Waiting). x.key ≡ key_of x.first.query) (sym both.0) (kept.keys k v entry)
         by (inr was) = kept.keys j u was
 
+    shares_joined : (p : Pending) → Shares w.requests p → Shares table p
+    shares_joined p is = λ u at. by u (joined_entry p.number u at)
+      where
+        by : (u : Waiting) → (u ≡ joined) × (p.number ≡ k) ⊎ (entry_at p.number w.requests ≡ Some u) → key_of p.asker.query ≡ u.key
+        by u (inl both) = is v (subst (λ (n : ℕ). entry_at n w.requests ≡ Some v) (sym both.1) entry) ∙ sym (ap (λ (x : Waiting). x.key) both.0)
+        by u (inr was) = is u was
+
+    shares_now : Shares table (one k)
+    shares_now = λ u at. by u (joined_entry k u at)
+      where
+        by : (u : Waiting) → (u ≡ joined) × (k ≡ k) ⊎ (entry_at k w.requests ≡ Some u) → key_of asker.query ≡ u.key
+        by u (inl both) = sym (ap (λ (x : Waiting). x.key) both.0 ∙ key)
+        by u (inr was) = let same : v ≡ u = cc in sym (sym (ap (λ (x : Waiting). x.key) same) ∙ key)
+
     after_join_of : WaitsKept (joins_one k asker w (Some v)) h last (ps ++ one k ∷ [])
     after_join_of = record {
       next = kept.next;
@@ -343,6 +365,7 @@ module _ (w : Waits) (h : History) (last : Option ℕ) (ps : List Pending) (aske
       keys = keys_joined;
       each = each_joined;
       waiting = all_more (IsWaiting h last) ps (one k) kept.waiting joined_waits;
+      shares = all_more (Shares table) ps (one k) (all_changed (Shares w.requests) (Shares table) shares_joined ps kept.shares) shares_now;
       asked = kept.asked;
     }
 

@@ -2,12 +2,14 @@
 use Rattle.std.specs.Prelude.{ℕ, ◌≤◌, List, [], ◌∷◌, Option, None}
 use Rattle.client_request.specs.declared.event.Row.{Row}
 use Rattle.client_settings.specs.Settings.{CacheSettings, RedundantSettings, seconds}
+use Rattle.client_steps.specs.Headline.{conf_of, settings_of}
 use Rattle.client_steps.specs.Whole.{Whole, started}
 use Rattle.front_core.specs.Forwarded.{Forwards}
 use Rattle.front_peers.specs.declared.event.FrontRow.{FrontRow}
 use Rattle.front_queries.specs.Query.{Query}
 use Rattle.front_steps.specs.Steps.{Forwarding, beginning}
 use Rattle.proof_client.specs.Above.{AreWords}
+use Rattle.proof_forwarding.specs.Age.{AreAged}
 use Rattle.proof_forwarding.specs.Serving.{ServesAll}
 use Rattle.resolv_conf.specs.declared.conf.ResolvConf.{ResolvConf}
 
@@ -20,3 +22,9 @@ abbrev pub EveryQueryIsServed : Type 0
 EveryQueryIsServed = (redundant : RedundantSettings) (cache : CacheSettings) (conf : ResolvConf) (words : ℕ → ℕ) (rows : List FrontRow) (trace : List Row) (last : Forwarding Whole) (left : ℕ → ℕ)
     → Forwards (beginning (started redundant cache conf)) words rows trace last left → cache.max_validity ≤ seconds 6048000 → AreWords words
     → ServesAll conf.options.timeout by_itself rows (trace ∷ [])
+
+-- The client within a forwarder gives no reply that is older.
+abbrev pub NoAnswerIsOlder : Type 0
+NoAnswerIsOlder = (redundant : RedundantSettings) (cache : CacheSettings) (conf : ResolvConf) (words : ℕ → ℕ) (rows : List FrontRow) (trace : List Row) (last : Forwarding Whole) (left : ℕ → ℕ)
+    → Forwards (beginning (started redundant cache conf)) words rows trace last left → cache.max_validity ≤ seconds 6048000 → AreWords words
+    → AreAged (conf_of conf) (settings_of redundant cache) [] trace

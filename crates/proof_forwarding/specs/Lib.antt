@@ -6,3 +6,6 @@ pub mod Forging
 pub mod Worked
 pub mod Sizes
 pub mod Bounds
+pub mod Age
+pub mod Isolation
+pub mod NoServer

@@ -11,8 +11,9 @@ use Rattle.front_peers.specs.declared.event.FrontRow.{FrontRow}
 use Rattle.right_trace.specs.Requests.{Asking, asking}
 use Rattle.right_trace.specs.Right.{Among}
 use Rattle.right_trace.specs.Trace.{History, after}
-use Rattle.proof_forwarding.specs.Heard.{Heard, after_row, comes, nothing_heard, told_by}
-use Rattle.proof_forwarding.specs.Owing.{Owed, AreYoung, Pays, owed_for, unless_gone}
+use Rattle.front_peers.specs.declared.items.Item.{Item}
+use Rattle.proof_forwarding.specs.Heard.{Comes, Heard, after_row, nothing_heard, told_by}
+use Rattle.proof_forwarding.specs.Owing.{AreYoung, Owed, Pays, due}
 
 -- what happened once these rows were made
 abbrev pub behind : List Row → History → History
@@ -43,10 +44,11 @@ IsReplied [] q reply = ⊥
 IsReplied (turn ∷ turns) q reply = IsReply q reply turn ⊎ IsReplied turns q reply
 
 module _ (timeout : ℕ) (own : Query → Option (List ℕ)) where
-  -- A row: what comes is owed, each answer pays one thing that is owed to that very peer, and what is left is owed for less than the timeout.
+  -- A row: the things that came are done, what is put out is put out for one of them or for a query that waits, and those that wait then were taken less than the timeout ago.
   pub record RowServes (row : FrontRow) (turns : List Turn) (heard : Heard) (owing left : List Owed) : Type 0 where
-    pub pays :
-        Pays (IsReplied turns) own row.outs (unless_gone row.event.what owing ++ owed_for (told_by row.event heard).now (comes row.event.what heard)) left
+    pub items : List Item
+    pub come : Comes row.event.what heard items
+    pub pays : Pays (IsReplied turns) own (due (told_by row.event heard) items owing) row.outs (due (after_row row heard) [] left)
     pub young : AreYoung timeout (after_row row heard).now left
 
   -- Rows of a forwarder from its beginning on, with those of the clients within it: what they tell of peers, and what is owed behind them.

@@ -17,7 +17,6 @@ use Rattle.front_queries.specs.Requests.{request_of}
 use Rattle.front_queries.specs.declared.sorting.Sorted.TheVariants.{Taken}
 use Rattle.proof_forwarding.specs.Forwarding.{by_itself}
 use Rattle.proof_forwarding.specs.Heard.{Heard}
-use Rattle.proof_forwarding.specs.Owing as owing
 use Rattle.proof_forwarding.specs.Owing.{Owed}
 use Rattle.proof_forwarding.specs.Serving.{IsReplied, RowServes, ServesAll, Turn}
 
@@ -39,7 +38,7 @@ WorkedServing = (timeout : ℕ) (octets : List ℕ) (q : Query) (reply : Result 
 
 -- One query is owed an answer since moment 0.
 abbrev pub one_owed : (peer : ℕ) (by_stream : Bool) → Query → List Owed
-one_owed peer by_stream q = owing.Query (asker peer by_stream q) 0 ∷ []
+one_owed peer by_stream q = record { asker = asker peer by_stream q; since = 0 } ∷ []
 
 -- Behind such a query these rows are none of a forwarder's, whatever the clients within do and the forwarder says of itself.
 module _ (timeout : ℕ) (turns : List Turn) (heard : Heard) (q : Query) (left : List Owed) where
@@ -59,10 +58,15 @@ module _ (timeout : ℕ) (turns : List Turn) (heard : Heard) (q : Query) (left :
   abbrev pub WhenGone : (by_stream : Bool) → Type 0
   WhenGone by_stream = by_stream ≡ true → (peer : ℕ) (octets : List ℕ) → RowServes timeout by_itself (at 100 (Gone peer) (Answer peer octets ∷ [])) turns heard (one_owed peer by_stream q) left → ⊥
 
-  -- Octets that neither turn it away nor are made of a reply that a client gave to a query that asks the same: as those that have the id, the spelling or the OPT record of another query, or that answer another key.
+  -- Octets that are not made of a reply that a client gave to a query that asks the same: as those that turn it away now that it waits, that have the id, the spelling or the OPT record of another query, or that answer another key.
   abbrev pub Others : Type 0
-  Others = (octets : List ℕ) → octets ≢ turned_away q → ((reply : Result (List ℕ) Error) → IsReplied turns q reply → octets ≢ answer_to q false reply)
+  Others = (octets : List ℕ) → ((reply : Result (List ℕ) Error) → IsReplied turns q reply → octets ≢ answer_to q false reply)
       → RowServes timeout by_itself (at 100 (Core Tick) (Answer 1 octets ∷ [])) turns heard (one_owed 1 false q) left → ⊥
+
+  -- it is turned away as it comes, while none waits
+  abbrev pub TooSoon : Type 0
+  TooSoon = (octets : List ℕ) → sorted octets ≡ Taken q → ((reply : Result (List ℕ) Error) → IsReplied turns q reply → turned_away q ≢ answer_to q false reply)
+      → RowServes timeout by_itself (at 0 (Datagram 1 octets) (Answer 1 (turned_away q) ∷ [])) turns heard [] left → ⊥
 
   pub record AreRefused : Type 0 where
     pub another : ToAnother
@@ -70,6 +74,7 @@ module _ (timeout : ℕ) (turns : List Turn) (heard : Heard) (q : Query) (left :
     pub never : Never
     pub gone : WhenGone true
     pub others : Others
+    pub soon : TooSoon
 
 abbrev pub WrongAnswersAreRefused : Type 0
 WrongAnswersAreRefused = (timeout : ℕ) (turns : List Turn) (heard : Heard) (q : Query) (left : List Owed) → AreRefused timeout turns heard q left

@@ -4,6 +4,8 @@
 mod laws;
 
 pub use laws::{
-    datagram_answers_are_short, every_query_is_served, forged_answers_are_few, streams_are_few,
-    worked_serving, wrong_answers_are_refused,
+    datagram_answers_are_short, equal_queries_ask_the_same, every_query_is_served,
+    every_reply_is_aged, forged_answers_are_few, no_answer_is_older, old_replies_are_refused,
+    peers_are_apart, streams_are_few, worked_forwardings, worked_serving,
+    wrong_answers_are_refused,
 };
