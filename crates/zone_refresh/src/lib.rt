@@ -1,0 +1,19 @@
+//! When a zone that is kept is asked for, of which primary, and when it has expired (RFC 1034 4.3.5, RFC 1035 3.3.13).
+//!
+//! Nothing is asked here, and no clock is read: events come with their moment, and what is to be done goes out.
+//!
+//! ```text
+//! let mut zone = KeptZone::new(2, None, now);
+//! let outs = zone.step(now, Event::Tick);
+//! if outs.expired { /* tell it */ }
+//! match outs.task { Some(Task::AskSoa(primary)) => .., Some(Task::Fetch(primary)) => .., None => .. }
+//! sleep_until(zone.next_due());
+//! ```
+#![tactic(auto)]
+
+mod kept;
+mod laws;
+mod timing;
+
+pub use kept::{Event, KeptZone, Outs, Phase, Task, ZoneTimers};
+pub use laws::refresh_laws;
