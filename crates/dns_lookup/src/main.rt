@@ -1,13 +1,11 @@
 //! The program `dns_lookup`: it asks servers for records, and writes what they answer.
 #![tactic(auto)]
 
-mod batch;
 mod named_servers;
-mod place;
 
-use batch::{BatchFault, with_files};
 use client_edge::{ConfFile, FileOpener, RandWords, RealClock, SocketEdge, command_words};
 use command_parts::{end_by, statuses};
+use dns_lookup_files::{FileFault, with_files};
 use dns_lookup_run::{
     PassingEdge, WatchedClock, WatchedEdge, page_of, run, run_recorded, tell_no_memory,
     tell_no_random, tell_page,
@@ -105,8 +103,8 @@ fn tell_unread(alloc: Global, name: &str, errors: &mut StdSink<Stderr>) -> Statu
 fn ask_whole(rt: HostRuntime, words: &[String], errors: &mut StdSink<Stderr>) -> Status {
     let words = match with_files(rt.alloc(), &mut FileOpener::new(rt), words) {
         Ok(words) => words,
-        Err(BatchFault::Unread(name)) => return tell_unread(rt.alloc(), name.as_str(), errors),
-        Err(BatchFault::NoMemory) => return tell_no_memory(errors),
+        Err(FileFault::Unread(name)) => return tell_unread(rt.alloc(), name.as_str(), errors),
+        Err(FileFault::NoMemory) => return tell_no_memory(errors),
     };
     let Ok(words) = with_addresses(rt, &words) else {
         return tell_no_memory(errors);

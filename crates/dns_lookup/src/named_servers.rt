@@ -1,8 +1,7 @@
 //! Servers that are named, whose addresses are asked for first.
 
-use crate::batch::push_word;
-use crate::place::Place;
 use client_edge::{FileOpener, RandWords, RealClock, SocketEdge};
+use dns_lookup_files::Place;
 use dns_names::Name;
 use dns_values::{IpAddr, NoMemory};
 use rand::rngs::StdRng;
@@ -22,7 +21,7 @@ fn is_host(text: &str) -> bool {
 
 /// The name of a server, and what stands behind it with its `#`, if a word names one by a name.
 fn named_in(place: Place, word: &str) -> Option<(&str, &str)> {
-    if !place.is_free() {
+    if place != Place::Free {
         return None;
     }
     let text = word.strip_prefix('@')?;
@@ -38,6 +37,12 @@ fn named_in(place: Place, word: &str) -> Option<(&str, &str)> {
     } else {
         None
     }
+}
+
+/// Adds a word.
+fn push_word(alloc: Global, words: &mut Vec<String>, word: &str) -> Result<(), NoMemory> {
+    words.push(String::from_str(alloc, word)?)?;
+    Ok(())
 }
 
 /// The word that names a server by its address.
@@ -91,7 +96,7 @@ fn push_addresses(
 pub fn with_addresses(rt: HostRuntime, words: &[String]) -> Result<Vec<String>, NoMemory> {
     let alloc = rt.alloc();
     let mut all = Vec::new(alloc);
-    let mut place = Place::FIRST;
+    let mut place = Place::Free;
     for word in words {
         let word = word.as_str();
         let is_found = match named_in(place, word) {

@@ -45,11 +45,6 @@ abbrev pub or_lack : Option Lacking → Option Lacking → Option Lacking
 or_lack None later = later
 or_lack (Some lack) later = Some lack
 
-abbrev pub first_lack : List Ask → List Answer → Option Lacking
-first_lack [] answers = None
-first_lack (ask ∷ asks) [] = None
-first_lack (ask ∷ asks) (answer ∷ answers) = or_lack (lack_in ask answer) (first_lack asks answers)
-
 -- It was asked for under this number, and this was answered.
 abbrev pub Gave : Ask → ℕ → Answer → (old new : Scene) → Type 0
 Gave ask n answer old new = IsAnswered n 1000000 (request_for ask) old new answer

@@ -1,5 +1,6 @@
 -- The configuration that is asked.
 use Rattle.std.specs.Prelude.{◌≡◌, ℕ, ◌*◌, ◌<◌, Bool, true, false, not, List, [], ◌∷◌, length, codes, map, filter, Option, None, Some, IfSome}
+use Rattle.std.specs.List.{list_any}
 use Rattle.dns_values.specs.declared.address.IpAddr.{IpAddr}
 use Rattle.dns_values.specs.declared.address.IpAddr.TheVariants.{V4, V6}
 use Rattle.resolv_conf.specs.Conf.{default_options, name_server}
@@ -11,6 +12,7 @@ use Rattle.resolver_policy.specs.Practice.{practical, words_left}
 use Rattle.resolver_policy.specs.declared.found.Found.{Found}
 use Rattle.resolv_conf.specs.declared.server.ServerConf.{ServerConf}
 use Rattle.dns_lookup_words.specs.declared.lookup.Lookup.{Lookup}
+use Rattle.dns_lookup_words.specs.declared.manner.Ask.{Ask}
 use Rattle.dns_lookup_words.specs.declared.manner.Family.{Family}
 use Rattle.dns_lookup_words.specs.declared.manner.Family.TheVariants as families
 
@@ -56,16 +58,36 @@ pub record IsReadyIn (text : List ℕ) (ready : Found) : Type 0 where
 abbrev pub IsTooLong : (text line : List ℕ) → Type 0
 IsTooLong text line = (16777216 < length text) × (line ≡ codes "input too long\n")
 
--- The servers are those that are named, of which nothing is told; where none is, those of the source's text, where it tells it.
-abbrev pub IsBase : List IpAddr → Option (List ℕ) → Found → Type 0
-IsBase [] told base = IfSome told (λ text. IsReadyIn text base)
-IsBase (ip ∷ ips) told base = base ≡ record { conf = named (ip ∷ ips); notes = [] }
+-- whether suffixes are searched for a name
+abbrev pub is_searched : List Ask → Bool
+is_searched asks = list_any (λ ask. ask.manner.search) asks
+
+-- with the suffixes of another configuration, and by as many dots
+abbrev pub with_suffixes : ResolvConf → ResolvConf → ResolvConf
+with_suffixes from conf = record conf { options = record conf.options { search = from.options.search; ndots = from.options.ndots } }
+
+-- It has the suffixes that are found in a text, of which this is told.
+pub record HasSuffixesOf (text : List ℕ) (conf : ResolvConf) (base : Found) : Type 0 where
+  pub ready : Found
+  pub is_ready : IsReadyIn text ready
+  pub conf_is : base.conf ≡ with_suffixes ready.conf conf
+  pub notes : base.notes ≡ ready.notes
+
+-- The servers are those that are named, of which nothing is told, with the suffixes of the source's text, where these are searched; where none is, those
+-- of the source's text, where it tells it.
+abbrev pub IsBaseOf : List IpAddr → (searched : Bool) → Option (List ℕ) → Found → Type 0
+IsBaseOf [] searched told base = IfSome told (λ text. IsReadyIn text base)
+IsBaseOf (ip ∷ ips) false told base = base ≡ record { conf = named (ip ∷ ips); notes = [] }
+IsBaseOf (ip ∷ ips) true told base = IfSome told (λ text. HasSuffixesOf text (named (ip ∷ ips)) base)
+
+abbrev pub IsBase : Lookup → Option (List ℕ) → Found → Type 0
+IsBase lookup told base = IsBaseOf lookup.servers (is_searched lookup.asks) told base
 
 -- What is asked, and told of the configuration: that of the base, as a client is given it in practice by the words that come, with what the
 -- lookup says. These words are left.
 pub record IsConfOf (lookup : Lookup) (told : Option (List ℕ)) (words : ℕ → ℕ) (asked : Found) (left : ℕ → ℕ) : Type 0 where
   pub base : Found
-  pub is_base : IsBase lookup.servers told base
+  pub is_base : IsBase lookup told base
   pub conf : asked.conf ≡ conf_asked lookup (practical words base.conf)
   pub notes : asked.notes ≡ base.notes
   pub left_is : left ≡ words_left words base.conf

@@ -4,7 +4,7 @@ ghost use Rattle.std.specs.Prelude.{◌≡◌, ◌≢◌, ◌++◌, filter, map,
 ghost use Rattle.dns_values.specs.Source.{Rose};
 ghost use Rattle.command_parts.specs.Ends.{IsEarly, line_of, status_of};
 ghost use Rattle.resolv_conf.specs.Conf.{name_server};
-ghost use Rattle.dns_lookup_run.specs.Conf.{IsBase, IsConfOf, IsReadyIn, IsTooLong, conf_asked, is_of_family, is_v4, named, of_family, streamed, timed};
+ghost use Rattle.dns_lookup_run.specs.Conf.{IsBase, IsConfOf, IsReadyIn, IsTooLong, conf_asked, is_of_family, is_searched, is_v4, named, of_family, streamed, timed, with_suffixes};
 
 use client_request::Words;
 use command_parts::{Ending, conf_at, says, statuses};
@@ -136,10 +136,34 @@ fn ready_in<S: Source>(alloc: Global, source: &mut S) -> Result<Found, Ending>
     }
 }
 
-/// The configuration of the servers that words name, or else the one that is found in a source.
-#[tactic(auto, using(crate::proofs::Bases::named_base, crate::proofs::Bases::source_base))]
+/// Whether suffixes are searched for a name.
+fn is_searched(lookup: &Lookup) -> bool
+    ensures { result ≡ is_searched lookup.now.asks }
+{
+    let asks = lookup.asks.as_slice();
+    asks.iter().any(|ask| ask.manner.search)
+}
+
+/// A configuration with the suffixes of one that was found.
+fn with_suffixes(found: Found, conf: ResolvConf) -> Found
+    ensures { result ≡ record { conf = with_suffixes found.conf conf; notes = found.notes } }
+{
+    let Found { conf: from, notes } = found;
+    let ResolvConf {
+        servers: _,
+        options: from,
+    } = from;
+    let mut conf = conf;
+    conf.options.search = from.search;
+    conf.options.ndots = from.ndots;
+    Found { conf, notes }
+}
+
+/// The configuration of the servers that words name, with the suffixes that are found in a source where these are searched, or else the
+/// one that is found there.
+#[tactic(auto, using(crate::proofs::Bases::named_base, crate::proofs::Bases::searched_base, crate::proofs::Bases::source_base))]
 fn base_of<S: Source>(alloc: Global, lookup: &Lookup, source: &mut S) -> Result<Found, Ending>
-    ensures base { IfOk result (λ found. IsBase lookup.now.servers (S.left source.old) found) }
+    ensures base { IfOk result (λ found. IsBase lookup.now (S.left source.old) found) }
     ensures early { IfErr result IsEarly }
     ensures source_fault { IfErr result (λ e. status_of e ≡ 3 → Rose (S.faults source.old) (S.faults source.new)) }
     ensures too_long { IfErr result (λ e. status_of e ≡ 1 → IfSome (S.left source.old) (λ text. IsTooLong text (line_of e))) }
@@ -149,10 +173,16 @@ fn base_of<S: Source>(alloc: Global, lookup: &Lookup, source: &mut S) -> Result<
         return ready_in(alloc, source);
     }
     let conf = named(alloc, lookup.servers.as_slice())?;
-    Ok(Found {
-        conf,
-        notes: Notes::new(alloc),
-    })
+    if !is_searched(lookup) {
+        return Ok(Found {
+            conf,
+            notes: Notes::new(alloc),
+        });
+    }
+    match ready_in(alloc, source) {
+        Ok(ready) => Ok(with_suffixes(ready, conf)),
+        Err(ending) => Err(ending),
+    }
 }
 
 /// The configuration that a lookup asks, and what is told of it: of the servers that its words name, or else the one that is

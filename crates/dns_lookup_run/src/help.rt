@@ -34,14 +34,16 @@ Servers:
   +time=SECONDS   give a request so long, from 1 to 600; +timeout=SECONDS is the same
 
 What is asked:
-  NAME            the name; the final dot may be left out, and no suffix is searched
+  NAME            the name; the final dot may be left out
   -q NAME         ask for this name, whatever it looks like
-  -x ADDRESS      ask for the names of an address
+  -x ADDRESS      ask for the names of an address; of one of IPv4 the last numbers may be left out
   -t TYPE         a type by its name, in any case, or TYPE123, and not AXFR; without one A and then AAAA. Behind it no word alone is one
   -c CLASS        the class: IN, CH or HS
   CLASS, TYPE     the same; a name that looks like one needs -q or a final dot
   --              no word behind it is an option
   -f FILE         ask what the words of a file say too, which stand behind all others
+  +search         where there is no such name, ask for it with the suffixes of /etc/resolv.conf too, or with these first where it has
+                  fewer dots than ndots says there; what is written is the first answer of which there is one, or else the last
   +norec          ask the server for what it has itself
   +dnssec, +do    set DO, so that signatures come too
   +cdflag, +cd    set CD, so that what was not validated comes too
@@ -59,7 +61,7 @@ What is written:
   +comments       the header, the OPT record and the titles of sections
   +stats          who answered, in which time, and which servers gave no answer of use
 Of options dig's first letters are enough, in any case; no behind the plus turns one off. Of those whose state is always the same that state
-is taken, as +nocmd and +nosearch.
+is taken, as +nocmd and +nocookie.
 
 Of several names what is said before the first is said of all of them, and what stands behind one is said of that one; but servers are those
 of all names, and stand before a second one. The first request without an answer ends it.

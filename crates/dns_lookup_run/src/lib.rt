@@ -18,6 +18,7 @@ mod passing_edge;
 mod program;
 mod recorded;
 mod reports;
+mod search;
 mod telling;
 mod watched_clock;
 mod watched_edge;

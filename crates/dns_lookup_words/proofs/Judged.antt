@@ -14,6 +14,7 @@ use Rattle.dns_lookup_words.specs.declared.wrong.Refusal.TheVariants.{Word}
 use Rattle.dns_lookup_words.specs.declared.wrong.Value.{Value}
 use Rattle.dns_lookup_words.specs.declared.wrong.Value.TheVariants as values
 use Rattle.dns_lookup_words.specs.declared.wrong.Wrong.{Wrong}
+use Rattle.dns_lookup_words.proofs.ShortAddresses.{same_missing, same_short}
 use Rattle.dns_lookup_words.specs.Words.{AddressAt, Gives, GivesAt, GluedGives, IsJudged, IsSaidBy, LookupGives, ServerAt, ServerAtNumber, ServerAtSame, ServerAtText, ServerIn, ServerOf, SignGives, ValueGives, ValuedGives, WordGives, WordsGive, asked, bad_word, bare, behind, behind_first, good_word, is_localhost, is_other, no_word, nothing_said, number_in, said_whole, valued, with_address, with_server, wrong_word}
 
 one_server_at : (text : List ℕ) (port : Option ℕ) (said : Said) (a b : Result Said Wrong) → ServerAt text port said a → ServerAt text port said b → a ≡ b
@@ -44,9 +45,10 @@ one_in true text said a b h k = one_server (behind_first 35 text) (bare (before_
 
 one_reverse : (late : Bool) (word : List ℕ) (said : Said) (a b : Result Said Wrong) → AddressAt late word said a → AddressAt late word said b → a ≡ b
 one_reverse true word said a b h k = h ∙ sym k
-one_reverse false word said (Ok x) (Ok y) h k = ap Ok (h.2 ∙ ap (λ ip. with_address ip said) (one_address word h.0 k.0 h.1 k.1) ∙ sym k.2)
-one_reverse false word said (Ok x) (Err w) h k = absurd (k.0 h.0 h.1)
-one_reverse false word said (Err v) (Ok y) h k = absurd (h.0 k.0 k.1)
+one_reverse false word said (Ok x) (Ok y) h k =
+    ap Ok (h.3 ∙ ap (λ n. with_address n h.1 said) (same_missing word h.0 k.0 h.1 k.1 h.2 k.2) ∙ ap (λ ip. with_address k.0 ip said) (same_short word h.0 k.0 h.1 k.1 h.2 k.2) ∙ sym k.3)
+one_reverse false word said (Ok x) (Err w) h k = absurd (k.0 h.0 h.2.few h.1 h.2.address)
+one_reverse false word said (Err v) (Ok y) h k = absurd (h.0 k.0 k.2.few k.1 k.2.address)
 one_reverse false word said (Err v) (Err w) h k = ap Err (h.1 ∙ sym k.1)
 
 one_value : (value : Value) (word : List ℕ) (said : Said) (a b : Result Said Wrong) → ValueGives value word said a → ValueGives value word said b → a ≡ b

@@ -1,5 +1,5 @@
 -- How a name is asked for, and how its answer is written: what options set, and the requests of a name.
-use Rattle.std.specs.Prelude.{Bool, true, false, List, [], ◌∷◌, map, Option, None, Some}
+use Rattle.std.specs.Prelude.{Bool, true, false, if◌then◌else◌, List, [], ◌∷◌, map, Option, None, Some}
 use Rattle.dns_names.specs.Name.{Labels}
 use Rattle.dns_values.specs.declared.numbers.Rtype.{Rtype}
 use Rattle.dns_lookup_words.specs.declared.manner.Ask.{Ask}
@@ -12,11 +12,12 @@ use Rattle.dns_lookup_words.specs.declared.options.Part.{Part}
 use Rattle.dns_lookup_words.specs.declared.options.Part.TheVariants as parts
 use Rattle.dns_lookup_words.specs.declared.said.Asking.{Asking}
 
--- where nothing is said: class IN, recursion, and all sections with comments and statistics
+-- where nothing is said: class IN, recursion, the name as it stands, and all sections with comments and statistics
 abbrev pub usual : Manner
 usual = record {
   class = record { 0 = 1 };
   flags = record { recursion = true; authentic = false; unchecked = false; dnssec = false; nsid = false };
+  search = false;
   layout = record {
     short = false;
     identify = false;
@@ -33,7 +34,7 @@ usual = record {
 }
 
 abbrev pub usual_asking : Asking
-usual_asking = record { rtype = None; typed = false; manner = usual }
+usual_asking = record { rtype = None; typed = false; rooted = false; manner = usual }
 
 -- a part of what a request says
 abbrev pub flag_set : Flag → Bool → Flags → Flags
@@ -66,6 +67,10 @@ abbrev pub types_of : Option Rtype → List Rtype
 types_of (Some rtype) = rtype ∷ []
 types_of None = record { 0 = 1 } ∷ record { 0 = 28 } ∷ []
 
+-- no suffix is searched for a name that ends in its root
+abbrev pub manner_of : Asking → Manner
+manner_of asking = if asking.rooted then record asking.manner { search = false } else asking.manner
+
 -- the requests of a name
 abbrev pub asks_of : Labels → Asking → List Ask
-asks_of name asking = map (λ rtype. record { name = name; rtype = rtype; manner = asking.manner }) (types_of asking.rtype)
+asks_of name asking = map (λ rtype. record { name = name; rtype = rtype; manner = manner_of asking }) (types_of asking.rtype)

@@ -7,7 +7,7 @@ use Rattle.dns_lookup_words.specs.declared.lacking.Lack.TheVariants as lacks
 use Rattle.dns_lookup_words.specs.declared.options.Flag.TheVariants as flags
 use Rattle.dns_lookup_words.specs.declared.options.Part.TheVariants as parts
 use Rattle.dns_lookup_words.specs.declared.options.Sets.{Sets}
-use Rattle.dns_lookup_words.specs.declared.options.Sets.TheVariants.{Absent, All, Already, Edns, Flag, Never, Part, Tcp, Time}
+use Rattle.dns_lookup_words.specs.declared.options.Sets.TheVariants.{Absent, All, Already, Edns, Flag, Never, Part, Search, Tcp, Time}
 
 -- A name, how many of its first letters are enough, and what the option sets.
 abbrev pub Entry : Type 0
@@ -36,7 +36,7 @@ plus_options =
     ∷ (codes "comments", 3, Part parts.Comments)
     ∷ (codes "cookie", 3, Never lacks.Cookie)
     ∷ (codes "crypto", 2, Already lacks.Text)
-    ∷ (codes "defname", 3, Never lacks.Suffixes)
+    ∷ (codes "defname", 3, Search)
     ∷ (codes "dnssec", 4, Flag flags.Dnssec)
     ∷ (codes "do", 2, Flag flags.Dnssec)
     ∷ (codes "domain", 3, Absent lacks.Suffixes)
@@ -73,7 +73,7 @@ plus_options =
     ∷ (codes "recurse", 3, Flag flags.Recursion)
     ∷ (codes "retry", 3, Absent lacks.Tries)
     ∷ (codes "rrcomments", 2, Never lacks.Text)
-    ∷ (codes "search", 2, Never lacks.Suffixes)
+    ∷ (codes "search", 2, Search)
     ∷ (codes "short", 4, Part parts.Short)
     ∷ (codes "showsearch", 5, Never lacks.Suffixes)
     ∷ (codes "split", 2, Absent lacks.Text)

@@ -6,8 +6,7 @@ use Rattle.std.specs.Str.{bytes_eq, str_eq_ignore_ascii_case}
 use Rattle.std.specs.String.{string_bytes}
 use Rattle.std.specs.declared.alloc.Global.{Global}
 use Rattle.dns_names.specs.Name.{Labels}
-use Rattle.dns_names.specs.Reverse.{reverse_labels}
-use Rattle.dns_names.specs.Text.{name_of_text}
+use Rattle.dns_names.specs.Text.{name_of_text, relative_of_text}
 use Rattle.dns_values.specs.Address.{IsAddressText}
 use Rattle.dns_values.specs.NumberNames.{begins_with, class_of_text}
 use Rattle.dns_values.specs.declared.address.IpAddr.{IpAddr}
@@ -16,6 +15,7 @@ use Rattle.dns_values.specs.declared.numbers.Rtype.{Rtype}
 use Rattle.resolv_conf.specs.Number.{number_of}
 use Rattle.dns_lookup_words.specs.Asks.{all_set, asks_of, flag_set, part_set, usual_asking}
 use Rattle.dns_lookup_words.specs.Options.{is_off, plus_options, sets_of, without_no}
+use Rattle.dns_lookup_words.specs.ShortAddress.{IsNoAddress, IsShortAddress, short_labels}
 use Rattle.dns_lookup_words.specs.Types.{type_number}
 use Rattle.dns_lookup_words.specs.declared.lacking.Lack.{Lack}
 use Rattle.dns_lookup_words.specs.declared.lacking.Lack.TheVariants as lacks
@@ -158,7 +158,7 @@ begun_at (Some before) name said = record said { asks = said.asks ++ asks_of bef
 abbrev pub begun : Labels → Said → Said
 begun name said = begun_at said.name name said
 
--- `-x ADDRESS`: the name that maps the address to names, and the type PTR where none was said before
+-- `-x ADDRESS`: the name that maps the address to names, or the one above those of all addresses that begin so, and the type PTR where none was said before
 abbrev pub or_ptr : Option Rtype → Option Rtype
 or_ptr None = Some (record { 0 = 12 })
 or_ptr (Some rtype) = Some rtype
@@ -166,14 +166,18 @@ or_ptr (Some rtype) = Some rtype
 abbrev pub with_ptr : Said → Said
 with_ptr said = record said { asking = record said.asking { rtype = or_ptr said.asking.rtype } }
 
-abbrev pub with_address : IpAddr → Said → Said
-with_address ip said = with_ptr (begun (reverse_labels ip) said)
+-- whether the name ends in its root, so that no suffix is searched for it
+abbrev pub with_root : Bool → Said → Said
+with_root rooted said = record said { asking = record said.asking { rooted = rooted } }
+
+abbrev pub with_address : (missing : ℕ) → IpAddr → Said → Said
+with_address missing ip said = with_ptr (with_root true (begun (short_labels missing ip) said))
 
 -- no name begins behind a server that stands behind a name
 abbrev pub AddressAt : Bool → List ℕ → Said → Result Said Wrong → Type 0
 AddressAt true word said answer = answer ≡ Err wrongs.Parted
-AddressAt false word said (Ok new) = (ip : IpAddr) × IsAddressText word ip × (new ≡ with_address ip said)
-AddressAt false word said (Err wrong) = ((ip : IpAddr) → ¬ (IsAddressText word ip)) × (wrong ≡ wrongs.Address)
+AddressAt false word said (Ok new) = (missing : ℕ) × (ip : IpAddr) × IsShortAddress word missing ip × (new ≡ with_address missing ip said)
+AddressAt false word said (Err wrong) = IsNoAddress word × (wrong ≡ wrongs.Address)
 
 abbrev pub AddressGives : List ℕ → Said → Result Said Wrong → Type 0
 AddressGives word said answer = AddressAt said.late word said answer
@@ -182,9 +186,13 @@ AddressGives word said answer = AddressAt said.late word said answer
 abbrev pub wrong_name : List ℕ → Wrong
 wrong_name word = if list_any (λ c. nat_lt 127 c) word then wrongs.Idn else wrongs.Name
 
+-- a text with a final dot, which no relative name has
+abbrev pub is_rooted : List ℕ → Bool
+is_rooted word = not (is_some (result_ok (relative_of_text word)))
+
 abbrev pub name_given : Option Labels → List ℕ → Said → Result Said Wrong
 name_given None word said = Err (wrong_name word)
-name_given (Some name) word said = Ok (begun name said)
+name_given (Some name) word said = Ok (with_root (is_rooted word) (begun name said))
 
 abbrev pub name_said : List ℕ → Said → Result Said Wrong
 name_said word said = if said.late then Err wrongs.Parted else name_given (result_ok (name_of_text word)) word said
@@ -295,12 +303,16 @@ with_flags flags said = record said { asking = record said.asking { manner = rec
 abbrev pub with_layout : Layout → Said → Said
 with_layout layout said = record said { asking = record said.asking { manner = record said.asking.manner { layout = layout } } }
 
+abbrev pub with_search : Bool → Said → Said
+with_search on said = record said { asking = record said.asking { manner = record said.asking.manner { search = on } } }
+
 -- an option without a value
 abbrev pub set_bare : Sets → Bool → Said → Result Said Wrong
 set_bare sets.Tcp on said = Ok (record said { tcp = on })
 set_bare sets.Time on said = Err wrongs.Time
 set_bare (sets.Flag flag) on said = Ok (with_flags (flag_set flag on said.asking.manner.flags) said)
 set_bare (sets.Part part) on said = Ok (with_layout (part_set part on said.asking.manner.layout) said)
+set_bare sets.Search on said = Ok (with_search on said)
 set_bare sets.All on said = Ok (with_layout (all_set on said.asking.manner.layout) said)
 set_bare sets.Edns on said = only_on lacks.Extension on said
 set_bare (sets.Already lack) on said = only_on lack on said
@@ -319,6 +331,7 @@ set_valued sets.Tcp on text said = Err wrongs.Valued
 set_valued sets.Time on text said = time_valued on text said
 set_valued (sets.Flag flag) on text said = Err wrongs.Valued
 set_valued (sets.Part part) on text said = Err wrongs.Valued
+set_valued sets.Search on text said = Err wrongs.Valued
 set_valued sets.All on text said = Err wrongs.Valued
 set_valued sets.Edns on text said = version_said text on said
 set_valued (sets.Already lack) on text said = Err wrongs.Valued

@@ -20,7 +20,7 @@ pub enum Lack {
     Tries,
     /// What is done with an answer that is truncated or broken, or with a stream.
     Transport,
-    /// Suffixes behind a name.
+    /// Other suffixes behind a name than those of the configuration, or all that is tried with them.
     Suffixes,
     /// A walk from the servers of the root, or to all servers of a zone.
     Walk,
@@ -56,7 +56,9 @@ pub(crate) fn lack_text(lack: Lack) -> &'static str
         Lack::Transport => {
             "asks for another way with truncated or broken answers or with streams than the usual"
         }
-        Lack::Suffixes => "asks for suffixes, and a name is asked for as it stands",
+        Lack::Suffixes => {
+            "asks for more of suffixes than +search does, which tries those of the configuration"
+        }
         Lack::Walk => "asks for a walk from server to server, and one answer is asked for",
         Lack::Text => "asks for a text of records that is not written",
         Lack::Letters => {

@@ -18,6 +18,7 @@ mod options;
 mod parts;
 mod said;
 mod setting;
+mod short_address;
 mod taking;
 mod telling;
 mod types;

@@ -51,6 +51,8 @@ pub struct Manner {
     /// The class: IN, CH or HS.
     pub class: Class,
     pub flags: Flags,
+    /// Whether the suffixes of the configuration are searched for the name.
+    pub search: bool,
     pub layout: Layout,
 }
 

@@ -47,6 +47,8 @@ pub(crate) enum Sets {
     Flag(Flag),
     /// What is written of an answer.
     Part(Part),
+    /// Whether suffixes are searched.
+    Search,
     /// Whether sections, comments and statistics are written.
     All,
     /// EDNS version 0 (RFC 6891), which requests have.
@@ -80,7 +82,7 @@ const PLUS_OPTIONS: [Entry; 72] = [
     ("comments", 3, Sets::Part(Part::Comments)),
     ("cookie", 3, Sets::Never(Lack::Cookie)),
     ("crypto", 2, Sets::Already(Lack::Text)),
-    ("defname", 3, Sets::Never(Lack::Suffixes)),
+    ("defname", 3, Sets::Search),
     ("dnssec", 4, Sets::Flag(Flag::Dnssec)),
     ("do", 2, Sets::Flag(Flag::Dnssec)),
     ("domain", 3, Sets::Absent(Lack::Suffixes)),
@@ -117,7 +119,7 @@ const PLUS_OPTIONS: [Entry; 72] = [
     ("recurse", 3, Sets::Flag(Flag::Recursion)),
     ("retry", 3, Sets::Absent(Lack::Tries)),
     ("rrcomments", 2, Sets::Never(Lack::Text)),
-    ("search", 2, Sets::Never(Lack::Suffixes)),
+    ("search", 2, Sets::Search),
     ("short", 4, Sets::Part(Part::Short)),
     ("showsearch", 5, Sets::Never(Lack::Suffixes)),
     ("split", 2, Sets::Absent(Lack::Text)),

@@ -1,7 +1,7 @@
 //! What words say, one after another.
 
 ghost use Rattle.std.specs.Prelude.{◌≡◌, ◌++◌, ◌<◌, length, OnOk};
-ghost use Rattle.dns_lookup_words.specs.Asks.{asks_of, usual, usual_asking};
+ghost use Rattle.dns_lookup_words.specs.Asks.{asks_of, manner_of, usual, usual_asking};
 ghost use Rattle.dns_lookup_words.specs.Words.{nothing_said};
 
 use crate::manner::{Ask, Family, Flags, Layout, Manner};
@@ -27,6 +27,8 @@ pub(crate) struct Asking {
     pub(crate) rtype: Option<Rtype>,
     /// Whether the type was said behind `-t`, so that a word alone is none.
     pub(crate) typed: bool,
+    /// Whether the name ends in its root, so that no suffix is searched for it.
+    pub(crate) rooted: bool,
     pub(crate) manner: Manner,
 }
 
@@ -64,6 +66,7 @@ fn usual() -> Manner
             dnssec: false,
             nsid: false,
         },
+        search: false,
         layout: Layout {
             short: false,
             identify: false,
@@ -87,8 +90,20 @@ fn usual_asking() -> Asking
     Asking {
         rtype: None,
         typed: false,
+        rooted: false,
         manner: usual(),
     }
+}
+
+/// How a name is asked for: no suffix is searched for one that ends in its root.
+fn manner_of(asking: Asking) -> Manner
+    ensures { result ≡ manner_of asking }
+{
+    let mut manner = asking.manner;
+    if asking.rooted {
+        manner.search = false;
+    }
+    manner
 }
 
 /// Adds the requests of a name: one for its type, or for A and then for AAAA.
@@ -101,7 +116,7 @@ pub(crate) fn push_asks(
     ensures asked { OnOk result (asks.new ≡ asks.old ++ asks_of name asking) }
     ensures some { OnOk result (0 < length asks.new) }
 {
-    let manner = asking.manner;
+    let manner = manner_of(asking);
     if let Some(rtype) = asking.rtype {
         asks.push(Ask {
             name,

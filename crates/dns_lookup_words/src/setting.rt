@@ -108,6 +108,7 @@ impl Said {
             Sets::Time => return Err(WordFault::Wrong(Wrong::Time)),
             Sets::Flag(flag) => manner.flags = flag_set(flag, on, manner.flags),
             Sets::Part(part) => manner.layout = part_set(part, on, manner.layout),
+            Sets::Search => manner.search = on,
             Sets::All => manner.layout = all_set(on, manner.layout),
             Sets::Edns => return self.keep_on(Lack::Extension, on),
             Sets::Already(lack) => return self.keep_on(lack, on),
@@ -138,6 +139,7 @@ impl Said {
             (Sets::Tcp, _) => Err(WordFault::Wrong(Wrong::Valued)),
             (Sets::Flag(_), _) => Err(WordFault::Wrong(Wrong::Valued)),
             (Sets::Part(_), _) => Err(WordFault::Wrong(Wrong::Valued)),
+            (Sets::Search, _) => Err(WordFault::Wrong(Wrong::Valued)),
             (Sets::All, _) => Err(WordFault::Wrong(Wrong::Valued)),
             (Sets::Already(_), _) => Err(WordFault::Wrong(Wrong::Valued)),
         }

@@ -1,8 +1,8 @@
 //! Words that are taken, one after another.
 
-ghost use Rattle.std.specs.Prelude.{◌≡◌, ◌==◌, length, option_map, OnOk};
+ghost use Rattle.std.specs.Prelude.{◌≡◌, ◌==◌, length, option_map, OnOk, IfOk};
 ghost use Rattle.std.specs.Result.{result_ok};
-ghost use Rattle.dns_lookup_words.specs.Words.{AddressGives, AllAnswer, Answers, DashGives, GluedGives, ServerAt, ServerGives, ServerIn, ServerOf, SignGives, ValueGives, WordGives, WordsGive, begun, behind, class_given, class_set, dash_said, fault_at, is_localhost, is_other, lack_of, lacking, name_alone, name_given, name_said, open_type, plain_said, plus_said, port_said, type_said, type_set, wrong_name, wrong_server};
+ghost use Rattle.dns_lookup_words.specs.Words.{AddressGives, AllAnswer, Answers, DashGives, GluedGives, ServerAt, ServerGives, ServerIn, ServerOf, SignGives, ValueGives, WordGives, WordsGive, begun, behind, class_given, class_set, dash_said, fault_at, is_localhost, is_other, is_rooted, lack_of, lacking, name_alone, name_given, name_said, open_type, plain_said, plus_said, port_said, type_said, type_set, wrong_name, wrong_server};
 ghost use Rattle.dns_names.specs.Text.{name_of_text};
 ghost use Rattle.dns_values.specs.NumberNames.{class_of_text};
 ghost use Rattle.dns_lookup_words.specs.Types.{type_number};
@@ -15,9 +15,10 @@ use crate::parts::{
     name_text, port_text, value_text,
 };
 use crate::said::{Next, Said, push_asks};
+use crate::short_address::short_address;
 use crate::types::{class_in, type_in};
 use crate::wrong::{Fault, Refusal, Value, WordFault, Wrong};
-use dns_names::{Name, NameFault};
+use dns_names::{Name, NameFault, RelativeName};
 use dns_values::{Class, IpAddr, NoMemory, Rtype};
 use std::alloc::Global;
 
@@ -53,6 +54,18 @@ fn wrong_name(word: &str) -> Wrong
         Wrong::Idn
     } else {
         Wrong::Name
+    }
+}
+
+/// Whether a text has a final dot, which no relative name has.
+fn is_rooted(alloc: Global, word: &str) -> Result<bool, NoMemory>
+    ensures { IfOk result (λ rooted. rooted ≡ is_rooted word.now) }
+{
+    match RelativeName::from_text(alloc, word) {
+        Ok(_) => Ok(false),
+        Err(NameFault::NoMemory) => Err(NoMemory),
+        Err(NameFault::Parse) => Ok(true),
+        Err(NameFault::Long) => Ok(true),
     }
 }
 
@@ -163,11 +176,12 @@ impl Said {
         if self.late {
             return Err(WordFault::Wrong(Wrong::Parted));
         }
-        let Ok(ip) = IpAddr::from_text(word) else {
+        let Some(short) = short_address(alloc, word)? else {
             return Err(WordFault::Wrong(Wrong::Address));
         };
-        let name = Name::reverse_from_addr(alloc, ip)?;
+        let name = short.name(alloc)?;
         self.begin(alloc, name)?;
+        self.asking.rooted = true;
         if self.asking.rtype.is_none() {
             self.asking.rtype = Some(Rtype::PTR);
         }
@@ -179,7 +193,9 @@ impl Said {
     {
         match Name::from_text(alloc, word) {
             Ok(name) => {
+                let rooted = is_rooted(alloc, word)?;
                 self.begin(alloc, name)?;
+                self.asking.rooted = rooted;
                 Ok(())
             }
             Err(NameFault::NoMemory) => Err(WordFault::NoMemory),

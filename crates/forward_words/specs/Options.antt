@@ -9,6 +9,8 @@ use Rattle.command_parts.specs.Numbers.{number_in}
 use Rattle.dns_values.specs.Address.{IsAddressText}
 use Rattle.dns_values.specs.declared.address.IpAddr.{IpAddr}
 use Rattle.dns_values.specs.declared.address.IpAddr.TheVariants.{V4, V6}
+use Rattle.program_words.specs.Rows.{Row, said_in}
+use Rattle.program_words.specs.declared.row.Letters.TheVariants.{Whole}
 use Rattle.forward_words.specs.declared.kind.Kind.{Kind}
 use Rattle.forward_words.specs.declared.kind.Kind.TheVariants as kinds
 use Rattle.forward_words.specs.declared.kind.Number.{Number}
@@ -48,20 +50,23 @@ listened_at (ip ∷ ips) = ip ∷ ips
 abbrev pub finished : Options → Options
 finished o = record o { listened = listened_at o.listened }
 
--- The name of an option says what its value is.
-unfoldable pub kind_of : List ℕ → Option Kind
-kind_of name =
-    if bytes_eq name (codes "--listen") then Some kinds.Listen
-    else if bytes_eq name (codes "--policy") then Some kinds.Policy
-    else if bytes_eq name (codes "--port") then Some (kinds.Number numbers.Port)
-    else if bytes_eq name (codes "--entries") then Some (kinds.Number numbers.Entries)
-    else if bytes_eq name (codes "--stale") then Some (kinds.Number numbers.Stale)
-    else if bytes_eq name (codes "--failure") then Some (kinds.Number numbers.Failure)
-    else if bytes_eq name (codes "--max-ttl") then Some (kinds.Number numbers.MaxTtl)
-    else if bytes_eq name (codes "--max-negative-ttl") then Some (kinds.Number numbers.MaxNegativeTtl)
-    else if bytes_eq name (codes "--status") then Some (kinds.Number numbers.Status)
-    else if bytes_eq name (codes "--workers") then Some (kinds.Number numbers.Workers)
-    else None
+-- The options, each by its whole name, and what the value of each says.
+unfoldable pub option_rows : List (Row Kind)
+option_rows =
+    (codes "--listen", Whole, kinds.Listen)
+    ∷ (codes "--policy", Whole, kinds.Policy)
+    ∷ (codes "--port", Whole, kinds.Number numbers.Port)
+    ∷ (codes "--entries", Whole, kinds.Number numbers.Entries)
+    ∷ (codes "--stale", Whole, kinds.Number numbers.Stale)
+    ∷ (codes "--failure", Whole, kinds.Number numbers.Failure)
+    ∷ (codes "--max-ttl", Whole, kinds.Number numbers.MaxTtl)
+    ∷ (codes "--max-negative-ttl", Whole, kinds.Number numbers.MaxNegativeTtl)
+    ∷ (codes "--status", Whole, kinds.Number numbers.Status)
+    ∷ (codes "--workers", Whole, kinds.Number numbers.Workers)
+    ∷ []
+
+abbrev pub kind_of : List ℕ → Option Kind
+kind_of name = said_in option_rows name
 
 -- the numbers that it takes
 abbrev pub range : ℕ → ℕ → NumberRange
@@ -175,3 +180,7 @@ abbrev pub IsRead : Words → Result (Options × Bor Words) Fault → Type 0
 IsRead words (Ok read) = AreOptions words read.0 read.1.now
 IsRead words (Err (faults.Refused refusal)) = OptionsGive 1 words (nothing_said policies.Practice) (Err refusal)
 IsRead words (Err faults.NoMemory) = Unit {0}
+
+-- Options are one thing: words begin with one line of options, or are refused for one cause.
+abbrev pub OptionLaws : Type 0
+OptionLaws = (at : ℕ) (words : Words) (said : Options) (a b : Result (Options × Words) Refusal) → OptionsGive at words said a → OptionsGive at words said b → a ≡ b

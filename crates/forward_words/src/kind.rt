@@ -1,9 +1,11 @@
 //! The options by their names, and the numbers that they take.
 
 ghost use Rattle.std.specs.Prelude.{◌≡◌, ◌≤◌};
-ghost use Rattle.forward_words.specs.Options.{kind_of, number_said, range_of};
+ghost use Rattle.program_words.specs.Rows.{said_in};
+ghost use Rattle.forward_words.specs.Options.{number_said, option_rows, range_of};
 
 use crate::options::Options;
+use program_words::{Letters, Row, said_in};
 
 /// The most answers that are kept.
 const MOST_ENTRIES: u64 = 1_000_000_000;
@@ -68,24 +70,30 @@ pub(crate) struct NumberRange {
     pub(crate) greatest: u64,
 }
 
+/// The options, each by its whole name.
+const OPTIONS: [Row<Kind>; 10] = [
+    ("--listen", Letters::Whole, Kind::Listen),
+    ("--policy", Letters::Whole, Kind::Policy),
+    ("--port", Letters::Whole, Kind::Number(Number::Port)),
+    ("--entries", Letters::Whole, Kind::Number(Number::Entries)),
+    ("--stale", Letters::Whole, Kind::Number(Number::Stale)),
+    ("--failure", Letters::Whole, Kind::Number(Number::Failure)),
+    ("--max-ttl", Letters::Whole, Kind::Number(Number::MaxTtl)),
+    (
+        "--max-negative-ttl",
+        Letters::Whole,
+        Kind::Number(Number::MaxNegativeTtl),
+    ),
+    ("--status", Letters::Whole, Kind::Number(Number::Status)),
+    ("--workers", Letters::Whole, Kind::Number(Number::Workers)),
+];
+
 /// What the option of this name says.
-#[tactic(auto, unfolding(crate::specs::Options::kind_of))]
+#[tactic(auto, unfolding(crate::specs::Options::option_rows))]
 pub(crate) fn kind_of(name: &str) -> Option<Kind>
-    ensures { result ≡ kind_of name.now }
+    ensures { result ≡ said_in option_rows name.now }
 {
-    match name {
-        "--listen" => Some(Kind::Listen),
-        "--policy" => Some(Kind::Policy),
-        "--port" => Some(Kind::Number(Number::Port)),
-        "--entries" => Some(Kind::Number(Number::Entries)),
-        "--stale" => Some(Kind::Number(Number::Stale)),
-        "--failure" => Some(Kind::Number(Number::Failure)),
-        "--max-ttl" => Some(Kind::Number(Number::MaxTtl)),
-        "--max-negative-ttl" => Some(Kind::Number(Number::MaxNegativeTtl)),
-        "--status" => Some(Kind::Number(Number::Status)),
-        "--workers" => Some(Kind::Number(Number::Workers)),
-        _ => None,
-    }
+    said_in(&OPTIONS, name.as_bytes())
 }
 
 /// Which numbers an option takes.

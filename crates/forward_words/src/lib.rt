@@ -7,12 +7,14 @@
 #![tactic(auto)]
 
 mod kind;
+mod laws;
 mod options;
 mod taking;
 mod telling;
 mod words;
 mod wrong;
 
+pub use laws::option_laws;
 pub use options::{Options, Policy, options_of};
 pub use telling::{refusal_sentence, unasked_sentence};
 pub use words::{Asked, asked_by, command_of};

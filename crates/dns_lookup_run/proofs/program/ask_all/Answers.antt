@@ -4,7 +4,7 @@ use Rattle.dns_lookup_pages.specs.declared.short.Lacking.{Lacking}
 use Rattle.dns_lookup_run.specs.Asking.{or_lack}
 use Rattle.dns_lookup_run.specs.Reports.{tells}
 use Rattle.dns_lookup_run.specs.Worlds.{world}
-use Rattle.dns_lookup_run.proofs.Endings.{at_first, fails_ends, fails_made, lack_told, last_flushed, last_of, last_only, memory_ends, rose_later, so_begins, so_next, some_hold, told_by, told_later, whole_ends, whole_made}
+use Rattle.dns_lookup_run.proofs.Endings.{at_first, fails_ends, fails_made, lack_told, last_flushed, last_of, last_only, memory_ends, rose_later, none_left, so_begins, so_passed, so_told, told_by, told_later, tries_some, whole_ends, whole_made, passed_left, behind_fewer}
 use Rattle.dns_lookup_run.proofs.Runs.{request_flushed}
 use Rattle.dns_lookup_run.proofs.program.ask_all.Goals as goal
 
@@ -19,12 +19,12 @@ loop-ask-init g c = record {
   so =
       so_begins g.A.Asks.made c.args.lookup.now c.args.conf.now
       (world (g.A.Asks.stream c.args.rng.now) (g.E.Edge.deeds c.args.edge.now.edge) (g.E.Edge.polls c.args.edge.now.edge) (g.C.Clock.given c.args.clock.now.clock)) c.args.rng.now
-      c.in-Ok.client (g.E.Edge.deeds c.client_of.new.edge.edge) (g.E.Edge.waits c.client_of.new.edge.edge) (g.E.Edge.polls c.client_of.new.edge.edge) c.as_slice-asks.result.now c.in-Ok.ensures c.as_slice-asks.ensures;
-  counted = (search rules);
+      c.in-Ok.client (g.E.Edge.deeds c.begun.new.edge.edge) (g.E.Edge.waits c.begun.new.edge.edge) (g.E.Edge.polls c.begun.new.edge.edge) c.as_slice-rest.result.now c.in-Ok.ensures.client (c.as_slice-rest.ensures.value ∙ c.in-Ok.ensures.tries);
+  counted = omega arith;
   quiet = refl;
   no_fault = refl;
   count = omega arith;
-  flushed = inl refl;
+  flushed = inl (omega (arith, ap length (c.as_slice-rest.ensures.value ∙ c.in-Ok.ensures.tries), tries_some c.args.conf.now.options c.args.lookup.now.asks c.requires.some));
 }
 
 pub loop-ask-preserved : goal.loop-ask-preserved
@@ -32,14 +32,14 @@ loop-ask-preserved g c =
     let zero : c.tell-status.result.0 ≡ 0 = omega arith in
     record {
       so =
-          so_next g.A.Asks.made c.args.lookup.now c.args.conf.now
+          so_told g.A.Asks.made c.args.lookup.now c.args.conf.now
           (world (g.A.Asks.stream c.args.rng.now) (g.E.Edge.deeds c.args.edge.now.edge) (g.E.Edge.polls c.args.edge.now.edge) (g.C.Clock.given c.args.clock.now.clock)) c.args.rng.now c.in-Some.ask.now c.in-Some.later.now c.loop-ask.number c.loop-ask.lack c.loop-ask.rng c.asked-came.new.words
           (scene c.loop-ask.client (g.A.Asks.stream c.loop-ask.rng) (g.E.Edge.deeds c.loop-ask.edge.edge) (g.E.Edge.waits c.loop-ask.edge.edge) (g.E.Edge.polls c.loop-ask.edge.edge) (g.C.Clock.given c.loop-ask.clock.clock))
           (scene c.asked-came.new.client (g.A.Asks.stream c.asked-came.new.words) (g.E.Edge.deeds c.asked-came.new.edge.edge) (g.E.Edge.waits c.asked-came.new.edge.edge) (g.E.Edge.polls c.asked-came.new.edge.edge) (g.C.Clock.given c.asked-came.new.clock.clock))
           (at_first _ _ _ _ _ c.loop-ask.rest.now c.in-Some.ask.now c.in-Some.later.now _ _ _ _ (search rules) c.loop-ask.invariant.so)
-          c.or_lack-lack.result c.asked-came.result (c.tell-status.ensures.good (inl zero)) c.asked-came.ensures.made
-          (c.or_lack-lack.ensures ∙ ap (λ (l : Option Lacking). or_lack c.loop-ask.lack l) c.lack_in.ensures);
-      counted = (search rules);
+          c.or_lack-lack.result c.behind_tries-rest.result.now c.asked-came.result (c.tell-status.ensures.good (inl zero)) c.asked-came.ensures.made
+          (sym c.passes_by.ensures ∙ c.if-passes_by.false) (c.or_lack-lack.ensures ∙ ap (λ (l : Option Lacking). or_lack c.loop-ask.lack l) c.lack_in.ensures) c.behind_tries-rest.ensures;
+      counted = ?;
       quiet = c.tell-status.ensures.quiet zero ∙ c.loop-ask.invariant.quiet;
       no_fault = c.tell-status.ensures.no_fault zero ∙ c.loop-ask.invariant.no_fault;
       count = omega (arith, c.loop-ask.invariant.count, c.tell-status.ensures.count);
@@ -54,7 +54,7 @@ returns-then-status-gt0-clause-ends g c =
     (world (g.A.Asks.stream c.asked-came.new.words) (g.E.Edge.deeds c.asked-came.new.edge.edge) (g.E.Edge.polls c.asked-came.new.edge.edge) (g.C.Clock.given c.asked-came.new.clock.clock)) (g.E.Edge.waits c.asked-came.new.edge.edge) c.tell-status.result.0
     (tells g.L.Sink.held g.L.Sink.faults c.args.conf.now.servers c.args.errors.now c.tell-status.new.errors) c.asked-came.result
     (at_first _ _ _ _ _ c.loop-ask.rest.now c.in-Some.ask.now c.in-Some.later.now _ _ _ _ (search rules) c.loop-ask.invariant.so)
-    c.asked-came.ensures.answered c.asked-came.ensures.numbers c.tell-status.ensures.statuses (omega arith) c.tell-status.ensures.good c.tell-status.ensures.bad
+    (sym c.passes_by.ensures ∙ c.if-passes_by.false) c.asked-came.ensures.answered c.asked-came.ensures.numbers c.tell-status.ensures.statuses (omega arith) c.tell-status.ensures.good c.tell-status.ensures.bad
     (λ five. told_by g.L.Sink.held g.L.Sink.faults c.args.conf.now.servers c.opened.result.now c.args.errors.now c.tell-status.new.errors c.asked-came.result
     ((rw (c.as_slice-servers.ensures, c.loop-ask.invariant.quiet, c.loop-ask.invariant.no_fault) at c.tell-status.ensures.said) five))
     c.tell-status.ensures.numbers
@@ -66,7 +66,7 @@ returns-then-status-gt0-clause-made g c = λ no_six no_seven.
     (scene c.loop-ask.client (g.A.Asks.stream c.loop-ask.rng) (g.E.Edge.deeds c.loop-ask.edge.edge) (g.E.Edge.waits c.loop-ask.edge.edge) (g.E.Edge.polls c.loop-ask.edge.edge) (g.C.Clock.given c.loop-ask.clock.clock)) c.asked-came.new.client
     (world (g.A.Asks.stream c.asked-came.new.words) (g.E.Edge.deeds c.asked-came.new.edge.edge) (g.E.Edge.polls c.asked-came.new.edge.edge) (g.C.Clock.given c.asked-came.new.clock.clock)) (g.E.Edge.waits c.asked-came.new.edge.edge) c.tell-status.result.0 c.asked-came.result
     (at_first _ _ _ _ _ c.loop-ask.rest.now c.in-Some.ask.now c.in-Some.later.now _ _ _ _ (search rules) c.loop-ask.invariant.so)
-    c.asked-came.ensures.made c.tell-status.ensures.statuses c.tell-status.ensures.good c.tell-status.ensures.bad no_six no_seven
+    (sym c.passes_by.ensures ∙ c.if-passes_by.false) c.asked-came.ensures.made c.tell-status.ensures.statuses c.tell-status.ensures.good c.tell-status.ensures.bad no_six no_seven
 
 pub returns-then-status-gt0-clause-stops : goal.returns-then-status-gt0-clause-stops
 returns-then-status-gt0-clause-stops g c = λ seven. told_later _ _ _ _ _ _ _ c.loop-ask.invariant.quiet c.loop-ask.invariant.no_fault (c.tell-status.ensures.stops seven)
@@ -116,23 +116,22 @@ pub returns-clause-quiet : goal.returns-clause-quiet
 returns-clause-quiet g c = λ zero. c.tell_lack.ensures.quiet zero ∙ c.loop-ask.invariant.quiet
 
 pub returns-clause-flushed : goal.returns-clause-flushed
-returns-clause-flushed g c = λ done. some_hold _ _ _ _ c.loop-ask.invariant.counted c.in_default-split_first.ensures.cases c.requires.some c.loop-ask.invariant.flushed
+returns-clause-flushed g c = λ done. none_left _ _ c.in_default-split_first.ensures.cases c.loop-ask.invariant.flushed
 
-pub loop-ask-preserved-else-status-gt0 : goal.loop-ask-preserved-else-status-gt0
-loop-ask-preserved-else-status-gt0 g c =
-    let zero : c.tell-status.result.0 ≡ 0 = omega arith in
+pub loop-ask-preserved-then-passes_by : goal.loop-ask-preserved-then-passes_by
+loop-ask-preserved-then-passes_by g c =
+    let passes = sym c.passes_by.ensures ∙ c.if-passes_by.true in
     record {
       so =
-          so_next g.A.Asks.made c.args.lookup.now c.args.conf.now
+          so_passed g.A.Asks.made c.args.lookup.now c.args.conf.now
           (world (g.A.Asks.stream c.args.rng.now) (g.E.Edge.deeds c.args.edge.now.edge) (g.E.Edge.polls c.args.edge.now.edge) (g.C.Clock.given c.args.clock.now.clock)) c.args.rng.now c.in-Some.ask.now c.in-Some.later.now c.loop-ask.number c.loop-ask.lack c.loop-ask.rng c.asked-came.new.words
           (scene c.loop-ask.client (g.A.Asks.stream c.loop-ask.rng) (g.E.Edge.deeds c.loop-ask.edge.edge) (g.E.Edge.waits c.loop-ask.edge.edge) (g.E.Edge.polls c.loop-ask.edge.edge) (g.C.Clock.given c.loop-ask.clock.clock))
           (scene c.asked-came.new.client (g.A.Asks.stream c.asked-came.new.words) (g.E.Edge.deeds c.asked-came.new.edge.edge) (g.E.Edge.waits c.asked-came.new.edge.edge) (g.E.Edge.polls c.asked-came.new.edge.edge) (g.C.Clock.given c.asked-came.new.clock.clock))
           (at_first _ _ _ _ _ c.loop-ask.rest.now c.in-Some.ask.now c.in-Some.later.now _ _ _ _ (search rules) c.loop-ask.invariant.so)
-          c.or_lack-lack.result c.asked-came.result (c.tell-status.ensures.good (inl zero)) c.asked-came.ensures.made
-          (c.or_lack-lack.ensures ∙ ap (λ (l : Option Lacking). or_lack c.loop-ask.lack l) c.lack_in.ensures);
-      counted = (search rules);
-      quiet = c.tell-status.ensures.quiet zero ∙ c.loop-ask.invariant.quiet;
-      no_fault = c.tell-status.ensures.no_fault zero ∙ c.loop-ask.invariant.no_fault;
-      count = omega (arith, c.loop-ask.invariant.count, c.tell-status.ensures.count);
-      flushed = inr (c.tell-status.ensures.flushed zero);
+          c.asked-came.result c.asked-came.ensures.made passes;
+      counted = ?;
+      quiet = c.loop-ask.invariant.quiet;
+      no_fault = c.loop-ask.invariant.no_fault;
+      count = c.loop-ask.invariant.count;
+      flushed = inl (passed_left c.in-Some.ask.now c.in-Some.later.now c.asked-came.result passes);
     }
