@@ -78,7 +78,7 @@ fn push_last(alloc: Global, place: Place, kept: &mut Vec<String>) -> Result<(), 
 }
 
 /// The words that stay, and the names of files.
-fn sorted(alloc: Global, words: &[String]) -> Result<Sorted, NoMemory>
+fn sort_words(alloc: Global, words: &[String]) -> Result<Sorted, NoMemory>
     ensures words { IfOk result (λ s. map string_bytes s.words.items ≡ kept_from places.Free words.now) }
     ensures files { IfOk result (λ s. map string_bytes s.files.items ≡ files_from places.Free words.now) }
 {
@@ -162,7 +162,7 @@ pub fn with_files<O: OpenFile>(
     let Sorted {
         words: mut all,
         files,
-    } = sorted(alloc, words)?;
+    } = sort_words(alloc, words)?;
     let filed = words_of_files(alloc, opener, &files)?;
     for word in &filed {
         push_word(alloc, word.as_str(), &mut all)?;

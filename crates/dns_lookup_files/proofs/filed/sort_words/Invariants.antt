@@ -3,7 +3,7 @@ use Rattle.std.proofs.Common.{◌≡◌, ◌++◌, map, drop}
 use Rattle.std.specs.String.{string_bytes}
 use Rattle.dns_lookup_files.specs.Files.{files_from, kept_from}
 use Rattle.dns_lookup_files.specs.declared.place.Place.TheVariants.{Free}
-use Rattle.dns_lookup_files.proofs.filed.sorted.Given as goal
+use Rattle.dns_lookup_files.proofs.filed.sort_words.Given as goal
 
 abbrev pub invariant-loop-word : goal.invariant-loop-word
 invariant-loop-word l = record {
