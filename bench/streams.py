@@ -2,7 +2,7 @@
 
 usage: python3 bench/streams.py PROGRAM
 
-PROGRAM is the built tool_streams. Each measure is taken at a size and at twice that size, in turn, five times; the
+PROGRAM is the built tool_transports. Each measure is taken at a size and at twice that size, in turn, five times; the
 least time of each counts, and the ratio is told:
 
 - so many requests are in flight, and are answered in reverse order (in rounds that ask as many in all);
@@ -78,7 +78,7 @@ def main():
             paths = ["%s/%d-%d" % (room, number, n) for n in (1, 2)]
             for n, path in zip((1, 2), paths):
                 with open(path, "w") as file:
-                    file.write("".join("stream %s\n" % line for line in lines(n)))
+                    file.write("".join("streams stream %s\n" % line for line in lines(n)))
             took = [[], []]
             for _ in range(RUNS):
                 for times, path in zip(took, paths):

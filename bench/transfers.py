@@ -2,7 +2,7 @@
 
 usage: python3 bench/transfers.py PROGRAM
 
-PROGRAM is the built tool_streams. A zone of 10,000 and one of 100,000 records comes in frames of about 16 KB, each
+PROGRAM is the built tool_transports. A zone of 10,000 and one of 100,000 records comes in frames of about 16 KB, each
 record of 16 octets, so often that as many records come of each. Each is taken five times, in turn; the least time of
 each counts, and the time of a record and the ratio are told.
 """
@@ -55,7 +55,7 @@ def main():
         for size, path in zip(sizes, paths):
             with open(path, "w") as file:
                 lines = ["walk 600000000 600000000 3600000000"] + transfer(size) * (IN_ALL // size)
-                file.write("".join("stream %s\n" % line for line in lines))
+                file.write("".join("streams stream %s\n" % line for line in lines))
         took = [[], []]
         for _ in range(RUNS):
             for times, path in zip(took, paths):

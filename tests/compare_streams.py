@@ -3,7 +3,7 @@
     python3 tests/compare_streams.py REFERENCE_FOLDER PROGRAM [COUNT [SEED]]
 
 REFERENCE_FOLDER has the package `plain`; without it nothing is compared, and that is said. PROGRAM is the built
-`tool_streams`, and COUNT the number of walks, 2000 if it is left out. A walk asks, also for transfers, writes, cuts
+`tool_transports`, and COUNT the number of walks, 2000 if it is left out. A walk asks, also for transfers, writes, cuts
 frames into pieces, answers rightly and wrongly, tells faults, gives requests up and lets time pass. Outs, results in
 order, timers with their numbers, and whether the connection is closed are compared after each line.
 """
@@ -275,7 +275,7 @@ def main():
         walkers.append(Walker(modules, seed))
         for _ in range(walkers[-1].rng.choice((5, 20, 60, 150))):
             walkers[-1].step()
-    asked = "".join("stream %s\n" % line for walker in walkers for line in walker.lines)
+    asked = "".join("streams stream %s\n" % line for walker in walkers for line in walker.lines)
     ran = subprocess.run(program, input=asked.encode(), capture_output=True, timeout=600)
     got, at, failed = ran.stdout.decode().split("\n"), 0, 0
     for walker in walkers:

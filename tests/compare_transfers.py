@@ -5,10 +5,10 @@
     python3 tests/compare_transfers.py REFERENCE_FOLDER expect < LINES
 
 REFERENCE_FOLDER has the package `plain`; without it nothing is compared, and that is said. PROGRAM is the built
-`tool_streams`, and COUNT the number of transfers, 3000 if it is left out: SOAs of few serials and other records in few or
+`tool_transports`, and COUNT the number of transfers, 3000 if it is left out: SOAs of few serials and other records in few or
 many messages, with and without a question, some of them mangled or refused. Prints the first transfer that
 differs, or how many messages were the same. `expect` prints what the reference says of lines `ask QUERY`, MESSAGE and
-`cut N`, as `tool_streams` reads them behind the word `transfer`.
+`cut N`, as `tool_transports` reads them behind the word `transfer`.
 """
 
 import random
@@ -45,7 +45,7 @@ def cut(wire, octets, size):
 
 
 def expected(wire, xfr, request, lines):
-    """What `tool_streams` prints for each line behind the word `transfer`, by the reference."""
+    """What `tool_transports` prints for each line behind the word `transfer`, by the reference."""
     asked, state, last, out = None, None, b"", []
     for line in lines:
         word, _, rest = line.rpartition(" ")
@@ -127,7 +127,7 @@ def main():
     count = int(sys.argv[3]) if len(sys.argv) > 3 else 3000
     rng = random.Random(int(sys.argv[4]) if len(sys.argv) > 4 else 1)
     lines = [line for _ in range(count) for line in transfer(rng)]
-    ran = subprocess.run([sys.argv[2]], input="".join("transfer %s\n" % line for line in lines), capture_output=True, text=True)
+    ran = subprocess.run([sys.argv[2]], input="".join("streams transfer %s\n" % line for line in lines), capture_output=True, text=True)
     got, at, same = ran.stdout.splitlines(), 0, 0
     for line, found in zip(lines, expected(*modules, lines)):
         if got[at:at + len(found)] != found:

@@ -1,5 +1,5 @@
-"""Writes the stored run of `tool_front`: queries of DNS clients as they come, odd ones among them, and what becomes of each; and
-scenes of a forwarder.
+"""Writes the end of the stored run of `tool_lookups`: queries of DNS clients as they come, odd ones among them, and what becomes of each;
+and scenes of a forwarder. They stand behind its line of which this begins with MARK.
 
 usage: python3 tests/front_table.py [--check]
 
@@ -11,7 +11,8 @@ import pathlib
 import struct
 import sys
 
-FOLDER = pathlib.Path(__file__).resolve().parent.parent / "crates" / "tool_front"
+FOLDER = pathlib.Path(__file__).resolve().parent.parent / "crates" / "tool_lookups"
+MARK = "# Queries of DNS clients"
 NAME = "h20.example.com"
 
 
@@ -46,14 +47,14 @@ lines, answers = [], []
 
 def says(query, *what):
     """A query, and what is printed for it."""
-    lines.append(query.hex())
-    answers.extend(what)
+    lines.append("front " + query.hex())
+    answers.extend((*what, "end"))
 
 
 def replied(query, reply, *what):
     """The same with the reply to its request, or none."""
-    lines.append(query.hex() + " " + (reply.hex() if reply else "-"))
-    answers.extend(what)
+    lines.append("front " + query.hex() + " " + (reply.hex() if reply else "-"))
+    answers.extend((*what, "end"))
 
 
 def asks(flags=0x0100, number=0x4242, dnssec=False, **asked):
@@ -214,10 +215,11 @@ def asked(number, rclass=1):
 def scene(test, about, quiet, told, *steps, serves="asks", puts="reply"):
     """A forwarder whose client puts something out after so many events. A step has what happens, and what is put out for it; the client was told
     `told` events in the end."""
-    lines.extend((f"# front {test}: {about}", f"scene {quiet} {serves} {puts}"))
+    lines.extend((f"# front {test}: {about}", f"front scene {quiet} {serves} {puts}"))
+    answers.append("end")
     for count, (what, *outs) in enumerate(steps, told - len(steps) + 1):
-        lines.append("tells " + what)
-        answers.extend((*outs, f"told {count}"))
+        lines.append("front tells " + what)
+        answers.extend((*outs, f"told {count}", "end"))
 
 
 def by(word, peer, octets=b""):
@@ -261,19 +263,30 @@ def scenes():
           ("crowd 10000",), (by("datagram", 10000, asked(1, 10000)),), serves="serves")
 
 
+def before(texts):
+    """What stands before the lines of here, and what is printed for it: each line that isn't silent prints `end` behind what it shows."""
+    rows = texts["stdin"].splitlines()
+    rows = rows[: next((at for at, row in enumerate(rows) if row.startswith(MARK)), len(rows))]
+    count = sum(1 for row in rows if row and not row.startswith("#"))
+    printed = texts["stdout"].splitlines()
+    ends = [at for at, row in enumerate(printed, 1) if row == "end"]
+    return {"stdin": rows, "stdout": printed[: ends[count - 1]]}
+
+
 def main():
     odd()
     answered()
     alike()
     scenes()
-    files = {"stdin": lines, "stdout": answers}
+    texts = {file: (FOLDER / file).read_text(encoding="utf-8") for file in ("stdin", "stdout")}
+    rows = {"stdin": [MARK + ", and scenes of a forwarder, as tests/front_table.py has them.", *lines], "stdout": answers}
     bad = 0
-    for file, rows in files.items():
-        path, text = FOLDER / file, "".join(row + "\n" for row in rows)
+    for file, kept in before(texts).items():
+        text = "".join(row + "\n" for row in kept + rows[file])
         if "--check" not in sys.argv[1:]:
-            path.write_text(text, encoding="ascii")
-        elif path.read_text(encoding="ascii") != text:
-            print(f"another text: {path.name}")
+            (FOLDER / file).write_text(text, encoding="utf-8")
+        elif texts[file] != text:
+            print(f"another text: {file}")
             bad = 1
     return bad
 

@@ -3,10 +3,11 @@
 
 usage: python3 tests/planted_lies.py
 
-Each row: the check, the file, what is put in place of what, and a part of the sentence that must be said. Status 1 where a check finds
+Each row: the check with its words, the file, what is put in place of what, and a part of the sentence that must be said. Status 1 where a check finds
 something before the lie stands, or doesn't find it.
 """
 
+import os
 import pathlib
 import shutil
 import subprocess
@@ -14,27 +15,58 @@ import sys
 import tempfile
 
 TOP = pathlib.Path(__file__).resolve().parent.parent
+FIRST = "#![tactic(auto)]\n"
 LIES = [
     ("trusted_lines.py", "crates/dns_names/src/lib.rt", "#![tactic(auto)]\n", "#![tactic(auto)]\n\nuse std::fs;\n", "reaches the system"),
     ("trusted_lines.py", "crates/dns_values/src/octets.rt", "use std::marker::Model;\n", "use std::marker::Model;\nuse libc::net::poll;\n", "stands in no list"),
     ("trusted_lines.py", "README.md", "`worker_edge`, all of it", "all of it", "doesn't name `worker_edge`"),
+    ("bodies.py", "tests/wrong_bodies/dns_base/ignores_ixfr.edit", "# an incremental transfer", "# a transfer", "is not what the edits say"),
+    ("bodies.py", "tests/wrong_bodies/dns_base/ignores_ixfr.edit", "# refused: ", "# ", "do not say what it does"),
+    ("bodies.py", "tests/wrong_bodies/dns_base/ignores_ixfr.edit", "old: ", "old: no such ", "stands 0 times"),
+    ("bodies.py", "docs/WRONG_BODIES.md", "| `trace_judge` | `always_right` |", "| `trace_judge` | `never_right` |", "not in the gate"),
+    ("tools/crates --check", "docs/CRATES.md", "**`dns_names`**", "**`dns_name`**", "is not what the crates say"),
+    ("tools/crates --check", "crates/dns_names/src/lib.rt", "//! Domain names", "//! Names", "is not what the crates say"),
+    ("tools/crates --check", "crates.txt", "dns_names: dns_values", "dns_names:", "is not what the crates say"),
     ("documented.py", "README.md", "| 135 ns |", "| 1885 ns |", "the figure 1885"),
     ("documented.py", "docs/SCRIPTS.md", "| `opened", "| `openned", "openned"),
+    ("house.py lines", "README.md", "## License\n", "## License\n\n" + "word " * 40 + "\n", "lines (prose) over 160"),
+    ("house.py lines", "docs/WRONG_BODIES.md", "| each trace is right |", f"| {'each trace is right ' * 10}|", "lines (rows) over 160"),
+    ("house.py names", "README.md", "`client_core`", "`client_kore`", "`client_kore` stands in no source"),
+    ("house.py names", "docs/PROVED.md", "`IpAddr::from_text`", "`IpAddr::check_stream`", "no file has both sides of `IpAddr::check_stream`"),
+    ("house.py files", "docs/MAP.md", "| `dns_names` | `Name.antt` |", "| `dns_names` | `Framer.antt` |", "there is no `Framer.antt`"),
+    ("house.py parameters", "crates/dns_names/src/lib.rt", FIRST, f"{FIRST}\nfn lie({', '.join(f'{it}: u8' for it in 'abcdefgh')}) {{}}\n", "has 8 parameters"),
+    ("house.py parameters", "tests/house.txt", "parameters client_dgram::send 8", "parameters client_dgram::send 9", "is more than there is"),
+    ("house.py types", "crates/dns_names/src/lib.rt", FIRST, f"{FIRST}\nstruct Answer;\n", "`Answer` is the name of"),
+    ("house.py comments", "crates/dns_names/src/lib.rt", FIRST, f"{FIRST}\n/// The same.\nfn lie() {{}}\n", "say \"The same.\" alone"),
 ]
 
 
 def asked(top, check):
-    ran = subprocess.run([sys.executable, str(top / "tests" / check)], capture_output=True, text=True, check=False)
+    name, *words = check.split()
+    path = top / name if "/" in name else top / "tests" / name
+    ran = subprocess.run([sys.executable, str(path), *words], capture_output=True, text=True, check=False)
     return ran.returncode, ran.stdout
+
+
+def copied(top):
+    """A copy of the repository: what runs is copied, and all else are links."""
+    for part in ("tests", "tools", "docs", "crates", "bench", "examples", ".ci"):
+        copy = shutil.copy if part in ("tests", "tools") else os.symlink
+        shutil.copytree(TOP / part, top / part, copy_function=copy, ignore=shutil.ignore_patterns("out", "__pycache__"))
+    for name in ("README.md", "crates.txt", "run", "HANDLES"):
+        os.symlink(TOP / name, top / name)
+
+
+def put(path, text):
+    path.unlink()
+    path.write_text(text, encoding="utf-8")
 
 
 def main():
     faults = []
     with tempfile.TemporaryDirectory() as room:
         top = pathlib.Path(room) / "copy"
-        for part in ("tests", "docs", "crates"):
-            shutil.copytree(TOP / part, top / part, ignore=shutil.ignore_patterns("out", "proofs", "wrong_bodies", "__pycache__"))
-        shutil.copy(TOP / "README.md", top)
+        copied(top)
         for check in sorted({lie[0] for lie in LIES}):
             if asked(top, check)[0]:
                 faults.append(f"{check} finds something before any lie stands")
@@ -44,9 +76,9 @@ def main():
             if old not in text:
                 faults.append(f"{name} has no `{old.strip()}` to put a lie in place of")
                 continue
-            path.write_text(text.replace(old, new, 1), encoding="utf-8")
+            put(path, text.replace(old, new, 1))
             status, output = asked(top, check)
-            path.write_text(text, encoding="utf-8")
+            put(path, text)
             if not status or said not in output:
                 faults.append(f"{check} does not find `{new.strip()}` in {name}")
     print(*faults, sep="\n", end="\n" if faults else "")

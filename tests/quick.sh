@@ -91,12 +91,14 @@ check "the handles" handles
 check "paths in documents" documents
 check "commands in documents, and scripts" commands
 check "the length of clauses" python3 tests/long_clauses.py
-check "the list of wrong bodies" python3 tests/listed_bodies.py
+check "the list of wrong bodies" python3 tests/bodies.py
 check "names and statuses in documents" python3 tests/documented.py
 check "the pictures of traces" python3 tests/pictures.py
 check "the trusted lines" python3 tests/trusted_lines.py
 check "the crates that are cited" python3 tests/cited_crates.py
+check "the list of crates" tools/crates --check
 check "the rows that were tests" python3 tests/rows_of_tests.py
+check "the rules of the house" python3 tests/house.py
 check "lies that are planted" python3 tests/planted_lies.py
 check "man pages" pages
 check "units for systemd" units

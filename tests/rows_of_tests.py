@@ -3,9 +3,9 @@
 
 usage: python3 tests/rows_of_tests.py [--write]
 
-The table of docs/TESTED.md names for each of 319 tests what shows it: a tool, in whose stored run so many lines stand under the line
-`# CRATE TEST: ..`, or a crate of tests that has it still. Status 1 where a row of the table is false, or where there are fewer than 319.
---write counts anew, for those that the table names.
+tests/rows.txt names for each of 319 tests what shows it, as `CRATE TEST PLACE ROWS`: a tool, in whose stored run so many lines stand under
+the line `# CRATE TEST: ..`, or a crate of tests that has it still (`test`). Status 1 where a line of it is false, or where there are fewer
+than 319. --write counts anew, for those that it names.
 """
 
 import pathlib
@@ -14,7 +14,7 @@ import sys
 
 TOP = pathlib.Path(__file__).resolve().parent.parent
 COUNT = 319
-ROW = re.compile(r"^\| `(\w+)` `(\w+)` \| `(\w+)` \| (\d+|test) \|$", re.M)
+ROW = re.compile(r"^(\w+) (\w+) (\w+) (\d+|test)$", re.M)
 HEAD = re.compile(r"^# (\w+) (\w+): ")
 
 
@@ -42,7 +42,7 @@ def tests_of(crate):
 
 
 def main():
-    path = TOP / "docs/TESTED.md"
+    path = TOP / "tests/rows.txt"
     text = path.read_text(encoding="utf-8")
     known, faults = {}, []
 
@@ -56,7 +56,7 @@ def main():
 
     def again(row):
         crate, test, place, _ = row.groups()
-        return f"| `{crate}` `{test}` | `{place}` | {shown(crate, test, place)} |"
+        return f"{crate} {test} {place} {shown(crate, test, place)}"
 
     if "--write" in sys.argv:
         text = ROW.sub(again, text)
@@ -65,9 +65,9 @@ def main():
     for crate, test, place, count in rows:
         there = shown(crate, test, place)
         if there != count or there == "0":
-            faults.append(f"docs/TESTED.md: `{test}` of {crate} is shown by {count} rows of {place}, and there are {there}")
+            faults.append(f"tests/rows.txt: `{test}` of {crate} is shown by {count} rows of {place}, and there are {there}")
     if len({row[:2] for row in rows}) < COUNT:
-        faults.append(f"docs/TESTED.md: {COUNT - len({row[:2] for row in rows})} tests are not named")
+        faults.append(f"tests/rows.txt: {COUNT - len({row[:2] for row in rows})} tests are not named")
     print(*faults, sep="\n", end="\n" if faults else "")
     return 1 if faults else 0
 

@@ -3,13 +3,13 @@
 #
 #     bash tests/wrong_bodies.sh [CRATE..]      all crates, where none is named
 #
-# They lie in tests/wrong_bodies/CRATE/NAME.edit, in the form of those in crates/CRATE/must-fail. Each has a line, and the
-# last line counts them. Status 1 where one is not refused, cannot be applied, or could not be tried. An edit takes half a
-# minute or more, and the first one of a crate as long as the crate itself, where no check of it was kept.
+# They lie in tests/wrong_bodies/CRATE/NAME.edit, in the form of those in crates/CRATE/must-fail but for their heads, which rt is
+# not given. Each has a line, and the last line counts them. Status 1 where one is not refused, cannot be applied, or could not be
+# tried. An edit takes half a minute or more, and the first one of a crate as long as the crate itself, where no check of it was kept.
 set -u
 cd "$(dirname "$0")/.." || exit 2
 bodies=$PWD/tests/wrong_bodies
-[ $# -gt 0 ] || set -- $(ls "$bodies")
+[ $# -gt 0 ] || set -- $(cd "$bodies" && ls -d */ | tr -d /)
 for crate in "$@"; do
     ls "$bodies/$crate"/*.edit >/dev/null 2>&1 || { echo "wrong_bodies: no edits for a crate $crate" >&2; exit 2; }
 done
@@ -26,8 +26,10 @@ done
 wanted=0
 for crate in "$@"; do
     mkdir "$work/crates/$crate/must-fail"
-    cp "$bodies/$crate"/*.edit "$work/crates/$crate/must-fail/"
-    wanted=$((wanted + $(ls "$bodies/$crate" | grep -c '\.edit$')))
+    for edit in "$bodies/$crate"/*.edit; do
+        sed '/^# /d' "$edit" > "$work/crates/$crate/must-fail/${edit##*/}"
+        wanted=$((wanted + 1))
+    done
 done
 refused=0
 for crate in "$@"; do

@@ -28,6 +28,10 @@ sys.exit(rtlib.main("try", "--steps", "1", "--seconds", "600"))
 
 
 PR_SET_PDEATHSIG = 1
+# The groups that a crate's name tells; the others are programs and libraries.
+GROUPS = ("trace", "proof", "test", "tool", "example", "bench")
+# The head of docs/COST.md's rows.
+MINUTES = "| Crate | Good minutes |"
 
 
 class NotBuilt(Exception):
@@ -58,6 +62,20 @@ def below(lines, names):
             found.add(name)
             left += uses_of(lines[name])
     return [name for name in lines if name in found]
+
+
+def group_of(name):
+    """What a crate is by its name, or by whether it has a `main`."""
+    kind = name.partition("_")[0]
+    if kind in GROUPS:
+        return f"`{kind}_`"
+    return "programs" if os.path.isfile(f"{TOP}/crates/{name}/src/main.rt") else "other libraries"
+
+
+def minutes_in(text):
+    """The minutes of each crate that a document of the gate's cost has a row of."""
+    rows = text.partition(f"{MINUTES}\n")[2].partition("\n\n")[0]
+    return {name: float(each) for name, each in re.findall(r"(?m)^\| `?([^`|]+?)`? \| ([0-9.]+) \|$", rows)}
 
 
 def files_of(folder):

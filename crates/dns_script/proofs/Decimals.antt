@@ -1,54 +1,32 @@
 -- A number that is read is written as it stood, and a number that is written is read.
-use Rattle.std.proofs.Common.{◌≡◌, ◌<◌, ◌≤◌, ◌+◌, ◌-◌, ◌*◌, ◌^◌, ℕ, Bool, true, false, cond, not, ◌&&◌, ◌||◌, ◌==◌, nat_lt, nat_le, List, [], ◌∷◌, length, get_or, slice_index, Option, Some, None, refl, sym, ap, ◌∙◌, arith, decimal, rules, inl, inr, eq-zero-or-pos}
+use Rattle.std.proofs.Common.{◌≡◌, ◌<◌, ◌≤◌, ◌^◌, ℕ, Bool, true, false, cond, ◌&&◌, ◌==◌, nat_lt, nat_le, List, [], ◌∷◌, length, get_or, slice_index, Option, Some, None, refl, sym, ap, ◌∙◌, arith, decimal, inl, inr, eq-zero-or-pos}
 use Rattle.std.specs.Char.{is_ascii_digit}
 use Rattle.std.specs.List.{AllByRecursion}
 use Rattle.std.specs.Str.{all_ascii_digits}
-use Rattle.std.proofs.lemmas.Bool.{and_parts, and_from, or_parts, and_cases, and_right, leb-true, ltb-false, le-ltb, eqb-false, ne_eqb, true≢false}
-use Rattle.std.proofs.lemmas.Option.{cond_some, none-some, option_and_then_some, same_Some}
-use Rattle.std.proofs.lemmas.Fmt.{decimal-digits_value, digits_decimal, digits_value-decimal, decimal_nonempty, decimal_digit, first_decimal}
-use Rattle.std.proofs.lemmas.Str.Parse.{IsNumeralModel, numerals_by_fold}
-use Rattle.dns_script.specs.Reading.{number_of, with_digit, with_digits}
+use Rattle.std.specs.Str.Parse.{digits_value}
+use Rattle.std.proofs.lemmas.Bool.{and_parts, and_cases, and_right, leb-true, ltb-true, ltb-false, eqb-false, ne_eqb}
+use Rattle.std.proofs.lemmas.Option.{cond_some, none-some}
+use Rattle.std.proofs.lemmas.Fmt.{decimal-digits_value, digits_decimal, decimal_digit, first_decimal}
+use Rattle.std.proofs.lemmas.Str.Parse.{IsNumeralModel, numerals_by_value, tells_all_ascii_digits}
+use Rattle.dns_values.specs.Decimal.{decimal_number, is_decimal}
+use Rattle.dns_values.proofs.Decimals.{decimal_is_read}
+use Rattle.dns_script.specs.Reading.{number_of}
 
--- what digits say from the left, behind a number
-abbrev read_on : ℕ → List ℕ → ℕ
-read_on n [] = n
-read_on n (c ∷ cs) = read_on (10 * n + (c - 48)) cs
-
-own : IsNumeralModel (λ ds. all_ascii_digits ds ≡ true) (read_on 0)
-own = numerals_by_fold _ (search rules) read_on (search rules)
-
-more_digits : (n : ℕ) (ds : List ℕ) → n ≤ read_on n ds
-more_digits n [] = omega arith
-more_digits n (d ∷ ds) = omega (arith, more_digits (10 * n + (d - 48)) ds)
+own : IsNumeralModel (λ ds. all_ascii_digits ds ≡ true) (digits_value 10)
+own = numerals_by_value _ tells_all_ascii_digits
 
 pub kept_unless : {A : Type 0} (b : Bool) (o : Option A) (x : A) → cond b None o ≡ Some x → (b ≡ false) × (o ≡ Some x)
 kept_unless true o x e = absurd (none-some _ e)
 kept_unless false o x e = (refl, e)
 
-false_of_not : (b : Bool) → not b ≡ true → b ≡ false
-false_of_not true e = sym e
-false_of_not false e = refl
-
-pub digits_say : (greatest n v : ℕ) (ds : List ℕ) → n ≤ greatest → with_digits greatest n ds ≡ Some v → (all_ascii_digits ds ≡ true) × (v ≡ read_on n ds) × (v ≤ greatest)
-digits_say greatest n v [] small e = let same : n ≡ v = same_Some _ _ e in (refl, sym same, omega arith)
-digits_say greatest n v (d ∷ ds) small e =
-    option_and_then_some (λ more. with_digits greatest more ds) (with_digit greatest n d) v e (λ more first rest.
-    let taken = cond_some (is_ascii_digit d && not (nat_lt greatest (10 * n + (d - 48)))) (10 * n + (d - 48)) more first in
-    let both = and_parts (is_ascii_digit d) (not (nat_lt greatest (10 * n + (d - 48)))) taken.0 in
-    let fits : 10 * n + (d - 48) ≤ greatest = ltb-false _ _ (false_of_not (nat_lt greatest (10 * n + (d - 48))) both.1) in
-    let next = digits_say greatest more v ds (rw (sym taken.1) fits) rest in
-    (and_from (is_ascii_digit d) (all_ascii_digits ds) both.0 next.0, rw taken.1 next.1, next.2))
-
-pub digits_are_read : (greatest n : ℕ) (ds : List ℕ) → all_ascii_digits ds ≡ true → read_on n ds ≤ greatest → with_digits greatest n ds ≡ Some (read_on n ds)
-digits_are_read greatest n [] all fits = refl
-digits_are_read greatest n (d ∷ ds) all fits =
-    let both = and_parts (is_ascii_digit d) (all_ascii_digits ds) all in
-    let small : nat_lt greatest (10 * n + (d - 48)) ≡ false = le-ltb _ _ (omega (arith, more_digits (10 * n + (d - 48)) ds)) in
-    rw (both.0, small) (digits_are_read greatest (10 * n + (d - 48)) ds both.1 fits)
-
-some_digit : (word : List ℕ) → (length word == 0) ≡ false → 0 < length word
-some_digit [] e = absurd (true≢false e)
-some_digit (d ∷ ds) e = omega arith
+-- what is decimal is digits, one or more, of a number that is at most the greatest
+said : (greatest n : ℕ) (word : List ℕ) → decimal_number greatest word ≡ Some n → (0 < length word) × (all_ascii_digits word ≡ true) × (digits_value 10 word ≡ n) × (n ≤ greatest)
+unfolding decimal_number
+said greatest n word e =
+    let is = cond_some (is_decimal greatest word) (digits_value 10 word) n e in
+    let parts = and_parts (nat_lt 0 (length word)) (all_ascii_digits word && nat_le (digits_value 10 word) greatest) is.0 in
+    let behind = and_parts (all_ascii_digits word) (nat_le (digits_value 10 word) greatest) parts.1 in
+    (ltb-true _ _ parts.0, behind.0, is.1, rw (sym is.1) (leb-true _ _ behind.1))
 
 no_leading_zero : (word : List ℕ) → 0 < length word → (nat_lt 1 (length word) && slice_index word 0 == 48) ≡ false → get_or word 0 0 ≡ 48 → length word ≡ 1
 no_leading_zero word some e zero =
@@ -60,18 +38,16 @@ no_leading_zero word some e zero =
 pub number_is_decimal : (greatest n : ℕ) (word : List ℕ) → greatest < 2 ^ 64 → number_of greatest word ≡ Some n → word ≡ decimal n
 unfolding number_of
 number_is_decimal greatest n word wide e =
-    let kept = kept_unless (length word == 0 || (nat_lt 1 (length word) && slice_index word 0 == 48)) (with_digits greatest 0 word) n e in
-    let said = digits_say greatest 0 n word (omega arith) kept.1 in
-    let form = or_parts (length word == 0) (nat_lt 1 (length word) && slice_index word 0 == 48) kept.0 in
-    let some = some_digit word form.0 in
-    let fits : read_on 0 word < 2 ^ 64 = omega (arith, said.1, said.2) in
-    sym (ap decimal said.1 ∙ decimal-digits_value own word said.0 some (no_leading_zero word some form.1) fits)
+    let kept = kept_unless (nat_lt 1 (length word) && slice_index word 0 == 48) (decimal_number greatest word) n e in
+    let it = said greatest n word kept.1 in
+    let fits : digits_value 10 word < 2 ^ 64 = omega (arith, it.2, it.3) in
+    sym (ap decimal (sym it.2) ∙ decimal-digits_value own word it.1 it.0 (no_leading_zero word it.0 kept.0) fits)
 
 pub number_is_small : (greatest n : ℕ) (word : List ℕ) → number_of greatest word ≡ Some n → n ≤ greatest
 unfolding number_of
 number_is_small greatest n word e =
-    let kept = kept_unless (length word == 0 || (nat_lt 1 (length word) && slice_index word 0 == 48)) (with_digits greatest 0 word) n e in
-    (digits_say greatest 0 n word (omega arith) kept.1).2
+    let kept = kept_unless (nat_lt 1 (length word) && slice_index word 0 == 48) (decimal_number greatest word) n e in
+    (said greatest n word kept.1).3
 
 no_zero_leads : (n : ℕ) → n < 2 ^ 64 → (nat_lt 1 (length (decimal n)) && slice_index (decimal n) 0 == 48) ≡ false
 no_zero_leads n wide =
@@ -84,9 +60,7 @@ pub decimal_is_number : (greatest n : ℕ) → greatest < 2 ^ 64 → n ≤ great
 unfolding number_of
 decimal_is_number greatest n wide fits =
     let short : n < 2 ^ 64 = omega arith in
-    let some : (length (decimal n) == 0) ≡ false = ne_eqb _ _ (λ e. absurd (omega (arith, e, decimal_nonempty n short))) in
-    let value : read_on 0 (decimal n) ≡ n = digits_value-decimal own n short in
-    rw (some, no_zero_leads n short) (digits_are_read greatest 0 (decimal n) (digits_decimal own n short) (omega (arith, value)) ∙ ap Some value)
+    rw (no_zero_leads n short) (decimal_is_read greatest n short fits)
 
 digits_are_above : (s : ℕ) (ds : List ℕ) → s < 48 → all_ascii_digits ds ≡ true → AllByRecursion (λ o. s < o) ds
 digits_are_above s [] low all = tt

@@ -3,6 +3,7 @@ use Rattle.std.specs.Prelude.{◌≡◌, ℕ, ◌+◌, ◌*◌, ◌-◌, List, [
 use Rattle.std.specs.Char.{is_ascii_digit}
 use Rattle.std.specs.List.{position, slice_split}
 use Rattle.std.specs.Str.{bytes_eq}
+use Rattle.dns_values.specs.Decimal.{decimal_number}
 use Rattle.dns_script.specs.declared.line.LineFault.{LineFault}
 use Rattle.dns_script.specs.declared.line.LineFault.TheVariants as line
 
@@ -71,20 +72,10 @@ abbrev pub named : {A : Type 0} → List (List ℕ × A) → List ℕ → Option
 named [] word = None
 named (entry ∷ entries) word = if bytes_eq word entry.0 then Some entry.1 else named entries word
 
--- a number with one more digit, where it is at most the greatest
-abbrev pub with_digit : ℕ → ℕ → ℕ → Option ℕ
-with_digit greatest number digit =
-    if is_ascii_digit digit && not (nat_lt greatest (10 * number + (digit - 48))) then Some (10 * number + (digit - 48)) else None
-
--- a number with more digits
-abbrev pub with_digits : ℕ → ℕ → List ℕ → Option ℕ
-with_digits greatest number [] = Some number
-with_digits greatest number (digit ∷ digits) = with_digit greatest number digit >>= (λ more. with_digits greatest more digits)
-
 -- a decimal number without sign or leading zeros
 unfoldable pub number_of : ℕ → List ℕ → Option ℕ
 number_of greatest word =
-    if length word == 0 || (nat_lt 1 (length word) && slice_index word 0 == 48) then None else with_digits greatest 0 word
+    if nat_lt 1 (length word) && slice_index word 0 == 48 then None else decimal_number greatest word
 
 -- the number that a lower-case hexadecimal digit stands for
 abbrev pub digit_of : ℕ → Option ℕ

@@ -31,6 +31,7 @@ mod words;
 
 pub use generating::generate;
 pub use laws::{script_laws, text_laws};
+pub use line::number_of;
 pub use printing::{
     begin_trace, end_trace, has_stale, push_reply, push_row, set_first_line, trace_text,
 };

@@ -5,12 +5,13 @@ ghost use Rattle.std.specs.List.{position};
 ghost use Rattle.std.specs.Str.Lines.{lines, strip_carriage_return};
 ghost use Rattle.dns_script.specs.declared.line.LineFault.TheVariants as line;
 ghost use Rattle.dns_script.specs.Grammar.{header_of, u64_at, u32_at, u16_at, octets_at, message_at, fault_at, via_at};
-ghost use Rattle.dns_script.specs.Reading.{cut, parts, words_of, number_of, octets_of, with_digit, digit_of, octet_of, Gives, Reads, one_word, pairs, with_digits};
+ghost use Rattle.dns_script.specs.Reading.{cut, parts, words_of, number_of, octets_of, digit_of, octet_of, Gives, Reads, one_word, pairs};
 
 use crate::names::{fault_named, via_named};
 use crate::scan::place_of;
 use client_request::{Fault, Via};
 use dns_base::{Header, Message, NoMemory, Octets};
+use dns_values::decimal_number;
 use std::alloc::{AllocError, AllocFailed, Global};
 use std::marker::Model;
 
@@ -58,82 +59,18 @@ pub(crate) fn split_first(octets: &[u8], separator: u8) -> Option<(&[u8], &[u8])
     Some((&octets[..at], &octets[at + 1..]))
 }
 
-/// A number with one more digit, where it is at most the greatest.
-fn with_digit(number: u64, digit: u8) -> Option<u64>
-    ensures { result ≡ with_digit 18446744073709551615 number digit }
-{
-    if !digit.is_ascii_digit() {
-        return None;
-    }
-    number.checked_mul(10)?.checked_add((digit - b'0') as u64)
-}
-
-/// What many digits say.
-#[inline(never)]
-fn long_number(word: &[u8]) -> Option<u64>
-    ensures { result ≡ with_digits 18446744073709551615 0 word.now }
-{
-    let mut number = 0;
-    for digit in word {
-        number = with_digit(number, *digit)?;
-    }
-    Some(number)
-}
-
-/// What so few digits say that no number of them is too great.
-#[inline(always)]
-fn short_number(word: &[u8]) -> Option<u64>
-    requires { length word.now < 19 }
-    ensures { result ≡ with_digits 18446744073709551615 0 word.now }
-{
-    let mut number = 0;
-    for digit in word {
-        if !digit.is_ascii_digit() {
-            return None;
-        }
-        number = 10 * number + (*digit - b'0') as u64;
-    }
-    Some(number)
-}
-
-/// What digits say.
-#[inline(always)]
-fn digits_of(word: &[u8]) -> Option<u64>
-    ensures { result ≡ with_digits 18446744073709551615 0 word.now }
-{
-    if word.len() < 19 {
-        short_number(word)
-    } else {
-        long_number(word)
-    }
-}
-
-/// What digits say, where it is at most the greatest.
-#[inline(always)]
-#[tactic(auto, using(crate::proofs::Digits::within_none))]
-fn digits_within(greatest: u64, word: &[u8]) -> Option<u64>
-    ensures value { result ≡ with_digits greatest 0 word.now }
-    ensures below { IfSome result (λ n. n ≤ greatest) }
-{
-    let number = digits_of(word)?;
-    if number > greatest {
-        None
-    } else {
-        Some(number)
-    }
-}
-
-/// A decimal number without sign or leading zeros that is at most the greatest.
+/// A decimal number without sign or leading zeros that is at most the greatest, as scripts and traces have their numbers. `None` for
+/// any other word.
 #[inline(always)]
 #[tactic(auto, unfolding(crate::specs::Reading::number_of))]
-pub(crate) fn number_of(greatest: u64, word: &[u8]) -> Option<u64>
+pub fn number_of(greatest: u64, word: &[u8]) -> Option<u64>
     ensures value { result ≡ number_of greatest word.now }
     ensures below { IfSome result (λ n. n ≤ greatest) }
 {
-    if word.len() == 0 || (word.len() > 1 && word[0] == b'0') {
+    if word.len() > 1 && word[0] == b'0' {
         return None;
     }
-    digits_within(greatest, word)
+    decimal_number(greatest, word)
 }
 
 /// The number that a lower-case hexadecimal digit stands for.

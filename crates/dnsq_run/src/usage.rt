@@ -3,7 +3,7 @@
 ghost use Rattle.std.specs.Prelude.{◌≡◌, None, IfSome, ◌≤◌};
 ghost use Rattle.dnsq_run.specs.Generating.{count_of};
 ghost use Rattle.dnsq_run.specs.Words.{command_of};
-ghost use Rattle.dns_script.specs.Reading.{number_of, with_digit};
+ghost use Rattle.dns_script.specs.Reading.{number_of};
 
 /// What the words ask for.
 #[derive(Clone, Copy, Debug, PartialEq, Eq)]
@@ -29,30 +29,11 @@ pub fn command_of(words: &[String]) -> Option<Command>
     }
 }
 
-/// A number with one more digit, where it is at most the greatest.
-fn with_digit(greatest: u16, number: u16, digit: u8) -> Option<u16>
-    ensures value { result ≡ with_digit greatest number digit }
-    ensures most { IfSome result (λ n. n ≤ greatest) }
-{
-    if !digit.is_ascii_digit() {
-        return None;
-    }
-    let more = number.checked_mul(10)?.checked_add((digit - b'0') as u16)?;
-    if more > greatest { None } else { Some(more) }
-}
-
 /// A decimal number without sign or leading zeros, which is at most the greatest.
-#[tactic(auto, unfolding(dns_script::specs::Reading::number_of))]
 pub fn number_of(greatest: u16, word: &[u8]) -> Option<u16>
     ensures value { result ≡ number_of greatest word.now }
     ensures most { IfSome result (λ n. n ≤ greatest) }
 {
-    if word.len() == 0 || (word.len() > 1 && word[0] == b'0') {
-        return None;
-    }
-    let mut number = 0;
-    for digit in word {
-        number = with_digit(greatest, number, *digit)?;
-    }
-    Some(number)
+    let number = dns_script::number_of(u64::from(greatest), word)?;
+    Some(number as u16)
 }

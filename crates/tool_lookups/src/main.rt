@@ -1,4 +1,5 @@
-//! Prints what lookups make of given answers, one a line of standard input: a tool for comparisons with other lookups.
+//! Prints what lookups make of given answers, what a cache makes of messages, and what a forwarder makes of queries, one a line of
+//! standard input: a tool for comparisons with others.
 //!
 //! `addr ANSWER` prints the names of an address. `host ANSWER ANSWER` prints what is found of a host, by the answers to the
 //! questions for AAAA and for A records. `srv WORDS ANSWER` prints the servers of the service _s._tcp at example.com, whose order
@@ -10,10 +11,14 @@
 //!
 //! What a cache makes of messages: `view FROM TO CLEARS SECONDS MESSAGE` and `under MESSAGE` print as what one is given later, `validity
 //! TRUNCATED MESSAGE` for how long it may be kept, `key FLAGS DO MESSAGE` and `asking FLAGS DO MESSAGE` the key of a request, and `same`
-//! and `changed` whether two keys with a slash between them are the same. A line that begins with `#`, or is empty, prints nothing.
+//! and `changed` whether two keys with a slash between them are the same.
+//!
+//! `front LINE` is of queries of DNS clients and of a forwarder; the module says what stands there. A line that begins with `#`, or is empty,
+//! prints nothing.
 #![tactic(auto)]
 
 mod answers;
+mod front;
 mod given;
 mod hosts;
 mod kept;
@@ -23,6 +28,7 @@ mod servers;
 mod services;
 mod trouble;
 
+use front::Front;
 use std::alloc::Global;
 use trouble::Trouble;
 
@@ -55,11 +61,12 @@ fn kept_text(alloc: Global, kind: &str, rest: &str) -> Option<String> {
 }
 
 /// What is printed for a line.
-fn text_of(alloc: Global, line: &str) -> Result<String, Trouble> {
+fn text_of(alloc: Global, front: &mut Front, line: &str) -> Result<String, Trouble> {
     let (kind, rest) = line.split_once(' ').ok_or(Trouble::Usage)?;
     match kind {
         "addr" => names::text_of(alloc, rest),
         "host" => hosts::text_of(alloc, rest),
+        "front" => front.text_of(alloc, rest),
         "srv" => servers::text_of(alloc, rest),
         _ => looked_up(alloc, kind, rest).ok_or(Trouble::Usage),
     }
@@ -71,12 +78,13 @@ fn is_silent(line: &str) -> bool {
 }
 
 fn main(rt: HostRuntime) -> Result<(), Trouble> {
+    let mut front = Front::new();
     for line in rt.lines(rt.alloc()) {
         let line = line?;
         if is_silent(line.as_str()) {
             continue;
         }
-        let text = text_of(rt.alloc(), line.as_str())?;
+        let text = text_of(rt.alloc(), &mut front, line.as_str())?;
         println!(rt; "{text}end")?;
     }
     Ok(())

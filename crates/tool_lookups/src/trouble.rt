@@ -1,5 +1,6 @@
 //! Why the program ends early.
 
+use client_request::Error;
 use dns_base::{NoMemory, ShortMessage};
 use std::alloc::{AllocError, AllocFailed};
 use std::io;
@@ -42,5 +43,11 @@ impl From<NoMemory> for Trouble {
 impl From<ShortMessage> for Trouble {
     fn from(_error: ShortMessage) -> Trouble {
         Trouble::Usage
+    }
+}
+
+impl From<Error> for Trouble {
+    fn from(_error: Error) -> Trouble {
+        Trouble::NoMemory
     }
 }

@@ -6,15 +6,14 @@
 //! `address`, `service NAME NAME` look up, `add SERVER` adds a server and `options` says what holds. `resolver-poor CALL, ..`
 //! does so over an edge that learns a server and then finds no memory.
 
-ghost use Rattle.std.specs.Prelude.{None};
-
 use crate::memory::{clock_of, conf_of, edge_of, server_of};
+use crate::poor::PoorEdge;
 use crate::reading::{first_word, message_of};
 use crate::saying::{say, say_name, say_outcome, say_sentence, say_value};
-use client_core::{Clock, Edge, ListClock, ListEdge, Out, What};
+use client_core::{Clock, Edge, ListClock, ListEdge};
 use client_request::{Error, ListWords, WordList, Words};
-use dns_base::{IpAddr, Name, NoMemory, Octets, RelativeName, Rtype, ToName};
-use resolv_conf::{MemFiles, ResolvConf, ServerConf};
+use dns_base::{IpAddr, Name, Octets, RelativeName, Rtype, ToName};
+use resolv_conf::{MemFiles, ResolvConf};
 use std::alloc::Global;
 use std::collections::BTreeMap;
 use stub_resolver::{
@@ -302,38 +301,8 @@ fn show_run_by_file(alloc: Global, line: &str, said: &mut String) -> Option<()> 
     say_given(said, given)
 }
 
-/// An edge that learns a server, and finds no memory for anything else.
-#[derive(Drop)]
-struct Poor {
-    has_learned: bool,
-}
-
-impl Edge for Poor {
-    ghost deeds = { λ _. None };
-
-    ghost polls = { λ _. 0 };
-
-    ghost faults = { λ _. 0 };
-
-    fn learn_server(&mut self, _server: &ServerConf) -> Result<(), NoMemory> {
-        if self.has_learned {
-            return Err(NoMemory);
-        }
-        self.has_learned = true;
-        Ok(())
-    }
-
-    fn act(&mut self, _out: &Out) -> Result<(), NoMemory> {
-        Err(NoMemory)
-    }
-
-    fn poll(&mut self) -> Result<Option<What>, NoMemory> {
-        Err(NoMemory)
-    }
-}
-
 fn show_poor(alloc: Global, calls: &str, said: &mut String) -> Option<()> {
-    let edge = Poor { has_learned: false };
+    let edge = PoorEdge { servers: 1 };
     let clock = clock_of(alloc, "0")?;
     let made = StubResolver::from_conf(alloc, conf(alloc)?, edge, clock, words(alloc)?);
     call_all(alloc, &mut made.ok()?, calls, said)

@@ -5,12 +5,11 @@
 //! tells an edge of servers, and `poor BASE` does all this with an edge that finds no memory. The reply, what was done with the
 //! edge, and how long it might wait are shown.
 
-ghost use Rattle.std.specs.Prelude.{None};
-
 use crate::memory::{client_of, clock_of, edge_of, say_edge, server_of};
+use crate::poor::PoorEdge;
 use crate::reading::{first_word, number, request_of, word_list};
 use crate::saying::{say, say_message, say_name, say_sentence};
-use client_core::{Client, Edge, ListClock, ListEdge, Out, What};
+use client_core::{Client, ListClock, ListEdge, What};
 use client_loop::{ask, ask_both, ask_within, learn_all, turn};
 use client_request::{Error, ListWords, Row};
 use dns_base::{Message, NoMemory};
@@ -157,33 +156,9 @@ fn show_learned(alloc: Global, words: &str, said: &mut String) -> Option<()> {
     say_edge(said, &edge)
 }
 
-/// An edge each call of which finds no memory.
-#[derive(Drop)]
-struct Poor;
-
-impl Edge for Poor {
-    ghost deeds = { λ _. None };
-
-    ghost polls = { λ _. 0 };
-
-    ghost faults = { λ _. 0 };
-
-    fn learn_server(&mut self, _server: &ServerConf) -> Result<(), NoMemory> {
-        Err(NoMemory)
-    }
-
-    fn act(&mut self, _out: &Out) -> Result<(), NoMemory> {
-        Err(NoMemory)
-    }
-
-    fn poll(&mut self) -> Result<Option<What>, NoMemory> {
-        Err(NoMemory)
-    }
-}
-
 fn say_poor_learning(alloc: Global, said: &mut String) -> Option<()> {
     let servers = servers_of(alloc, "both-53")?;
-    match learn_all(&mut Poor, &servers) {
+    match learn_all(&mut PoorEdge { servers: 0 }, &servers) {
         Ok(()) => say(said, "learned"),
         Err(NoMemory) => say(said, "no memory"),
     }
@@ -191,10 +166,11 @@ fn say_poor_learning(alloc: Global, said: &mut String) -> Option<()> {
 
 fn show_poor(alloc: Global, base: &str, said: &mut String) -> Option<()> {
     let mut stage = stage_of(alloc, "4660; 0; ")?;
+    let mut edge = PoorEdge { servers: 0 };
     say_poor_learning(alloc, said)?;
     if let Err(error) = turn(
         &mut stage.client,
-        &mut Poor,
+        &mut edge,
         &mut stage.clock,
         &mut stage.words,
     ) {
@@ -202,7 +178,7 @@ fn show_poor(alloc: Global, base: &str, said: &mut String) -> Option<()> {
     }
     let asked = ask_within(
         &mut stage.client,
-        &mut Poor,
+        &mut edge,
         &mut stage.clock,
         &mut stage.words,
         0,

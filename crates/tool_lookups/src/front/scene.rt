@@ -1,7 +1,8 @@
 //! A forwarder over a client in memory, what it is told, and what it puts out.
 
-use crate::given::Given;
-use crate::hex::{Hex, octets};
+use crate::front::client::Given;
+use crate::front::hex::Hex;
+use crate::given::octets;
 use client_request::{FIRST_STREAM, ListWords, Moment, Out, Outs, What, WordList};
 use dns_base::{Message, Octets};
 use front_peers::{FrontEvent, FrontOut, FrontWhat};
@@ -69,7 +70,7 @@ fn given(alloc: Global, line: &str) -> Option<Given> {
 /// The octets of digits, or of `-` none.
 fn octets_of(alloc: Global, digits: &str) -> Option<Octets> {
     let digits = if digits == "-" { "" } else { digits };
-    Octets::from_vec(octets(alloc, digits.as_bytes()).ok()??).ok()
+    Octets::from_vec(octets(alloc, digits.as_bytes()).ok()?).ok()
 }
 
 /// What comes by a datagram, by a stream, or of a stream.

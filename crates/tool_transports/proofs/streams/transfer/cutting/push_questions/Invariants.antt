@@ -1,6 +1,6 @@
 use Rattle.dns_base.specs.Sections.{HasNoRecords}
 use Rattle.dns_base.specs.Draft.{counts_in}
-use Rattle.tool_streams.proofs.streams.transfer.cutting.push_questions.Given as goal
+use Rattle.tool_transports.proofs.streams.transfer.cutting.push_questions.Given as goal
 
 abbrev pub invariant-loop-question : goal.invariant-loop-question
 invariant-loop-question l = record {

@@ -1,7 +1,7 @@
 use Rattle.dns_base.specs.Sections.{HasNoneAfter}
 use Rattle.dns_values.specs.declared.numbers.Section.TheVariants.{Answer}
 use Rattle.dns_base.specs.Draft.{counts_in}
-use Rattle.tool_streams.proofs.streams.transfer.cutting.push_answers.Given as goal
+use Rattle.tool_transports.proofs.streams.transfer.cutting.push_answers.Given as goal
 
 abbrev pub invariant-loop-source : goal.invariant-loop-source
 invariant-loop-source l = record {
