@@ -1,1 +1,2 @@
+mod Filed
 mod Signs

@@ -17,7 +17,7 @@ pub(crate) enum TextFault {
 }
 
 impl From<NoMemory> for TextFault {
-    ghost use Rattle.dns_lookup_files.specs.declared.filed.TextFault.{TextFault};
+    ghost use Rattle.dns_lookup_files.specs.declared.text.TextFault.{TextFault};
 
     ghost from_gives = { λ _ e. e ≡ TextFault.NoMemory };
 
