@@ -1,2 +1,2 @@
-mod Filed
+mod Reading
 mod Signs
