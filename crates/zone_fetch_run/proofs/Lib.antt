@@ -1,7 +1,6 @@
 pub mod Telling
 pub mod Taken
 pub mod Writing
-pub mod Brought
 pub mod Ended
 pub mod Digits
 pub mod Flaws

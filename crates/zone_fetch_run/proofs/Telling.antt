@@ -13,10 +13,11 @@ tells_line [] before after faults faults_after h said = absurd (h refl)
 tells_line (c ∷ line) before after faults faults_after h said = said
 
 -- other statuses than the one at which a file can't be read
-pub no_three : (n : ℕ) → (n ≡ 5) ⊎ ((n ≡ 6) ⊎ (n ≡ 7)) → n ≡ 3 → ⊥
+pub no_three : (n : ℕ) → (n ≡ 5) ⊎ ((n ≡ 6) ⊎ ((n ≡ 7) ⊎ (n ≡ 9))) → n ≡ 3 → ⊥
 no_three n (inl a) e = omega arith
 no_three n (inr (inl a)) e = omega arith
-no_three n (inr (inr a)) e = omega arith
+no_three n (inr (inr (inl a))) e = omega arith
+no_three n (inr (inr (inr a))) e = omega arith
 
 pub same_three : (r s : Status) → (r ≡ s) ⊎ (r.0 ≡ 6) → r.0 ≡ 3 → s.0 ≡ 3
 same_three r s (inl a) e = ap (λ (x : Status). x.0) (sym a) ∙ e
