@@ -5,3 +5,5 @@ pub mod Ended
 pub mod Digits
 pub mod Flaws
 pub mod Names
+pub mod Coming
+pub mod Placing

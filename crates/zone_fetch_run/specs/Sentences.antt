@@ -152,7 +152,7 @@ unprinted_sentence = codes "zone_fetch: writing to standard output failed\n"
 
 abbrev pub unwritten_at : Option (String Global) → List ℕ
 unwritten_at None = unprinted_sentence
-unwritten_at (Some path) = codes "zone_fetch: " ++ (string_bytes path ++ codes " could not be written\n")
+unwritten_at (Some path) = codes "zone_fetch: " ++ string_bytes path ++ codes " could not be written\n"
 
 abbrev pub unwritten_sentence : Command → List ℕ
 unwritten_sentence command = unwritten_at command.output

@@ -90,6 +90,7 @@ pub(crate) fn tell_detour<L: Sink>(
 }
 
 /// Ends by the status with which a zone was put where the words say, and tells where it could not be written whole.
+#[tactic(auto, using(crate::proofs::Telling::told_of))]
 pub(crate) fn tell_written<L: Sink>(
     alloc: Global,
     command: &Command,

@@ -83,12 +83,10 @@ pub(crate) fn course_of_changes(
 ) -> Result<Option<Detour>, Left>
     ensures { result ≡ plain.course_of_changes have got misfits }
 {
-    let detour = if misfits == 0 {
-        None
-    } else {
-        Some(Detour::Misfits(misfits))
-    };
-    course_to(judged(have, got), detour)
+    if misfits == 0 {
+        return course_to(judged(have, got), None);
+    }
+    course_to(judged(have, got), Some(Detour::Misfits(misfits)))
 }
 
 /// Whether the server knows no such request, or does not serve it.

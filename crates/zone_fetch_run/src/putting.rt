@@ -35,6 +35,7 @@ pub(crate) fn tell_zone<K: Sink>(
 }
 
 /// Writes a zone beside the file at a path, and puts it in its place once it is whole.
+#[tactic(auto, using(crate::proofs::Placing::is_placed, crate::proofs::Placing::is_hurt, crate::proofs::Writing::rose_later))]
 fn replace<F: Replacing>(
     alloc: Global,
     files: &mut F,

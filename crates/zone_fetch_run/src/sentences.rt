@@ -359,7 +359,10 @@ pub(crate) fn unwritten_sentence(alloc: Global, command: &Command) -> Result<Str
     ensures { IfOk result (λ s. string_bytes s ≡ spec.unwritten_sentence command.now) }
 {
     match &command.output {
-        Some(path) => Ok(format!(in alloc; "zone_fetch: {path} could not be written\n")?),
+        Some(path) => {
+            let path = path.as_str();
+            Ok(format!(in alloc; "zone_fetch: {path} could not be written\n")?)
+        }
         None => Ok(String::from_str(alloc, UNPRINTED)?),
     }
 }

@@ -67,6 +67,7 @@ fn fault_line(fault: FetchFault) -> &'static str
     }
 }
 
+#[tactic(auto, using(crate::proofs::Telling::nine_more))]
 fn left_status(left: Left) -> Status
     ensures status { result.0 ≡ left_status left }
     ensures others { (result.0 ≡ 5) ⊎ ((result.0 ≡ 6) ⊎ ((result.0 ≡ 7) ⊎ (result.0 ≡ 9))) }
