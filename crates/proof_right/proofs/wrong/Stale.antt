@@ -17,6 +17,7 @@ use Rattle.right_trace.specs.Causes.{ServerCause, NotOpened, NotSent, SentShort,
 use Rattle.right_trace.specs.Errors.{DirectCause, Deadline, NoServer, ByServer, NoValidity, Here, Earlier, is_failure}
 use Rattle.right_trace.specs.Stale.{MessageIsRight, Unmarked, Marked}
 use Rattle.right_trace.specs.StaleServed.{AllServeStale}
+use Rattle.right_trace.specs.Weights.{Room, HasRoom, longest_form}
 use Rattle.right_trace.specs.Right.{Right}
 use Rattle.proof_right.specs.examples.Messages.{plain_request, answer}
 use Rattle.proof_right.specs.examples.Rows.{so_far, by_datagrams}
@@ -26,6 +27,8 @@ use Rattle.proof_right.proofs.client.Beginning.{waits_not}
 use Rattle.proof_right.proofs.client.Promptness.{none_first}
 use Rattle.proof_right.proofs.wrong.Marks.{unmarked}
 use Rattle.proof_right.proofs.worked.Cache.{cacheable}
+use Rattle.proof_right.proofs.client.Between.{room_fewer}
+use Rattle.proof_right.proofs.worked.Hits.{row_short}
 use Rattle.proof_right.proofs.worked.Stale.{fresh_so, valid_so, revivable}
 
 -- No server failed: the request is asked in this row.
@@ -76,5 +79,7 @@ pub alone : (c : Conf) → Right c serving_stale marked_alone → ⊥
 alone c h = h.1.1.1.1.0.marks.0
 
 -- It has the error, where the expired message may serve.
-pub never : AllServeStale by_datagrams serving_stale 1000 [] not_served → ⊥
-never h = (h.1.1.1.0 plain_request plain_request 0 0 0 100000000 (answer 18 52 100) revivable.parts refl refl (inl (fresh_so serving_stale)) valid_so (omega arith) revivable.known revivable.tells cacheable cacheable refl (omega arith) (inr (inr tt, inr (inr tt, inl refl))) (omega arith)).1.0 (omega arith) (errors.Dgram (query.Connect Refused)) refl (inl refl)
+pub never : (room : Room) → HasRoom room (longest_form (answer 18 52 100)) 0 → AllServeStale by_datagrams serving_stale room [] not_served → ⊥
+never room has h =
+    let few = room_fewer room _ (longest_form (answer 18 52 100)) 0 0 (row_short (record { moment = record { 0 = 200000000 }; what = Ask plain_request })) (omega arith) has in
+    (h.1.1.1.0 plain_request plain_request 0 0 0 100000000 (answer 18 52 100) revivable.parts refl refl (inl (fresh_so serving_stale)) valid_so (omega arith) revivable.known revivable.tells cacheable cacheable refl (omega arith) (inr (inr tt, inr (inr tt, inl refl))) few).1.0 (omega arith) (errors.Dgram (query.Connect Refused)) refl (inl refl)
