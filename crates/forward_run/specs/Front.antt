@@ -1,5 +1,5 @@
 -- What is done with a front.
-use Rattle.std.specs.Prelude.{ℕ, List, [], ◌∷◌, ◌++◌, map, Option, None, Some, option_map}
+use Rattle.std.specs.Prelude.{◌≡◌, ℕ, List, [], ◌∷◌, ◌++◌, map, Option, None, Some, option_map}
 use Rattle.client_request.specs.declared.event.What.TheVariants.{Tick}
 use Rattle.client_request.specs.declared.fault.Fault.{Fault}
 use Rattle.front_peers.specs.declared.event.FrontOut.{FrontOut}
@@ -41,3 +41,10 @@ next_event (what ∷ more) = what
 abbrev pub later_events : List (Option FrontWhat) → List (Option FrontWhat)
 later_events [] = []
 later_events (what ∷ more) = more
+
+-- What was done with a front, one deed behind another, as the front says what each is; between them it may wait.
+pub data Deals {F : Type 0} (did : FrontDeed → (old new : F) → Type 0) (waits : (old new : F) → Type 0) (first : F) : (deeds : List FrontDeed) → (last : F) → Type 0 where
+  begins : Deals did waits first [] first
+  waited : (deeds : List FrontDeed) (a b : F) → Deals did waits first deeds a → waits a b → Deals did waits first deeds b
+  goes_on : (deeds all : List FrontDeed) (deed : FrontDeed) (a b : F) → Deals did waits first deeds a → did deed a b → all ≡ deeds ++ deed ∷ []
+      → Deals did waits first all b

@@ -28,10 +28,10 @@ abbrev pub deeds_of : Turn → List FrontDeed
 deeds_of turn = Polled turn.polled ∷ acts_on turn.row.outs
 
 -- A row is that of a turn: there is something that the front gave, so that the row is of it, and these are the deeds of both.
-pub record IsTurn (row : FrontRow) (old new : Option (List FrontDeed)) : Type 0 where
+pub record IsTurn {F : Type 0} (did : FrontDeed → (old new : F) → Type 0) (waits : (old new : F) → Type 0) (row : FrontRow) (old new : F) : Type 0 where
   pub polled : Option FrontWhat
   pub of_poll : row.event.what ≡ happened polled
-  pub deeds : new ≡ after_deeds (Polled polled ∷ acts_on row.outs) old
+  pub deals : Deals did waits old (Polled polled ∷ acts_on row.outs) new
 
 -- the rows of turns, their moments, and how many answers they put out
 abbrev pub rows_of : List Turn → List FrontRow

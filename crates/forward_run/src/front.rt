@@ -4,7 +4,6 @@ ghost use Rattle.std.specs.Prelude.{◌≡◌, ℕ, List, Option, OnOk, OnErr, I
 ghost use Rattle.client_request.specs.declared.fault.Fault.{Fault};
 ghost use Rattle.dns_values.specs.Source.{Rose, one_more};
 ghost use Rattle.dns_values.specs.declared.address.IpAddr.{IpAddr};
-ghost use Rattle.forward_run.specs.Front.{after_deed};
 ghost use Rattle.forward_run.specs.declared.front.FrontDeed.{FrontDeed};
 
 use client_request::Fault;
@@ -27,10 +26,12 @@ pub enum FrontDeed {
 
 /// Where a forwarder's outs are acted on, and its events come from.
 ///
-/// Where a front knows what was done with it, it tells that as one list. It counts its polls, and the faults of its listening; a
-/// count stands still at its last value. It may tell which fault its listening gave, and at which address.
+/// It says of each deed, and of a wait, what that is to it. It counts its polls, and the faults of its listening; a count stands still
+/// at its last value. It may tell which fault its listening gave, and at which address.
 pub trait Front {
-    ghost deeds: { Self → Option (List FrontDeed) };
+    ghost did: { FrontDeed → Self → Self → Type 0 };
+
+    ghost waits: { Self → Self → Type 0 };
 
     ghost polls: { Self → ℕ };
 
@@ -42,7 +43,7 @@ pub trait Front {
 
     /// Takes queries on a port from now on.
     fn listen(&mut self, port: u16) -> Result<(), Fault>
-        ensures deeds { OnOk result (deeds self.new ≡ after_deed (FrontDeed.Listens port) (deeds self.old)) }
+        ensures did { OnOk result (did (FrontDeed.Listens port) self.old self.new) }
         ensures polls { polls self.new ≡ polls self.old }
         ensures refused { OnErr result (Rose (faults self.old) (faults self.new)) }
         ensures gave { IfErr result (gave self.new) };
@@ -56,23 +57,22 @@ pub trait Front {
 
     /// The next server's address, numbered from 0.
     fn learn_server(&mut self, server: &ServerConf) -> Result<(), NoMemory>
-        ensures deeds { OnOk result (deeds self.new ≡ after_deed (FrontDeed.Learned server.now) (deeds self.old)) }
+        ensures did { OnOk result (did (FrontDeed.Learned server.now) self.old self.new) }
         ensures polls { polls self.new ≡ polls self.old };
 
     /// Does what an out asks for.
     fn act(&mut self, out: &FrontOut) -> Result<(), NoMemory>
-        ensures deeds { OnOk result (deeds self.new ≡ after_deed (FrontDeed.Acted out.now) (deeds self.old)) }
+        ensures did { OnOk result (did (FrontDeed.Acted out.now) self.old self.new) }
         ensures polls { polls self.new ≡ polls self.old };
 
     /// What happened, if anything did.
     fn poll(&mut self) -> Result<Option<FrontWhat>, NoMemory>
-        ensures deeds { IfOk result (λ what. deeds self.new ≡ after_deed (FrontDeed.Polled what) (deeds self.old)) }
+        ensures did { IfOk result (λ what. did (FrontDeed.Polled what) self.old self.new) }
         ensures polls { OnOk result (polls self.new ≡ one_more (polls self.old)) };
 
     /// Told before a poll: where nothing happened yet, the front may sleep until something does, but for no more than so many
-    /// microseconds. It does nothing else. A front that can't sleep, or has no need to, leaves this out.
+    /// microseconds. A front that can't sleep, or has no need to, does nothing.
     fn wait(&mut self, _most: u128)
-        ensures deeds { deeds self.new ≡ deeds self.old }
-        ensures polls { polls self.new ≡ polls self.old }
-    {}
+        ensures waits { waits self.old self.new }
+        ensures polls { polls self.new ≡ polls self.old };
 }

@@ -63,3 +63,14 @@ pub record IsListening (count : ℕ) (old new : Server) : Type 0 where
   pub dgrams : length new.peers.dgrams ≡ length old.peers.dgrams + count
   pub streams : length new.peers.doors ≡ length old.peers.doors + count
   pub places : new.places ≡ old.places
+
+-- What is done with it, deed by deed: no deed but listening touches where it listens.
+abbrev pub DidWith : FrontDeed → (old new : Kept) → Type 0
+DidWith (deeds.Listens port) old new = IsListening (length old.addresses) old.books new.books
+DidWith (deeds.Learned server) old new = new.books ≡ record old.books { places = record old.books.places { servers = old.books.places.servers ++ server.addr ∷ [] } }
+DidWith (deeds.Acted out) old new = IsActed out old.books new.books
+DidWith (deeds.Polled what) old new = PollGives old.books new.books what
+
+-- A wait does what the books do with one, or finds no memory and leaves no more than its count of waits.
+abbrev pub WaitsWith : (old new : Kept) → Type 0
+WaitsWith old new = Waited old.books new.books

@@ -211,7 +211,9 @@ impl<
     L: Listener + Drop,
     O: OpenListeners<D, L> + Drop,
 > Front for ListenerFront<N, D, L, O> {
-    ghost deeds = { λ _. None };
+    ghost did = { λ deed old new. DidWith deed old new };
+
+    ghost waits = { λ old new. WaitsWith old new };
 
     ghost polls = { λ f. f.polls };
 
