@@ -1,0 +1,13 @@
+pub mod Weighing
+pub mod Paying
+pub mod Keeping
+pub mod Frames
+pub mod Earning
+pub mod Little
+pub mod Rows
+pub mod Posts
+pub mod Worked
+pub mod Stepping
+pub mod Entries
+pub mod Cached
+pub mod Pieces

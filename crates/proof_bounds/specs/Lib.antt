@@ -1,0 +1,5 @@
+pub mod Counts
+pub mod Bounds
+pub mod Cuts
+pub mod Posts
+pub mod Worked
