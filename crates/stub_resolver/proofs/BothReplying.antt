@@ -29,7 +29,7 @@ both_refused first second old new errors.Failed is numbers failed = absurd (fail
 both_refused first second old new _ is numbers failed = absurd is
 
 -- an answer's octets are it
-octets_same : (got : Got) → octets_in (λ a. a) got ≡ got
+pub octets_same : (got : Got) → octets_in (λ a. a) got ≡ got
 octets_same (Ok octets) = refl
 octets_same (Err fault) = refl
 
