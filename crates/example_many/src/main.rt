@@ -5,21 +5,22 @@
 #![tactic(auto)]
 
 use client_edge::{RandWords, RealClock, SocketEdge, command_words};
-use dns_base::{IpAddr, Name, SocketAddr};
+use dns_base::{Duration, IpAddr, Name, SocketAddr};
 use rand::rngs::StdRng;
 use resolv_conf::{ResolvConf, ServerConf, Transport};
 use resolver_policy::{practical, practical_choice};
 use std::process::ExitCode;
 use stub_resolver::{Error, StubResolver, cache};
 
-/// A resolver of one server, which is asked up to five times for what is lost, within 25 seconds.
+/// A resolver of one server, which is asked again for what is lost, within 30 seconds.
 type Resolver = StubResolver<SocketEdge<HostRuntime>, RealClock<HostRuntime>, RandWords<StdRng>>;
 
 fn resolver_of(rt: HostRuntime, addr: SocketAddr) -> Result<Resolver, Error> {
     let mut words = RandWords::new(rand::make_rng::<StdRng, _>(&rt)?);
     let mut conf = ResolvConf::new(rt.alloc());
     conf.servers.push(ServerConf::new(addr, Transport::UdpTcp))?;
-    conf.options.attempts = 5;
+    conf.options.attempts = 3;
+    conf.options.timeout = Duration::from_secs(10);
     let conf = practical(rt.alloc(), conf, &mut words)?;
     let (edge, clock) = (SocketEdge::new(rt, rt.alloc()), RealClock::new(rt));
     let (choice, cache) = (practical_choice(), cache::Config::new());

@@ -13,7 +13,7 @@ use Rattle.resolv_lookup.specs.Asked.{Got, octets_in}
 use Rattle.resolv_lookup.specs.Hosts.{Hosts, hosts_found}
 use Rattle.resolv_lookup.specs.declared.fault.HostFault.{HostFault}
 use Rattle.resolv_lookup.specs.declared.fault.QueryFault.TheVariants.{Client}
-use Rattle.stub_resolver.specs.All.{ReplyAll, SettleAll, all_found, gots_of, is_asked, next_reply, request_in, settled, unread}
+use Rattle.stub_resolver.specs.All.{GetAll, GetBy, ReplyAll, SettleAll, all_found, gots_of, is_asked, next_reply, request_in, requests_of, settled, unread}
 use Rattle.stub_resolver.specs.declared.all.Question.{Question}
 use Rattle.stub_resolver.specs.Queries.{Reply, got_of, is_formerr}
 use Rattle.stub_resolver.proofs.BothReplying.{octets_same}
@@ -137,3 +137,10 @@ found_all whole found left so_far none = sym (so_far ∙ ap (λ (gs : List Got).
 -- half of a host's results
 pub found_half : (whole found : List (Result Hosts HostFault)) (left middle : List Got) (a : Got) → whole ≡ found ++ all_found left → left ≡ a ∷ middle → middle ≡ [] → found ≡ whole
 found_half whole found left middle a so_far first none = sym (so_far ∙ ap (λ (gs : List Got). found ++ all_found gs) (first ∙ ap (λ (gs : List Got). a ∷ gs) none) ∙ append-nil found)
+
+-- what questions get, by their own requests
+pub get_all : {V : Type 0} (result : Result V Error) (items : V → List Got) (questions : List Question) (asked shown : List Bool) (requests : List Request) (old new : Scene) → shown ≡ asked → asked ≡ map is_asked questions
+    → requests ≡ requests_of questions → IfOk result (λ v. GetBy shown requests (items v) old new) → IfOk result (λ v. GetAll questions (items v) old new)
+get_all (Ok v) items questions asked shown requests old new same first second got =
+    subst (λ (rs : List Request). GetBy (map is_asked questions) rs (items v) old new) second (subst (λ (bs : List Bool). GetBy bs requests (items v) old new) (same ∙ first) got)
+get_all (Err error) items questions asked shown requests old new same first second got = got

@@ -77,11 +77,15 @@ gots_of [] replies = []
 gots_of (true ∷ asked) replies = got_of (next_reply replies) ∷ gots_of asked (drop 1 replies)
 gots_of (false ∷ asked) replies = Err (Client errors.FormError) ∷ gots_of asked replies
 
--- Questions were asked at once, and each got what the reply to its own request says.
-pub record GetAll (questions : List Question) (gots : List Got) (old new : Scene) : Type 0 where
+-- Requests were asked at once, and of as many questions each that is asked got what the reply to its own request says.
+pub record GetBy (asked : List Bool) (requests : List Request) (gots : List Got) (old new : Scene) : Type 0 where
   pub replies : List Reply
-  pub replied : ReplyAll (requests_of questions) replies old new
-  pub gots_are : gots ≡ gots_of (map is_asked questions) replies
+  pub replied : ReplyAll requests replies old new
+  pub gots_are : gots ≡ gots_of asked replies
+
+-- Questions were asked at once, and each got what the reply to its own request says.
+abbrev pub GetAll : (questions : List Question) → List Got → (old new : Scene) → Type 0
+GetAll questions = GetBy (map is_asked questions) (requests_of questions)
 
 -- the count of faults behind what questions got
 abbrev pub faults_after_all : List Got → ℕ → ℕ

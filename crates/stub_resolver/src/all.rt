@@ -5,7 +5,7 @@ ghost use Rattle.client_request.specs.Response.{IsRefusal};
 ghost use Rattle.client_request.specs.declared.error.Error.TheVariants.{NumbersUsed};
 ghost use Rattle.client_loop.specs.All.{StopAll};
 ghost use Rattle.client_loop.specs.Asking.{between};
-ghost use Rattle.stub_resolver.specs.All.{GetAll, ReplyAll, SettleAll, StopFor, StopsAll, faults_after_all, gots_of, is_asked, next_reply, request_in, requests_of, settled, unread};
+ghost use Rattle.stub_resolver.specs.All.{GetAll, GetBy, ReplyAll, SettleAll, StopFor, StopsAll, faults_after_all, gots_of, is_asked, next_reply, request_in, requests_of, settled, unread};
 ghost use Rattle.stub_resolver.specs.Queries.{got_of, is_formerr};
 
 use crate::asking::{Reply, got_of, is_formerr};
@@ -234,6 +234,32 @@ fn gots_of(alloc: Global, asked: &[bool], replies: Vec<Reply>) -> Result<Vec<Got
     Ok(gots)
 }
 
+/// What questions get whose requests wait at once, by whether they are asked.
+fn got_by<E: Edge, C: Clock, W: Words>(
+    alloc: Global,
+    client: &mut Client,
+    edge: &mut E,
+    clock: &mut C,
+    words: &mut W,
+    asked: &[bool],
+    requests: Vec<RequestMessage>,
+) -> Result<Vec<Got>, Error>
+    ensures get { IfOk result (λ r. between E.deeds E.waits E.polls C.given W.stream (client.old, edge.old, clock.old, words.old) (client.new, edge.new, clock.new, words.new) (GetBy asked.now requests.items r.items)) }
+    ensures numbers { IsErrOf result NumbersUsed → between E.deeds E.waits E.polls C.given W.stream (client.old, edge.old, clock.old, words.old) (client.new, edge.new, clock.new, words.new) (StopsAll requests.items) }
+    ensures lasts { OnOk result (client.old.failed ≡ false → client.new.failed ≡ false) }
+    ensures refused { IfErr result IsRefusal }
+    ensures failed_only { IsErrOf result Error.Failed → client.old.failed ≡ true }
+{
+    let replies = match replies_to_all(alloc, client, edge, clock, words, requests) {
+        Ok(replies) => replies,
+        Err(error) => return Err(error),
+    };
+    match gots_of(alloc, asked, replies) {
+        Ok(gots) => Ok(gots),
+        Err(NoMemory) => Err(Error::NoMemory),
+    }
+}
+
 /// What questions get whose requests wait at once.
 pub(crate) fn got_to_all<E: Edge, C: Clock, W: Words>(
     alloc: Global,
@@ -249,13 +275,8 @@ pub(crate) fn got_to_all<E: Edge, C: Clock, W: Words>(
     ensures refused { IfErr result IsRefusal }
     ensures failed_only { IsErrOf result Error.Failed → client.old.failed ≡ true }
 {
-    let (asked, requests) = requests_of(alloc, questions)?;
-    let replies = match replies_to_all(alloc, client, edge, clock, words, requests) {
-        Ok(replies) => replies,
-        Err(error) => return Err(error),
-    };
-    match gots_of(alloc, &asked, replies) {
-        Ok(gots) => Ok(gots),
+    match requests_of(alloc, questions) {
+        Ok((asked, requests)) => got_by(alloc, client, edge, clock, words, &asked, requests),
         Err(NoMemory) => Err(Error::NoMemory),
     }
 }

@@ -1,0 +1,5 @@
+use Rattle.client_loop.proofs.Turning.{same_error}
+use Rattle.stub_resolver.proofs.all.got_by.Goals as goal
+
+pub returns-in-Ok-gots_of-clause-get : goal.returns-in-Ok-gots_of-clause-get
+returns-in-Ok-gots_of-clause-get g c = record { replies = c.in-Ok.replies.items; replied = c.in-Ok.ensures.replies; gots_are = c.in-Ok-gots_of.ensures }
