@@ -61,10 +61,14 @@ pub record ReplyAll (requests : List Request) (replies : List Reply) (old new : 
   pub timeout : middle.client.timeout ≡ old.client.timeout
   pub settle : SettleAll requests early replies middle new
 
--- A number would pass 64 bits while they are asked, or asked once more.
+-- A number would pass 64 bits while those are asked whose replies say that they could not be read.
+abbrev pub StopUnread : List Request → List Reply → (old new : Scene) → Type 0
+StopUnread requests early = StopAll (unread requests early)
+
+-- A number would pass 64 bits while requests are asked, or asked once more.
 pub data StopsAll (requests : List Request) (old new : Scene) : Type 0 where
   at_first : StopAll requests old new → StopsAll requests old new
-  at_second : (early : List Reply) (middle : Scene) → AllReplied old.client.asked.next requests early old middle → StopAll (unread requests early) middle new
+  at_second : (early : List Reply) (middle : Scene) → AllReplied old.client.asked.next requests early old middle → StopUnread requests early middle new
       → StopsAll requests old new
 
 -- A number would pass 64 bits while questions are asked, or asked once more.

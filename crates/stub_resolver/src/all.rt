@@ -3,9 +3,8 @@
 ghost use Rattle.std.specs.Prelude.{◌≡◌, [], ◌∷◌, ◌++◌, if◌then◌else◌, true, false, Err, OnOk, IfOk, IfErr, IsErrOf, drop, map};
 ghost use Rattle.client_request.specs.Response.{IsRefusal};
 ghost use Rattle.client_request.specs.declared.error.Error.TheVariants.{NumbersUsed};
-ghost use Rattle.client_loop.specs.All.{StopAll};
 ghost use Rattle.client_loop.specs.Asking.{between};
-ghost use Rattle.stub_resolver.specs.All.{GetAll, GetBy, ReplyAll, SettleAll, StopFor, StopsAll, faults_after_all, gots_of, is_asked, next_reply, request_in, requests_of, settled, unread};
+ghost use Rattle.stub_resolver.specs.All.{GetAll, GetBy, ReplyAll, SettleAll, StopFor, StopUnread, StopsAll, faults_after_all, gots_of, is_asked, next_reply, request_in, requests_of, settled, unread};
 ghost use Rattle.stub_resolver.specs.Queries.{got_of, is_formerr};
 
 use crate::asking::{Reply, got_of, is_formerr};
@@ -166,22 +165,22 @@ fn settle_all<E: Edge, C: Clock, W: Words>(
     edge: &mut E,
     clock: &mut C,
     words: &mut W,
-    requests: Vec<RequestMessage>,
-    early: Vec<Reply>,
+    all: Vec<RequestMessage>,
+    got: Vec<Reply>,
 ) -> Result<Vec<Reply>, Error>
-    ensures settle { IfOk result (λ r. between E.deeds E.waits E.polls C.given W.stream (client.old, edge.old, clock.old, words.old) (client.new, edge.new, clock.new, words.new) (SettleAll requests.items early.items r.items)) }
-    ensures numbers { IsErrOf result NumbersUsed → between E.deeds E.waits E.polls C.given W.stream (client.old, edge.old, clock.old, words.old) (client.new, edge.new, clock.new, words.new) (StopAll (unread requests.items early.items)) }
+    ensures settle { IfOk result (λ r. between E.deeds E.waits E.polls C.given W.stream (client.old, edge.old, clock.old, words.old) (client.new, edge.new, clock.new, words.new) (SettleAll all.items got.items r.items)) }
+    ensures numbers { IsErrOf result NumbersUsed → between E.deeds E.waits E.polls C.given W.stream (client.old, edge.old, clock.old, words.old) (client.new, edge.new, clock.new, words.new) (StopUnread all.items got.items) }
     ensures lasts { OnOk result (client.old.failed ≡ false → client.new.failed ≡ false) }
     ensures refused { IfErr result IsRefusal }
     ensures failed_only { IsErrOf result Error.Failed → client.old.failed ≡ true }
 {
-    let again = unread(alloc, requests, &early)?;
+    let again = unread(alloc, all, &got)?;
     let number = client.next_request();
     let later = match ask_all(alloc, client, edge, clock, words, number, again) {
         Ok(replies) => replies,
         Err(error) => return Err(error),
     };
-    match settled(alloc, early, later) {
+    match settled(alloc, got, later) {
         Ok(replies) => Ok(replies),
         Err(NoMemory) => Err(Error::NoMemory),
     }

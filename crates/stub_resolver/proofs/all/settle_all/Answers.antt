@@ -11,11 +11,11 @@ pub returns-in-Ok-settled-clause-settle : goal.returns-in-Ok-settled-clause-sett
 returns-in-Ok-settled-clause-settle g c =
     let old = (scene c.args.client.now (g.W.Words.stream c.args.words.now) (g.E.Edge.deeds c.args.edge.now) (g.E.Edge.waits c.args.edge.now) (g.E.Edge.polls c.args.edge.now) (g.C.Clock.given c.args.clock.now)) in
     let new = (scene c.ask_all.new.client (g.W.Words.stream c.ask_all.new.words) (g.E.Edge.deeds c.ask_all.new.edge) (g.E.Edge.waits c.ask_all.new.edge) (g.E.Edge.polls c.ask_all.new.edge) (g.C.Clock.given c.ask_all.new.clock)) in
-    let requests : c.in_ok-again.again.items ≡ unread c.args.requests.items c.args.early.items = c.in_ok-again.ensures ∙ ap (λ os. unread c.args.requests.items os) c.deref.ensures.value in
+    let requests : c.in_ok-again.again.items ≡ unread c.args.all.items c.args.got.items = c.in_ok-again.ensures ∙ ap (λ os. unread c.args.all.items os) c.deref.ensures.value in
     record {
       later = c.in-Ok.replies.items;
       again =
-          subst (λ (n : ℕ). AllReplied n (unread c.args.requests.items c.args.early.items) c.in-Ok.replies.items old new) c.next_request-number.ensures
+          subst (λ (n : ℕ). AllReplied n (unread c.args.all.items c.args.got.items) c.in-Ok.replies.items old new) c.next_request-number.ensures
           (subst (λ (rs : List Request). AllReplied c.next_request-number.result rs c.in-Ok.replies.items old new) requests c.in-Ok.ensures.answered);
       replies_are = c.in-Ok-settled.ensures;
     }
@@ -29,5 +29,5 @@ pub returns-in-Err-ask_all-clause-numbers : goal.returns-in-Err-ask_all-clause-n
 returns-in-Err-ask_all-clause-numbers g c = λ is.
     let old = (scene c.args.client.now (g.W.Words.stream c.args.words.now) (g.E.Edge.deeds c.args.edge.now) (g.E.Edge.waits c.args.edge.now) (g.E.Edge.polls c.args.edge.now) (g.C.Clock.given c.args.clock.now)) in
     let new = (scene c.ask_all.new.client (g.W.Words.stream c.ask_all.new.words) (g.E.Edge.deeds c.ask_all.new.edge) (g.E.Edge.waits c.ask_all.new.edge) (g.E.Edge.polls c.ask_all.new.edge) (g.C.Clock.given c.ask_all.new.clock)) in
-    let requests : c.in_ok-again.again.items ≡ unread c.args.requests.items c.args.early.items = c.in_ok-again.ensures ∙ ap (λ os. unread c.args.requests.items os) c.deref.ensures.value in
+    let requests : c.in_ok-again.again.items ≡ unread c.args.all.items c.args.got.items = c.in_ok-again.ensures ∙ ap (λ os. unread c.args.all.items os) c.deref.ensures.value in
     subst (λ (rs : List Request). StopAll rs old new) requests (c.in-Err.ensures.numbers (same_error _ _ is))
