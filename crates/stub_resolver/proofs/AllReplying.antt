@@ -80,11 +80,11 @@ pub settled_all : (whole all early later : List Reply) → whole ≡ all ++ sett
 settled_all whole all early later so_far none = sym (so_far ∙ ap (λ (os : List Reply). all ++ settled os later) none ∙ append-nil all)
 
 -- what one question more gets
-pub got_more : (whole all more : List Got) (asked : List Bool) (i : ℕ) (b : Bool) (replies left : List Reply) (got : Got) → whole ≡ all ++ gots_of (drop i asked) replies → i < length asked → b ≡ get_or asked i b
-    → got ≡ (if b then got_of (next_reply replies) else Err (Client errors.FormError)) → left ≡ (if b then drop 1 replies else replies) → more ≡ all ++ got ∷ [] → whole ≡ more ++ gots_of (drop (i + 1) asked) left
-got_more whole all more asked i b replies left got so_far within at says rest longer =
+pub got_more : (whole all more : List Got) (asked : List Bool) (i : ℕ) (b default : Bool) (replies left : List Reply) (got : Got) → whole ≡ all ++ gots_of (drop i asked) replies → i < length asked
+    → b ≡ get_or asked i default → got ≡ (if b then got_of (next_reply replies) else Err (Client errors.FormError)) → left ≡ (if b then drop 1 replies else replies) → more ≡ all ++ got ∷ [] → whole ≡ more ++ gots_of (drop (i + 1) asked) left
+got_more whole all more asked i b default replies left got so_far within at says rest longer =
     let others : List Bool = drop (i + 1) asked in
-    so_far ∙ ap (λ (bs : List Bool). all ++ gots_of bs replies) (drop_more asked i b within ∙ ap (λ (x : Bool). x ∷ others) (sym at)) ∙ by b others
+    so_far ∙ ap (λ (bs : List Bool). all ++ gots_of bs replies) (drop_more asked i default within ∙ ap (λ (x : Bool). x ∷ others) (sym at)) ∙ by b others
     ∙ ap (λ (g : Got). (all ++ g ∷ []) ++ gots_of others (if b then drop 1 replies else replies)) (sym says) ∙ ap (λ (os : List Reply). (all ++ got ∷ []) ++ gots_of others os) (sym rest)
     ∙ ap (λ (gs : List Got). gs ++ gots_of others left) (sym longer)
   where
@@ -114,9 +114,9 @@ failed_before number requests replies old new (answered all) (inl e) bad = absur
 pub reply_all : {V : Type 0} (result : Result V Error) (items : V → List Reply) (requests copies : List Request) (early : List Reply) (old middle new : Scene) → copies ≡ requests
     → AllReplied old.client.asked.next requests early old middle → middle.client.timeout ≡ old.client.timeout → IfOk result (λ v. SettleAll copies early (items v) middle new)
     → IfOk result (λ v. ReplyAll requests (items v) old new)
-reply_all (Ok v) items requests copies early old middle new same answered timeout settle =
-    record { early = early; middle = middle; answered = answered; timeout = timeout; settle = subst (λ (rs : List Request). SettleAll rs early (items v) middle new) same settle }
-reply_all (Err error) items requests copies early old middle new same answered timeout settle = settle
+reply_all (Ok v) items requests copies early old middle new same said timeout settle =
+    record { early = early; middle = middle; answered = said; timeout = timeout; settle = subst (λ (rs : List Request). SettleAll rs early (items v) middle new) same settle }
+reply_all (Err error) items requests copies early old middle new same said timeout settle = settle
 
 pub lasts_then : {V : Type 0} (result : Result V Error) (old middle new : Scene) → (old.client.failed ≡ false → middle.client.failed ≡ false)
     → OnOk result (middle.client.failed ≡ false → new.client.failed ≡ false) → OnOk result (old.client.failed ≡ false → new.client.failed ≡ false)

@@ -2,8 +2,8 @@
 //!
 //! `resolver MOMENTS; EVENT, ..; CALL, ..` calls a resolver of the server `both-53` that searches below example.com, whose words are 4660 each; so
 //! do `resolver-run`, within an operation, `resolver-file` and `resolver-run-file`, by a resolv.conf that names the server. `query NAME TYPE`
-//! and `both NAME TYPE TYPE` ask for records, `many NAME TYPE + ..` at once, `message BASE` and `once BASE` what a message asks, `host NAME`,
-//! `hosts NAME + ..`, `search NAME`, `address`, `service NAME NAME` look up, `add SERVER` adds a server and `options` says what holds. `resolver-poor CALL, ..`
+//! and `both NAME TYPE TYPE` ask for records, `many NAME TYPE / ..` at once, `message BASE` and `once BASE` what a message asks, `host NAME`,
+//! `hosts NAME / ..`, `search NAME`, `address`, `service NAME NAME` look up, `add SERVER` adds a server and `options` says what holds. `resolver-poor CALL, ..`
 //! does so over an edge that learns a server and then finds no memory.
 
 ghost use Rattle.std.specs.Prelude.{None};
@@ -72,7 +72,7 @@ fn many<E: Edge + Drop, C: Clock + Drop, W: Words + Drop>(
     said: &mut String,
 ) -> Option<()> {
     let mut questions = Vec::new(alloc);
-    for question in words.split('+') {
+    for question in words.split('/') {
         let (name, rtype) = first_word(question.trim());
         let name = Name::from_text(alloc, name).ok()?;
         questions.push(Question::new(name, type_of(rtype)?)).ok()?;
@@ -138,7 +138,7 @@ fn hosts<E: Edge + Drop, C: Clock + Drop, W: Words + Drop>(
     said: &mut String,
 ) -> Option<()> {
     let mut names = Vec::new(alloc);
-    for name in words.split('+') {
+    for name in words.split('/') {
         names.push(Name::from_text(alloc, name.trim()).ok()?).ok()?;
     }
     match resolver.lookup_hosts(alloc, &names) {

@@ -25,8 +25,8 @@ returns-in-Ok-settled-clause-lasts g c = still_lasts c.next_request-number.resul
     (scene c.args.client.now (g.W.Words.stream c.args.words.now) (g.E.Edge.deeds c.args.edge.now) (g.E.Edge.waits c.args.edge.now) (g.E.Edge.polls c.args.edge.now) (g.C.Clock.given c.args.clock.now))
     (scene c.ask_all.new.client (g.W.Words.stream c.ask_all.new.words) (g.E.Edge.deeds c.ask_all.new.edge) (g.E.Edge.waits c.ask_all.new.edge) (g.E.Edge.polls c.ask_all.new.edge) (g.C.Clock.given c.ask_all.new.clock)) c.in-Ok.ensures.answered c.in-Ok.ensures.lasts
 
-pub returns-in-Err-ask_all-clause-numbers : goal.returns-in-Err-ask_all-clause-numbers
-returns-in-Err-ask_all-clause-numbers g c = λ is.
+pub returns-in-Err-clause-numbers : goal.returns-in-Err-clause-numbers
+returns-in-Err-clause-numbers g c = λ is.
     let old = (scene c.args.client.now (g.W.Words.stream c.args.words.now) (g.E.Edge.deeds c.args.edge.now) (g.E.Edge.waits c.args.edge.now) (g.E.Edge.polls c.args.edge.now) (g.C.Clock.given c.args.clock.now)) in
     let new = (scene c.ask_all.new.client (g.W.Words.stream c.ask_all.new.words) (g.E.Edge.deeds c.ask_all.new.edge) (g.E.Edge.waits c.ask_all.new.edge) (g.E.Edge.polls c.ask_all.new.edge) (g.C.Clock.given c.ask_all.new.clock)) in
     let requests : c.in_ok-again.again.items ≡ unread c.args.all.items c.args.got.items = c.in_ok-again.ensures ∙ ap (λ os. unread c.args.all.items os) c.deref.ensures.value in

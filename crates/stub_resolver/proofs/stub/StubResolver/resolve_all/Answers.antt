@@ -14,7 +14,7 @@ returns-in-Ok-clause-resolved g c = record {
       (scene c.got_to_all.new.client (g.W.Words.stream c.got_to_all.new.words) (g.E.Edge.deeds c.got_to_all.new.edge) (g.E.Edge.waits c.got_to_all.new.edge) (g.E.Edge.polls c.got_to_all.new.edge) (g.C.Clock.given c.got_to_all.new.clock)))
       c.self.view_is c.in-Ok.ensures.get;
   count =
-      c.faults_after_all.ensures ∙ ap (λ (gots : List Got). faults_after_all gots c.self.inside.faults) c.deref.ensures.value
+      c.faults_after_all-self-inside.ensures ∙ ap (λ (gots : List Got). faults_after_all gots c.self.inside.faults) c.deref.ensures.value
       ∙ ap (λ (s : Stub _ _ _). faults_after_all c.in-Ok.gots.items s.faults) c.self.view_is;
   lasts = c.if-self.false;
   options = ap (λ (s : Stub _ _ _). s.options) c.self.view_is;

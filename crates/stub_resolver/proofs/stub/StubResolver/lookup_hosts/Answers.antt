@@ -3,7 +3,7 @@ use Rattle.client_loop.proofs.Turning.{same_error}
 use Rattle.stub_resolver.specs.All.{QueriesAll, StopFor}
 use Rattle.stub_resolver.specs.Stub.{seen}
 use Rattle.stub_resolver.specs.declared.all.Question.{Question}
-use Rattle.stub_resolver.proofs.lookups.StubResolver.lookup_hosts.Goals as goal
+use Rattle.stub_resolver.proofs.stub.StubResolver.lookup_hosts.Goals as goal
 
 pub returns-in-Ok-all_found-clause-found : goal.returns-in-Ok-all_found-clause-found
 returns-in-Ok-all_found-clause-found g c = record {
