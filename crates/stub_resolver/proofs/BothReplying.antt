@@ -1,5 +1,5 @@
 -- What two requests get that are asked side by side.
-use Rattle.std.proofs.Common.{◌≡◌, ◌≤◌, ℕ, inl, List, None, Result, Ok, Err, refl, subst, sym}
+use Rattle.std.proofs.Common.{◌≡◌, ◌≤◌, ℕ, inl, None, Ok, Err, refl, subst, sym}
 use Rattle.std.specs.Prelude.{IsErrOf, OnErr}
 use Rattle.dns_names.specs.Name.{Labels}
 use Rattle.dns_values.specs.Source.{Rose}

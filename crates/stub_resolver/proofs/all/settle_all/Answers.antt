@@ -1,4 +1,4 @@
-use Rattle.std.proofs.Common.{◌≡◌, ℕ, List, ap, subst, sym, ◌∙◌}
+use Rattle.std.proofs.Common.{◌≡◌, ℕ, List, ap, subst, ◌∙◌}
 use Rattle.client_request.specs.Request.{Request}
 use Rattle.client_loop.specs.All.{AllReplied, StopAll}
 use Rattle.client_loop.specs.Asking.{scene}
