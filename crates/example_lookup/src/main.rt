@@ -1,25 +1,14 @@
 //! Prints the addresses of a host: `example_lookup NAME` asks the servers that `/etc/resolv.conf` names.
 #![tactic(auto)]
 
-mod trouble;
-
-use client_edge::{FileOpener, RandWords, RealClock, SocketEdge};
+use client_edge::{FileOpener, RandWords, RealClock, SocketEdge, command_words};
 use dns_base::Name;
 use rand::rngs::StdRng;
 use std::alloc::Global;
-use std::env;
-use stub_resolver::{FoundHosts, StubResolver};
-use trouble::Trouble;
+use std::process::ExitCode;
+use stub_resolver::{Error, FoundHosts, StubResolver};
 
 type Resolver = StubResolver<SocketEdge<HostRuntime>, RealClock<HostRuntime>, RandWords<StdRng>>;
-
-/// The name of the host that the command line has.
-fn host_of(rt: HostRuntime) -> Result<Name, Trouble> {
-    match env::args(&rt)?.nth(1) {
-        Some(word) => Ok(Name::from_text(rt.alloc(), word.as_str())?),
-        None => Err(Trouble::Usage("example_lookup NAME")),
-    }
-}
 
 /// Looks the host up: at the servers that the system's file names, over the system's sockets, by its clock and under its random
 /// words.
@@ -30,7 +19,7 @@ fn find(
     clock: RealClock<HostRuntime>,
     words: RandWords<StdRng>,
     host: &Name,
-) -> Result<FoundHosts<Resolver>, Trouble> {
+) -> Result<FoundHosts<Resolver>, Error> {
     StubResolver::run(
         alloc,
         &mut files,
@@ -41,27 +30,27 @@ fn find(
     )
 }
 
-/// Prints the addresses of the host that the command line names.
-fn print(
-    rt: HostRuntime,
-    files: FileOpener<HostRuntime>,
-    edge: SocketEdge<HostRuntime>,
-    clock: RealClock<HostRuntime>,
-    words: RandWords<StdRng>,
-) -> Result<(), Trouble> {
-    let host = host_of(rt)?;
+/// Prints the addresses of a host.
+fn print(rt: HostRuntime, host: &str) -> Result<(), Error> {
+    let host = Name::from_text(rt.alloc(), host)?;
+    let (files, clock) = (FileOpener::new(rt), RealClock::new(rt));
+    let edge = SocketEdge::new(rt, rt.alloc());
+    let words = RandWords::new(rand::make_rng::<StdRng, _>(&rt)?);
     for address in find(rt.alloc(), files, edge, clock, words, &host)?.iter() {
         println!(rt; "{address}")?;
     }
     Ok(())
 }
 
-fn main(rt: HostRuntime) -> Result<(), Trouble> {
-    print(
-        rt,
-        FileOpener::new(rt),
-        SocketEdge::new(rt, rt.alloc()),
-        RealClock::new(rt),
-        RandWords::new(rand::make_rng::<StdRng, _>(&rt)?),
-    )
+fn main(rt: HostRuntime) -> Result<ExitCode, Error> {
+    match command_words(&rt)?.as_slice() {
+        [host] => {
+            print(rt, host.as_str())?;
+            Ok(ExitCode::SUCCESS)
+        }
+        _ => {
+            eprintln!(rt; "usage: example_lookup NAME")?;
+            Ok(ExitCode::from(2))
+        }
+    }
 }

@@ -1,5 +1,5 @@
 -- What two requests get that are asked side by side.
-use Rattle.std.proofs.Common.{◌≡◌, ◌≤◌, ℕ, inl, List, None, Result, Ok, Err, refl, subst, sym}
+use Rattle.std.proofs.Common.{◌≡◌, ◌≤◌, ℕ, inl, None, Ok, Err, refl, subst, sym}
 use Rattle.std.specs.Prelude.{IsErrOf, OnErr}
 use Rattle.dns_names.specs.Name.{Labels}
 use Rattle.dns_values.specs.Source.{Rose}
@@ -29,7 +29,7 @@ both_refused first second old new errors.Failed is numbers failed = absurd (fail
 both_refused first second old new _ is numbers failed = absurd is
 
 -- an answer's octets are it
-octets_same : (got : Got) → octets_in (λ a. a) got ≡ got
+pub octets_same : (got : Got) → octets_in (λ a. a) got ≡ got
 octets_same (Ok octets) = refl
 octets_same (Err fault) = refl
 

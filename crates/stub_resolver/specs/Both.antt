@@ -1,5 +1,5 @@
 -- Two questions that are asked side by side, and what they get.
-use Rattle.std.specs.Prelude.{◌≡◌, ◌<◌, ℕ, ◌||◌, Bool, true, false, List, None, Result, Ok, Err}
+use Rattle.std.specs.Prelude.{◌≡◌, ◌<◌, ℕ, ◌||◌, true, false, List, None, Err}
 use Rattle.dns_values.specs.Source.{last_count}
 use Rattle.client_request.specs.Request.{Request, is_misformed, recorded_from}
 use Rattle.client_request.specs.declared.error.Error.TheVariants as errors

@@ -23,7 +23,7 @@ use std::alloc::Global;
 pub(crate) type BothGot = (Result<Answer, QueryFault>, Result<Answer, QueryFault>);
 
 /// The request of a question.
-fn request_of(alloc: Global, name: &Name, rtype: Rtype) -> Result<RequestMessage, Error>
+pub(crate) fn request_of(alloc: Global, name: &Name, rtype: Rtype) -> Result<RequestMessage, Error>
     ensures made { IfOk result (λ r. r ≡ recorded_from (question name.now rtype.0)) }
     ensures formed { OnOk result (is_misformed (question name.now rtype.0) ≡ false) }
     ensures misformed { IsErrOf result Error.FormError → is_misformed (question name.now rtype.0) ≡ true }

@@ -11,15 +11,19 @@
 //! ```
 #![tactic(auto)]
 
+mod all;
 mod asking;
 mod both;
+mod error;
 mod lookups;
 mod query;
 mod question;
 mod running;
 mod stub;
 
+pub use all::Question;
 pub use client_core::{cache, redundant};
+pub use error::Error;
 pub use query::Query;
 pub use resolv_lookup::{
     Answer, AsMessage, Asking, FoundAddrs, FoundAddrsIter, FoundHosts, FoundHostsIter,

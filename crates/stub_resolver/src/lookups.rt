@@ -1,25 +1,59 @@
 //! Lookups over a stub resolver.
 
-ghost use Rattle.std.specs.Prelude.{◌≡◌, ◌≤◌, ◌++◌, None, true, Err, IfErr};
+ghost use Rattle.std.specs.Prelude.{◌≡◌, ◌≤◌, ◌++◌, None, true, Err, IfErr, IfOk, IsErrOf};
+ghost use Rattle.client_request.specs.Response.{IsRefusal};
 ghost use Rattle.resolv_lookup.specs.Asked.{IsCounted, IsTold, asking};
 ghost use Rattle.resolv_lookup.specs.Hosts.{HostIsCounted, LooksUpHost};
 ghost use Rattle.resolv_lookup.specs.Names.{LooksUpAddr};
 ghost use Rattle.resolv_lookup.specs.Search.{SearchesHost};
 ghost use Rattle.resolv_lookup.specs.Services.{AsksNothing, IsLong, SrvIsCounted};
 ghost use Rattle.resolv_lookup.specs.declared.fault.SrvError.TheVariants as services;
+ghost use Rattle.stub_resolver.specs.All.{LooksUpHosts, StopFor, all_found, host_questions};
 ghost use Rattle.stub_resolver.specs.Both.{AsksStubBoth, AsksTogether};
 ghost use Rattle.stub_resolver.specs.Queries.{AsksStub, FindsSrv, Queries, question};
 ghost use Rattle.stub_resolver.specs.Stub.{seen};
 
+use crate::all::{Got, Question};
 use crate::stub::StubResolver;
 use client_core::{Clock, Edge};
-use client_request::Words;
-use dns_base::{IpAddr, Name, RelativeName, Rtype};
+use client_request::{Error, Words};
+use dns_base::{IpAddr, Name, NoMemory, RelativeName, Rtype};
 use resolv_lookup::{
     Answer, FoundAddrs, FoundHosts, FoundSrvs, HostFault, QueryFault, Resolver, SearchIter,
     SearchNames, SrvError, lookup_addr, lookup_host, lookup_srv, search_host,
 };
 use std::alloc::Global;
+use std::collections::VecDeque;
+
+/// The questions for the addresses of hosts: of each its A records, then its AAAA records.
+fn host_questions(alloc: Global, names: &[Name]) -> Result<Vec<Question>, NoMemory>
+    ensures { IfOk result (λ r. r.items ≡ host_questions names.now) }
+{
+    let mut questions = Vec::new(alloc);
+    for name in names {
+        questions.push(Question::new(name.try_clone(alloc)?, Rtype::A))?;
+        questions.push(Question::new(name.try_clone(alloc)?, Rtype::AAAA))?;
+    }
+    Ok(questions)
+}
+
+/// What is found of each host in what its two questions got.
+fn all_found<E: Edge + Drop, C: Clock + Drop, W: Words + Drop>(
+    alloc: Global,
+    gots: Vec<Got>,
+) -> Result<Vec<Result<FoundHosts<StubResolver<E, C, W>>, HostFault>>, NoMemory>
+    ensures { IfOk result (λ r. r.items ≡ all_found gots.items) }
+{
+    let mut left = VecDeque::from(gots);
+    let mut found = Vec::new(alloc);
+    while let Some(a) = left.pop_front() {
+        match left.pop_front() {
+            Some(aaaa) => found.push(FoundHosts::new(aaaa, a))?,
+            None => return Ok(found),
+        }
+    }
+    Ok(found)
+}
 
 /// It counts its faults, tells no list of its questions, and asks two of a name side by side.
 impl<E: Edge + Drop, C: Clock + Drop, W: Words + Drop> Resolver for StubResolver<E, C, W> {
@@ -86,6 +120,32 @@ impl<E: Edge + Drop, C: Clock + Drop, W: Words + Drop> StubResolver<E, C, W> {
         ensures failed { IfErr result (HostIsCounted self.old.faults self.new.faults) }
     {
         lookup_host(alloc, self, name)
+    }
+
+    /// Asks for the addresses of many hosts at once, of each as `lookup_host` does, and gives what is found of each, in their order. It
+    /// returns when the last reply is there, and so in the time of the slowest, whatever becomes of the others.
+    ///
+    /// The faults of each are those of `lookup_host`. An error of them all is one of `resolve_all`. Where memory runs out before anything
+    /// is asked, or when all is answered, the resolver has not failed.
+    pub fn lookup_hosts(
+        &mut self,
+        alloc: Global,
+        names: &[Name],
+    ) -> Result<Vec<Result<FoundHosts<StubResolver<E, C, W>>, HostFault>>, Error>
+        ensures found { IfOk result (λ r. LooksUpHosts (seen E.deeds E.waits E.polls C.given W.stream) names.now r.items self.old self.new) }
+        ensures numbers { IsErrOf result Error.NumbersUsed → StopFor (host_questions names.now) (seen E.deeds E.waits E.polls C.given W.stream self.old) (seen E.deeds E.waits E.polls C.given W.stream self.new) }
+        ensures refused { IfErr result IsRefusal }
+        ensures failed_only { IsErrOf result Error.Failed → self.old.failed ≡ true }
+    {
+        let questions = host_questions(alloc, names)?;
+        let gots = match self.resolve_all(alloc, &questions) {
+            Ok(gots) => gots,
+            Err(error) => return Err(error),
+        };
+        match all_found(alloc, gots) {
+            Ok(found) => Ok(found),
+            Err(NoMemory) => Err(Error::NoMemory),
+        }
     }
 
     /// Looks a host up behind each suffix of the options, and else by its name alone, as `resolv_lookup::search_host` does.

@@ -1,16 +1,19 @@
 //! The stub resolver.
 
-ghost use Rattle.std.specs.Prelude.{◌≡◌, ◌<◌, ◌≤◌, ◌||◌, if◌then◌else◌, true, false, Err, IfOk, IfErr, OnOk, OnErr};
+ghost use Rattle.std.specs.Prelude.{◌≡◌, ◌<◌, ◌≤◌, ◌||◌, if◌then◌else◌, true, false, Err, IfOk, IfErr, IsErrOf, OnOk, OnErr};
 ghost use Rattle.dns_values.specs.Source.{Rose, one_more};
 ghost use Rattle.client_core.specs.Edge.{after_deed};
 ghost use Rattle.client_core.specs.declared.edge.Deed.TheVariants.{Learned};
+ghost use Rattle.client_request.specs.Response.{IsRefusal};
 ghost use Rattle.client_steps.specs.Whole.{with_one_more};
 ghost use Rattle.resolv_lookup.specs.ListAnswers.{faults_after};
+ghost use Rattle.stub_resolver.specs.All.{QueriesAll, StopFor};
 ghost use Rattle.stub_resolver.specs.Both.{AskBoth, QueriesBoth, TakeTurns};
 ghost use Rattle.stub_resolver.specs.Making.{IsNew, IsNewWith, ByFile};
 ghost use Rattle.stub_resolver.specs.Queries.{Gets, question, is_want};
 ghost use Rattle.stub_resolver.specs.Stub.{seen, with_fault};
 
+use crate::all::{Question, faults_after_all, got_to_all};
 use crate::asking::{got_to, is_want};
 use crate::both::{BothGot, are_want, faults_after, got_to_both, requests_of};
 use crate::question::question;
@@ -240,6 +243,51 @@ impl<E: Edge + Drop, C: Clock + Drop, W: Words + Drop> StubResolver<E, C, W> {
         self.failed = are_want(&both);
         self.faults = faults_after(&both.1, faults_after(&both.0, self.faults));
         both
+    }
+
+    /// Asks questions, all at once, and gives what each gets, in their order: the answer to its own question, or its own fault, whatever
+    /// the others get. All deadlines run from the asking on, so that a server that is silent costs one of them. Those that could not be
+    /// read are asked once more when all have their replies, at once too. It returns when the last reply is there.
+    ///
+    /// The faults of each are those of `query`: `NoReply`, `Client(FormError)` for the type AXFR, which alone is not asked, and
+    /// `Client` with the client's reply. An error of them all is `NoMemory`, or `NumbersUsed` where a number would pass the greatest
+    /// `u64`, after which the resolver has failed; or `Failed` where it had failed before, and nothing is asked.
+    pub fn resolve_all(
+        &mut self,
+        alloc: Global,
+        questions: &[Question],
+    ) -> Result<Vec<Result<Answer, QueryFault>>, Error>
+        ensures resolved { IfOk result (λ r. QueriesAll (seen E.deeds E.waits E.polls C.given W.stream) questions.now r.items self.old self.new) }
+        ensures numbers { IsErrOf result Error.NumbersUsed → StopFor questions.now (seen E.deeds E.waits E.polls C.given W.stream self.old) (seen E.deeds E.waits E.polls C.given W.stream self.new) }
+        ensures failed { self.old.failed ≡ true → (result ≡ Err Error.Failed) × (self.new ≡ with_fault self.old) }
+        ensures refused { IfErr result IsRefusal }
+        ensures failed_only { IsErrOf result Error.Failed → self.old.failed ≡ true }
+        ensures count { OnErr result (self.new.faults ≡ one_more self.old.faults) }
+        ensures lasts { OnErr result (self.new.failed ≡ true) }
+        ensures options { OnErr result (self.new.options ≡ self.old.options) }
+    {
+        if self.failed {
+            self.faults = self.faults.saturating_add(1);
+            return Err(Error::Failed);
+        }
+        match got_to_all(
+            alloc,
+            &mut self.client,
+            &mut self.edge,
+            &mut self.clock,
+            &mut self.words,
+            questions,
+        ) {
+            Ok(gots) => {
+                self.faults = faults_after_all(&gots, self.faults);
+                Ok(gots)
+            }
+            Err(error) => {
+                self.failed = true;
+                self.faults = self.faults.saturating_add(1);
+                Err(error)
+            }
+        }
     }
 
     /// Asks what a message asks, and once more where `again` is set and the first answer says that it could not be read.

@@ -2,8 +2,8 @@
 //!
 //! `resolver MOMENTS; EVENT, ..; CALL, ..` calls a resolver of the server `both-53` that searches below example.com, whose words are 4660 each; so
 //! do `resolver-run`, within an operation, `resolver-file` and `resolver-run-file`, by a resolv.conf that names the server. `query NAME TYPE`
-//! and `both NAME TYPE TYPE` ask for records, `message BASE` and `once BASE` what a message asks, `host NAME`, `search NAME`,
-//! `address`, `service NAME NAME` look up, `add SERVER` adds a server and `options` says what holds. `resolver-poor CALL, ..`
+//! and `both NAME TYPE TYPE` ask for records, `many NAME TYPE / ..` at once, `message BASE` and `once BASE` what a message asks, `host NAME`,
+//! `hosts NAME / ..`, `search NAME`, `address`, `service NAME NAME` look up, `add SERVER` adds a server and `options` says what holds. `resolver-poor CALL, ..`
 //! does so over an edge that learns a server and then finds no memory.
 
 use crate::memory::{clock_of, conf_of, edge_of, server_of};
@@ -17,7 +17,7 @@ use resolv_conf::{MemFiles, ResolvConf};
 use std::alloc::Global;
 use std::collections::BTreeMap;
 use stub_resolver::{
-    Answer, FoundHosts, HostFault, Query, QueryFault, Resolver, SearchNames, StubResolver,
+    Answer, FoundHosts, HostFault, Query, QueryFault, Question, Resolver, SearchNames, StubResolver,
 };
 
 type Scene = StubResolver<ListEdge, ListClock, ListWords>;
@@ -63,6 +63,30 @@ fn both<E: Edge + Drop, C: Clock + Drop, W: Words + Drop>(
     say_answer(said, &second)
 }
 
+/// Asks questions at once.
+fn many<E: Edge + Drop, C: Clock + Drop, W: Words + Drop>(
+    alloc: Global,
+    resolver: &mut StubResolver<E, C, W>,
+    words: &str,
+    said: &mut String,
+) -> Option<()> {
+    let mut questions = Vec::new(alloc);
+    for question in words.split('/') {
+        let (name, rtype) = first_word(question.trim());
+        let name = Name::from_text(alloc, name).ok()?;
+        questions.push(Question::new(name, type_of(rtype)?)).ok()?;
+    }
+    match resolver.resolve_all(alloc, &questions) {
+        Ok(gots) => {
+            for got in &gots {
+                say_answer(said, got)?;
+            }
+            Some(())
+        }
+        Err(error) => say_name(said, &error),
+    }
+}
+
 /// Asks what a message asks, once alone or once more where its answer says that it was not read.
 fn message<E: Edge + Drop, C: Clock + Drop, W: Words + Drop>(
     alloc: Global,
@@ -103,6 +127,28 @@ fn host<E: Edge + Drop, C: Clock + Drop, W: Words + Drop>(
 ) -> Option<()> {
     let name = Name::from_text(alloc, name).ok()?;
     say_found(said, resolver.lookup_host(alloc, &name))
+}
+
+/// Looks hosts up at once.
+fn hosts<E: Edge + Drop, C: Clock + Drop, W: Words + Drop>(
+    alloc: Global,
+    resolver: &mut StubResolver<E, C, W>,
+    words: &str,
+    said: &mut String,
+) -> Option<()> {
+    let mut names = Vec::new(alloc);
+    for name in words.split('/') {
+        names.push(Name::from_text(alloc, name.trim()).ok()?).ok()?;
+    }
+    match resolver.lookup_hosts(alloc, &names) {
+        Ok(all) => {
+            for found in all {
+                say_found(said, found)?;
+            }
+            Some(())
+        }
+        Err(error) => say_name(said, &error),
+    }
 }
 
 fn search<E: Edge + Drop, C: Clock + Drop, W: Words + Drop>(
@@ -175,6 +221,7 @@ fn look_up<E: Edge + Drop, C: Clock + Drop, W: Words + Drop>(
     let (word, rest) = first_word(line);
     match word {
         "host" => host(alloc, resolver, rest, said),
+        "hosts" => hosts(alloc, resolver, rest, said),
         "search" => search(alloc, resolver, rest, said),
         "address" => address(alloc, resolver, said),
         "service" => service(alloc, resolver, rest, said),
@@ -192,6 +239,7 @@ fn call<E: Edge + Drop, C: Clock + Drop, W: Words + Drop>(
     match word {
         "query" => query(alloc, resolver, rest, said),
         "both" => both(alloc, resolver, rest, said),
+        "many" => many(alloc, resolver, rest, said),
         "message" => message(alloc, resolver, rest, false, said),
         "once" => message(alloc, resolver, rest, true, said),
         "add" => say_outcome(said, resolver.add_connection(&server_of(rest)?)),

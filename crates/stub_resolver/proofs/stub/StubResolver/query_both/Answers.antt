@@ -1,4 +1,4 @@
-use Rattle.std.proofs.Common.{◌≡◌, ℕ, ap, arith, sym, subst, ◌∙◌}
+use Rattle.std.proofs.Common.{◌≡◌, ap, arith, sym, subst, ◌∙◌}
 use Rattle.client_request.specs.Request.{Request, recorded_from}
 use Rattle.stub_resolver.specs.Both.{QueriesBoth, at_once}
 use Rattle.stub_resolver.specs.Queries.{question}
