@@ -1,10 +1,10 @@
 -- Records that are equal by their order are the same.
-use Rattle.std.proofs.Common.{◌≡◌, ℕ, List, ap, ◌∙◌, refl}
+use Rattle.std.proofs.Common.{◌≡◌, ℕ, true, List, ap, ◌∙◌, refl}
 use Rattle.std.specs.declared.cmp.Ordering.{Ordering}
 use Rattle.std.specs.declared.cmp.Ordering.TheVariants.{Less, Equal, Greater}
-use Rattle.std.specs.Ordering.{nat_cmp, ordering_then}
+use Rattle.std.specs.Ordering.{is_eq, nat_cmp, ordering_then}
 use Rattle.std.proofs.lemmas.Map.Lookups.{exact_unsigned, exact_bytes}
-use Rattle.zone_records.specs.Records.{octets_cmp, data_cmp, type_cmp, record_cmp, EqualRecordsLaw}
+use Rattle.zone_records.specs.Records.{octets_cmp, data_cmp, type_cmp, record_cmp, is_same, EqualRecordsLaw}
 use Rattle.zone_records.specs.declared.record.ZoneRecord.{ZoneRecord}
 
 first_is : (x y : Ordering) → ordering_then x y ≡ Equal → x ≡ Equal
@@ -34,3 +34,11 @@ equal_records a b e =
     ∙ (ap (λ (n : ℕ). made b.owner n a.class.0 a.ttl.0 a.rdata) rtype
     ∙ (ap (λ (n : ℕ). made b.owner b.rtype.0 n a.ttl.0 a.rdata) class
     ∙ (ap (λ (n : ℕ). made b.owner b.rtype.0 b.class.0 n a.rdata) ttl ∙ ap (λ (n : List ℕ). made b.owner b.rtype.0 b.class.0 b.ttl.0 n) rdata)))
+
+is_equal : (o : Ordering) → is_eq o ≡ true → o ≡ Equal
+is_equal Less e = absurd (cc)
+is_equal Equal e = refl
+is_equal Greater e = absurd (cc)
+
+pub same_is : (x y : ZoneRecord) → is_same x y ≡ true → x ≡ y
+same_is x y e = equal_records x y (is_equal (record_cmp x y) e)

@@ -8,3 +8,7 @@ pub mod Items
 pub mod Applied
 pub mod Heads
 pub mod Within
+pub mod Ordered
+pub mod Searching
+pub mod Changed
+pub mod Wholes

@@ -13,12 +13,11 @@ use Rattle.zone_reading.specs.declared.steps.Update.{Update}
 use Rattle.zone_reading.specs.declared.steps.XfrKind.{XfrKind}
 use Rattle.zone_reading.specs.declared.steps.XfrKind.TheVariants.{Axfr, Ixfr}
 use Rattle.zone_reading.specs.Readings.{IsTransfer}
-use Rattle.zone_reading.specs.Running.{Step, at_last, at_whole, behind, next, run}
+use Rattle.zone_reading.specs.Running.{Step, behind, next, run}
 use Rattle.zone_reading.proofs.Runs.{cut, readings_run, runs_read}
-use Rattle.zone_records.specs.Interpreting.{answer_outsiders, counted, Interpreter, Read, begun, interpreted, is_done, read_at, read_to, takes_answer, takes_entry, takes_item, takes_items, takes_some}
+use Rattle.zone_records.specs.Interpreting.{answer_outsiders, counted, Interpreter, Read, begun, interpreted, is_done, read_at, read_to, takes_answer, takes_entry, takes_items}
 use Rattle.zone_records.specs.Records.{entry_of, is_same}
 use Rattle.zone_records.specs.Transfers.{AllRead, behind_updates, BeginsWithMore, Entries, TransfersLaw, all_entries, all_read, entries_in, entries_of, if_some, then_read}
-use Rattle.zone_records.specs.declared.interpreter.XfrFault.{XfrFault}
 use Rattle.zone_records.specs.declared.interpreter.XfrFault.TheVariants as fault
 use Rattle.zone_records.specs.declared.record.ZoneRecord.{ZoneRecord}
 

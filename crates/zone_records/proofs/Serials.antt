@@ -1,5 +1,5 @@
 -- The serial of the last update.
-use Rattle.std.proofs.Common.{◌≡◌, ℕ, List, [], ◌∷◌, ◌++◌, Option, Some, None, refl, ap, sym, ◌∙◌, Ok}
+use Rattle.std.proofs.Common.{◌≡◌, ℕ, List, [], ◌∷◌, ◌++◌, Option, None, refl, ap, ◌∙◌, Ok}
 use Rattle.zone_reading.specs.declared.steps.Update.{Update}
 use Rattle.zone_reading.specs.declared.steps.Update.TheVariants.{Finished}
 use Rattle.zone_records.specs.Folding.{end_serial, last_serial, first_wrong, checked, serial_unless}

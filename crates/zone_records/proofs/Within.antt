@@ -1,5 +1,5 @@
 -- Names at an apex or below it.
-use Rattle.std.proofs.Common.{◌≡◌, ℕ, Bool, true, false, List, [], ◌∷◌, refl, sym, ap, ◌∙◌}
+use Rattle.std.proofs.Common.{◌≡◌, ℕ, Bool, true, false, List, [], ◌∷◌, sym, ap, ◌∙◌}
 use Rattle.std.specs.Prelude.{◌||◌}
 use Rattle.dns_names.specs.Name.{Labels, same_name}
 use Rattle.zone_records.specs.Records.{is_within}

@@ -19,11 +19,10 @@ use Rattle.zone_reading.specs.declared.steps.Update.{Update}
 use Rattle.zone_reading.specs.declared.steps.Update.TheVariants.{DeleteAllRecords, BeginBatchDelete, DeleteRecord, BeginBatchAdd, AddRecord, Finished}
 use Rattle.zone_reading.specs.declared.steps.XfrKind.{XfrKind}
 use Rattle.zone_reading.specs.declared.steps.XfrKind.TheVariants.{Axfr, Ixfr}
-use Rattle.zone_reading.specs.Readings.{IsTransfer}
 use Rattle.zone_reading.specs.Running.{Step, additions, at_last, at_whole, behind, deletions, next, run}
 use Rattle.zone_reading.proofs.Runs.{readings_run}
-use Rattle.zone_records.specs.Folding.{Applies, Records, Zone, checked, first_wrong, folded, folded_one, has, last_serial, serial_unless}
-use Rattle.zone_records.specs.Held.{AllHeld, HeldLaw, IsHeld, IsSoaOf, IsZone}
+use Rattle.zone_records.specs.Folding.{Records, checked, first_wrong, folded, folded_one, has, last_serial, serial_unless}
+use Rattle.zone_records.specs.Held.{HeldLaw, IsHeld, IsSoaOf}
 use Rattle.zone_records.specs.Records.{entry_by, entry_of, entry_with, is_meta, is_same, is_soa, is_within, may_come, record_cmp, record_of, record_total, serial_of, soa_serial}
 use Rattle.zone_records.specs.Transfers.{Entries, all_entries, entries_in, entries_of, if_some}
 use Rattle.zone_records.specs.declared.record.ZoneRecord.{ZoneRecord}

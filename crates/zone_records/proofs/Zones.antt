@@ -1,6 +1,5 @@
 -- Zones with the same records.
-use Rattle.std.proofs.Common.{◌≡◌, ℕ, List, [], refl, sym, ap, subst, ◌∙◌}
-use Rattle.std.specs.BTreeSet.{BTreeSet}
+use Rattle.std.proofs.Common.{◌≡◌, ℕ, List, [], sym, subst, ◌∙◌}
 use Rattle.std.specs.List.Sorted.{IsStrictlySortedBy}
 use Rattle.std.proofs.lemmas.Map.Lookups.{btree_set_from_contains}
 use Rattle.zone_reading.specs.declared.steps.Update.{Update}

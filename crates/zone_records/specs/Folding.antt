@@ -130,30 +130,6 @@ pub record Applies (old : Zone) (us : List (Update ZoneRecord)) (new : Zone) (co
   pub records : (r : ZoneRecord) → has new.records r ≡ folded us (has old.records) r
   pub missed : count ≡ misfits us (has old.records)
 
--- ---- a sorted list of the records of a set that are no SOA
-
-abbrev pub Holds : List ZoneRecord → Records → Type 0
-Holds keys rs = (r : ZoneRecord) → has keys r ≡ (not (is_soa r) && rs r)
-
--- A list has one record more.
-abbrev pub Adds : (old : List ZoneRecord) → ZoneRecord → (new : List ZoneRecord) → Type 0
-Adds old x new = (r : ZoneRecord) → has new r ≡ (is_same x r || has old r)
-
--- It has it unless it is an SOA.
-abbrev pub AddsPlain : (old : List ZoneRecord) → ZoneRecord → (new : List ZoneRecord) → Type 0
-AddsPlain old x new = (r : ZoneRecord) → has new r ≡ (if is_soa x then has old r else (is_same x r || has old r))
-
--- It has one less.
-abbrev pub Removes : (old : List ZoneRecord) → ZoneRecord → (new : List ZoneRecord) → Type 0
-Removes old x new = (r : ZoneRecord) → has new r ≡ (not (is_same x r) && has old r)
-
--- what is done to the list for one update and for all
-abbrev pub FoldsOne : (old : List ZoneRecord) → Update ZoneRecord → (new : List ZoneRecord) → (missed : Bool) → Type 0
-FoldsOne old u new missed = (rs : Records) → Holds old rs → Holds new (folded_one u rs) × (missed ≡ misses u rs)
-
-abbrev pub Folds : (old : List ZoneRecord) → List (Update ZoneRecord) → (new : List ZoneRecord) → (count : ℕ) → Type 0
-Folds old us new count = (rs : Records) → Holds old rs → Holds new (folded us rs) × (count ≡ missing us rs)
-
 -- Sorted lists of the same records are the same list, so zones to which updates lead have the same records wherever these are the same sets.
 pub record ZonesLaw : Type 0 where
   pub listed : (xs ys : List ZoneRecord) → IsStrictlySortedBy record_cmp xs → IsStrictlySortedBy record_cmp ys → ((r : ZoneRecord) → has xs r ≡ has ys r) → xs ≡ ys

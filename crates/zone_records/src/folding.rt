@@ -1,121 +1,100 @@
-//! What updates do to a sorted set of records. SOAs stay out of it.
+//! What updates do to the records of a list. SOAs stay out of it.
 
-ghost use Rattle.std.specs.Prelude.{◌≡◌, not, ◌&&◌, IfOk, OnOk};
+ghost use Rattle.std.specs.Prelude.{◌≡◌, not, ◌&&◌, IfOk, OnOk, OnErr};
 ghost use Rattle.std.specs.List.Sorted.{IsStrictlySortedBy};
-ghost use Rattle.zone_records.specs.Folding.{Adds, AddsPlain, Removes, Folds, FoldsOne, Holds, has};
+ghost use Rattle.zone_records.specs.Changing.{AddsPlain, AreMade, Folds, FoldsOne, Removes, present};
+ghost use Rattle.zone_records.specs.Folding.{has, missing};
 ghost use Rattle.zone_records.specs.Records.{record_cmp, is_soa};
 
 use crate::Update;
-use crate::keyed::Keyed;
+use crate::changes::Changes;
 use crate::record::ZoneRecord;
 use dns_base::NoMemory;
 use std::alloc::Global;
-use std::collections::BTreeSet;
-
-/// Adds a record, and tells whether it is new.
-#[tactic(auto, using(crate::proofs::Folds::updated))]
-fn put(set: &mut BTreeSet<Keyed>, new: Keyed) -> Result<bool, NoMemory>
-    ensures added { OnOk result (Adds set.old.keys new set.new.keys) }
-    ensures told { IfOk result (λ is_new. is_new ≡ not (has set.old.keys new)) }
-{
-    match set.insert(new) {
-        Ok(is_new) => Ok(is_new),
-        Err(_) => Err(NoMemory),
-    }
-}
-
-/// Adds a record, and tells whether it was there.
-#[tactic(auto, using(crate::proofs::Folds::was_there))]
-pub(crate) fn insert(set: &mut BTreeSet<Keyed>, new: ZoneRecord) -> Result<bool, NoMemory>
-    ensures added { OnOk result (Adds set.old.keys new set.new.keys) }
-    ensures told { IfOk result (λ was_there. was_there ≡ has set.old.keys new) }
-{
-    let is_new = put(set, Keyed::new(new))?;
-    Ok(!is_new)
-}
 
 /// Adds a record unless it is an SOA, and tells whether it is none and was there.
 #[tactic(auto, using(crate::proofs::Folds::not_added, crate::proofs::Folds::is_added))]
-fn insert_plain(set: &mut BTreeSet<Keyed>, new: ZoneRecord) -> Result<bool, NoMemory>
-    ensures added { OnOk result (AddsPlain set.old.keys new set.new.keys) }
-    ensures told { IfOk result (λ was_there. was_there ≡ (not (is_soa new) && has set.old.keys new)) }
+fn put(base: &[ZoneRecord], changes: &mut Changes, new: ZoneRecord) -> Result<bool, NoMemory>
+    requires { IsStrictlySortedBy record_cmp base.now }
+    ensures added { OnOk result (AddsPlain (present base.now changes.old) new (present base.now changes.new)) }
+    ensures told { IfOk result (λ was_there. was_there ≡ (not (is_soa new) && present base.now changes.old new)) }
 {
     if new.is_soa() {
         return Ok(false);
     }
-    insert(set, new)
+    let was_there = changes.put(base, new)?;
+    Ok(was_there)
 }
 
 /// Removes a record, and tells whether it is no SOA and wasn't there.
-#[tactic(auto, using(crate::proofs::Folds::taken_out))]
-fn remove(set: &mut BTreeSet<Keyed>, gone: ZoneRecord) -> bool
-    ensures removed { Removes set.old.keys gone set.new.keys }
-    ensures missed { result ≡ (not (is_soa gone) && not (has set.old.keys gone)) }
+fn take(base: &[ZoneRecord], changes: &mut Changes, gone: ZoneRecord) -> Result<bool, NoMemory>
+    requires { IsStrictlySortedBy record_cmp base.now }
+    ensures removed { OnOk result (Removes (present base.now changes.old) gone (present base.now changes.new)) }
+    ensures missed { IfOk result (λ missed. missed ≡ (not (is_soa gone) && not (present base.now changes.old gone))) }
 {
     let is_soa = gone.is_soa();
-    let was_there = set.remove(&Keyed::new(gone));
-    !is_soa && !was_there
+    let was_there = changes.take(base, gone)?;
+    Ok(!is_soa && !was_there)
 }
 
 /// What one update does. Tells whether a record was to be deleted that wasn't there, or added that was.
 #[tactic(auto, using(crate::proofs::Folds::cleared, crate::proofs::Folds::removed, crate::proofs::Folds::added, crate::proofs::Folds::batch_begun, crate::proofs::Folds::batch_added, crate::proofs::Folds::finished))]
-fn fold_one(set: &mut BTreeSet<Keyed>, update: Update) -> Result<bool, NoMemory>
-    ensures { IfOk result (FoldsOne set.old.keys update set.new.keys) }
+fn fold_one(base: &[ZoneRecord], changes: &mut Changes, update: Update) -> Result<bool, NoMemory>
+    requires { IsStrictlySortedBy record_cmp base.now }
+    ensures { IfOk result (FoldsOne (present base.now changes.old) update (present base.now changes.new)) }
 {
     match update {
         Update::DeleteAllRecords => {
-            set.clear();
+            changes.clear();
             Ok(false)
         }
-        Update::DeleteRecord(gone) => Ok(remove(set, gone)),
+        Update::DeleteRecord(gone) => {
+            let is_missed = take(base, changes, gone)?;
+            Ok(is_missed)
+        }
         Update::AddRecord(new) => {
-            let was_there = insert_plain(set, new)?;
+            let was_there = put(base, changes, new)?;
             Ok(was_there)
         }
         Update::BeginBatchDelete { .. } => Ok(false),
         Update::BeginBatchAdd { soa, .. } | Update::Finished { soa, .. } => {
-            insert_plain(set, soa)?;
+            put(base, changes, soa)?;
             Ok(false)
         }
     }
 }
 
 /// What updates do, in order. Tells how many records were to be deleted that weren't there, or added that were.
-pub(crate) fn fold(set: &mut BTreeSet<Keyed>, updates: Vec<Update>) -> Result<u64, NoMemory>
-    ensures { IfOk result (Folds set.old.keys updates.items set.new.keys) }
+fn fold(base: &[ZoneRecord], changes: &mut Changes, updates: Vec<Update>) -> Result<u64, NoMemory>
+    requires { IsStrictlySortedBy record_cmp base.now }
+    ensures { IfOk result (Folds (present base.now changes.old) updates.items (present base.now changes.new)) }
 {
     let mut missing = 0;
     for update in updates {
-        if fold_one(set, update)? {
+        if fold_one(base, changes, update)? {
             missing += 1;
         }
     }
     Ok(missing)
 }
 
-/// The records of a list that are no SOA, copied.
-#[tactic(auto, using(crate::proofs::Folds::nothing_held))]
-pub(crate) fn without_soas(
+/// Changes records in order by updates, and adds an SOA. Tells how many were to be deleted that weren't there, or added that were.
+#[tactic(auto, using(crate::proofs::Changed::are_counted))]
+pub(crate) fn change(
     alloc: Global,
-    records: &[ZoneRecord],
-) -> Result<BTreeSet<Keyed>, NoMemory>
-    ensures { IfOk result (λ set. Holds set.keys (has records.now)) }
+    records: &mut Vec<ZoneRecord>,
+    updates: Vec<Update>,
+    soa: ZoneRecord,
+) -> Result<u64, NoMemory>
+    requires { IsStrictlySortedBy record_cmp records.old.items }
+    ensures made { OnOk result (AreMade (has records.old.items) updates.items soa records.new.items) }
+    ensures told { IfOk result (λ n. n ≡ missing updates.items (has records.old.items)) }
+    ensures sorted { IsStrictlySortedBy record_cmp records.new.items }
+    ensures kept { OnErr result (records.new.items ≡ records.old.items) }
 {
-    let mut set = BTreeSet::new(alloc);
-    for item in records {
-        insert_plain(&mut set, item.try_clone(alloc)?)?;
-    }
-    Ok(set)
-}
-
-/// The records of a set, in order.
-pub(crate) fn listed(alloc: Global, set: BTreeSet<Keyed>) -> Result<Vec<ZoneRecord>, NoMemory>
-    ensures all { IfOk result (λ v. v.items ≡ set.keys) }
-    ensures sorted { IfOk result (λ v. IsStrictlySortedBy record_cmp v.items) }
-{
-    let mut records = Vec::with_capacity(alloc, set.len())?;
-    for item in set {
-        records.push(item.into_record())?;
-    }
-    Ok(records)
+    let mut changes = Changes::new(alloc);
+    let missing = fold(records.as_slice(), &mut changes, updates)?;
+    changes.put(records.as_slice(), soa)?;
+    changes.make(alloc, records)?;
+    Ok(missing)
 }

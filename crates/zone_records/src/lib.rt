@@ -14,6 +14,8 @@
 //! ```
 #![tactic(auto)]
 
+mod bringing;
+mod changes;
 mod folding;
 mod inside;
 mod interpreter;
@@ -21,8 +23,10 @@ mod keyed;
 mod laws;
 mod lowering;
 mod octets;
+mod ordering;
 mod reading;
 mod record;
+mod whole;
 mod zone;
 
 pub use interpreter::{Interpreter, XfrFault};

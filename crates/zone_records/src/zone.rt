@@ -1,13 +1,14 @@
 //! A zone, and updates of it.
 
-ghost use Rattle.std.specs.Prelude.{◌≡◌, ◌≢◌, ℕ, [], None, Some, Ok, Err, IfOk, IfErr, OnErr, if◌then◌else◌, option_map};
+ghost use Rattle.std.specs.Prelude.{◌≡◌, ◌≢◌, ℕ, [], None, Some, Ok, Err, IfOk, IfErr, OnErr, option_map};
 ghost use Rattle.std.specs.List.Sorted.{IsStrictlySortedBy};
-ghost use Rattle.zone_records.specs.Folding.{checked, empty_zone, first_wrong, is_met, is_whole, ok_unless, wrong_serial, Applies, TakesEnd};
+ghost use Rattle.zone_records.specs.Folding.{checked, empty_zone, first_wrong, has, is_met, ok_unless, wrong_serial, Applies, TakesEnd};
 ghost use Rattle.zone_records.specs.Records.{record_cmp};
 ghost use Rattle.zone_records.specs.declared.zone.ApplyFault.TheVariants as applying;
 
 use crate::Update;
-use crate::folding::{fold, insert, listed, without_soas};
+use crate::bringing::bring;
+use crate::ordering::order;
 use crate::record::ZoneRecord;
 use dns_base::{Name, NoMemory, Serial};
 use std::alloc::Global;
@@ -94,20 +95,6 @@ fn take_end(updates: &mut Vec<Update>) -> Option<(u32, ZoneRecord)>
     }
 }
 
-/// Whether the whole zone comes.
-fn is_whole(updates: &[Update]) -> bool
-    ensures { result ≡ is_whole updates.now }
-{
-    matches!(updates.first(), Some(Update::DeleteAllRecords))
-}
-
-/// How many changes did not fit, where so many did not fit if they were changes: a whole zone has none.
-fn misfits_of(whole: bool, missing: u64) -> u64
-    ensures { result ≡ (if whole then 0 else missing) }
-{
-    if whole { 0 } else { missing }
-}
-
 fn wrong_serial(have: Option<u32>, got: u32) -> ApplyFault
     ensures { result ≡ wrong_serial have got }
 {
@@ -121,6 +108,15 @@ fn wrong_serial(have: Option<u32>, got: u32) -> ApplyFault
     }
 }
 
+fn number_of(serial: Option<Serial>) -> Option<u32>
+    ensures { result ≡ option_map (λ s. s.0) serial }
+{
+    match serial {
+        Some(serial) => Some(serial.0),
+        None => None,
+    }
+}
+
 impl Zone {
     /// A zone without records. It takes no memory.
     pub fn empty(alloc: Global, apex: Name) -> Zone
@@ -131,6 +127,27 @@ impl Zone {
             apex,
             serial: None,
             records: Vec::new(alloc),
+        }
+    }
+
+    /// The zone of these records, which may come in any order; in theirs, it takes one walk. It takes no memory that it needs.
+    pub fn of_records(
+        alloc: Global,
+        apex: Name,
+        serial: Option<Serial>,
+        records: Vec<ZoneRecord>,
+    ) -> Zone
+        ensures apex { result.apex ≡ apex }
+        ensures serial { result.serial ≡ option_map (λ s. s.0) serial }
+        ensures records { (r : ZoneRecord) → has result.records r ≡ has records.items r }
+    {
+        let mut records = records;
+        order(&mut records);
+        Zone {
+            alloc,
+            apex,
+            serial: number_of(serial),
+            records,
         }
     }
 
@@ -171,16 +188,11 @@ impl Zone {
     {
         let mut left = updates;
         check_serials(self.serial, left.as_slice())?;
-        let whole = is_whole(left.as_slice());
         let Some((serial, soa)) = take_end(&mut left) else {
             return Err(ApplyFault::Unfinished);
         };
-        let mut set = without_soas(self.alloc, self.records.as_slice())?;
-        let missing = fold(&mut set, left)?;
-        insert(&mut set, soa)?;
-        let records = listed(self.alloc, set)?;
+        let misfits = bring(self.alloc, &mut self.records, left, soa)?;
         self.serial = Some(serial);
-        self.records = records;
-        Ok(misfits_of(whole, missing))
+        Ok(misfits)
     }
 }
