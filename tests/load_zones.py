@@ -6,10 +6,11 @@
 PROGRAM is the built zone_fetch; a ZONE_FILE has a zone's records in presentation form, and is named for the zone and an end, as
 `all.test.zone`. Where none is named, a zone is made here, with a record of each type that has a form of its own and some that have
 none. An NSD serves the zone; what `--text` prints of it must pass named-checkzone, nsd-checkzone, ldns-read-zone, kzonecheck and
-PowerDNS' zone2json without a complaint, and an NSD, a BIND and a Knot that load it must send the zone that the first one sends,
+PowerDNS' zone2json without a complaint, and an NSD, a BIND, a Knot and a PowerDNS that load it must send the zone that the first one sends,
 octet for octet as it is printed without `--text`. Each line must end in a comment with the data in hexadecimal digits, as it is
 printed without `--text`. `--from` must read what either prints, and no text whose last comment or line feed is cut. What isn't
-installed is passed over, and that is said. The first difference ends it with status 1. (A BIND loads no MD and no MF in any form.)
+installed is passed over, and that is said. The first difference ends it with status 1. (A BIND loads no MD and no MF in any form, and a
+PowerDNS no generic data of a type that it knows: it is told which, and what is left is compared.)
 """
 
 import shutil
@@ -140,7 +141,26 @@ zone:
     return ["knotd", "-c", str(folder / "knot.conf")]
 
 
-SERVERS = {"nsd": nsd, "named": named, "knotd": knotd}
+def pdns_server(folder, zone, port):
+    """PowerDNS with the backend that reads zone files, which lies beside the server."""
+    backend = Path(shutil.which("pdns_server")).resolve().parents[1].rglob("libbindbackend.so")
+    (folder / "named.conf").write_text(f"""options {{ directory "{folder}"; }};
+zone "{zone}" {{ type master; file "{folder}/zone"; }};
+""")
+    (folder / "pdns.conf").write_text(f"""launch=bind
+module-dir={next(backend).parent}
+bind-config={folder}/named.conf
+local-address=127.0.0.1
+local-port={port}
+socket-dir={folder}
+allow-axfr-ips=127.0.0.0/8
+guardian=no
+daemon=no
+""")
+    return ["pdns_server", f"--config-dir={folder}"]
+
+
+SERVERS = {"nsd": nsd, "named": named, "knotd": knotd, "pdns_server": pdns_server}
 
 
 def checks(zone, path):
@@ -171,8 +191,21 @@ def read_back(program, folder, zone, port, plain, printed):
             sys.exit(f"{zone}: --from ends with {done.returncode}: {done.stdout[:200]}{done.stderr[:200]}")
 
 
-def served(program, top, server, zone, text):
-    """The zone as a server that loads a text sends it, printed without --text and with it."""
+def answers(zone, port):
+    """Whether a server answers a question for the zone's SOA without an error."""
+    name = b"".join(bytes([len(label)]) + label.encode() for label in zone.split(".")) + b"\0"
+    with socket.socket(socket.AF_INET, socket.SOCK_DGRAM) as asked:
+        asked.settimeout(0.2)
+        try:
+            asked.connect(("127.0.0.1", port))
+            asked.send(b"\0\1\0\0\0\1\0\0\0\0\0\0" + name + b"\0\6\0\1")
+            return asked.recv(4096)[3] & 15 == 0
+        except OSError:
+            return False
+
+
+def attempt(program, top, server, zone, text):
+    """The zone as a server that loads a text sends it, printed without --text and with it, or None with what the server said."""
     folder, port = Path(tempfile.mkdtemp(dir=top)), free_port()
     (folder / "zone").write_text(text)
     with open(folder / "log", "w") as log:
@@ -180,15 +213,34 @@ def served(program, top, server, zone, text):
     try:
         for _ in range(100):
             time.sleep(0.1)
+            if answers(zone, port) or process.poll() is not None:
+                break
+        for _ in range(5):
             plain = fetched(program, zone, port)
             if plain is not None:
                 printed = fetched(program, zone, port, "--text")
                 read_back(program, folder, zone, port, plain, printed)
                 return plain, printed
+            time.sleep(0.1)
     finally:
         process.terminate()
         process.wait()
-    sys.exit(f"{server} does not serve {zone}: {(folder / 'log').read_text()[-2000:]}")
+    return None, (folder / "log").read_text()[-2000:]
+
+
+def served(program, top, server, zone, text):
+    plain, printed = attempt(program, top, server, zone, text)
+    if plain is None:
+        sys.exit(f"{server} does not serve {zone}: {printed}")
+    return plain, printed
+
+
+def without_refused(program, top, server, zone, printed):
+    """The lines without those whose data is generic and that a server refuses one by one, and the types of these."""
+    lines = printed.splitlines(keepends=True)
+    plain = [line for line in lines if " \\# " not in line]
+    refused = [line for line in lines if " \\# " in line and attempt(program, top, server, zone, "".join([*plain, line]))[0] is None]
+    return "".join(line for line in lines if line not in refused), [line.split(" ")[3] for line in refused]
 
 
 def check_comments(zone, plain, text):
@@ -226,10 +278,16 @@ def try_zone(program, top, zone, text):
     for server in SERVERS:
         if not shutil.which(server):
             print(f"skipped: no {server}")
-        elif served(program, top, server, zone, printed)[0] != plain:
+            continue
+        text, wanted = printed, plain
+        if server == "pdns_server" and attempt(program, top, server, zone, text)[0] is None:
+            # PowerDNS takes generic data only of types that it doesn't know.
+            text, refused = without_refused(program, top, server, zone, printed)
+            print(f"{zone}: {server} refuses generic data of {' '.join(refused)}")
+            wanted = served(program, top, first, zone, text)[0]
+        if served(program, top, server, zone, text)[0] != wanted:
             sys.exit(f"{zone}: {server} serves another zone")
-        else:
-            print(f"{zone}: {server} serves its {len(plain.splitlines())} records")
+        print(f"{zone}: {server} serves its {len(wanted.splitlines())} records")
 
 
 def main():

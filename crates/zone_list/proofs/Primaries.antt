@@ -1,9 +1,10 @@
 -- The primaries of words, one after another.
-use Rattle.std.proofs.Common.{◌≡◌, ℕ, ◌+◌, List, [], ◌∷◌, ◌++◌, refl, ap, sym, subst, ◌∙◌, append_assoc, append-nil, Result, Ok, Err}
-use Rattle.std.specs.Prelude.{inl, inr}
+use Rattle.std.proofs.Common.{◌≡◌, ℕ, ◌+◌, List, [], ◌∷◌, ◌++◌, refl, ap, sym, subst, ◌∙◌, append_assoc, append-nil, Option, None, Some, Result, Ok, Err, ◌⊎◌, inl, inr, length}
+use Rattle.std.specs.Prelude.{MatchOption}
 use Rattle.dns_values.specs.declared.address.SocketAddr.{SocketAddr}
 use Rattle.resolv_conf.specs.Words.{Words}
-use Rattle.zone_list.specs.Listing.{IsNoPrimary, IsPrimary, PrimariesSay, with_primary}
+use Rattle.zone_list.specs.Listing.{IsAlone, IsAtPort, IsNoPrimary, IsPrimary, IsPrimaryAt, PrimariesSay, host_and_port, with_primary}
+use Rattle.zone_list.specs.Telling.{IsNone}
 use Rattle.zone_list.specs.declared.fault.Part.{Part}
 use Rattle.zone_list.specs.declared.fault.Part.TheVariants as parts
 
@@ -49,3 +50,16 @@ primaries_all all left primaries place none leads =
     let there : PrimariesSay place left (Ok []) = subst (λ (ws : Words). PrimariesSay place ws (Ok [])) (sym none) here in
     let same : put_primaries primaries (Ok []) ≡ Ok primaries = ap Ok (append-nil primaries) in
     subst (PrimariesSay 1 all) same (leads.says (Ok []) there)
+
+-- ---- a word
+
+-- this primary is one of a cut, or none is
+abbrev IsOneOf : List ℕ → Option SocketAddr → Option (List ℕ × List ℕ) → Type 0
+IsOneOf word answer cut = MatchOption answer (IsNone (IsPrimaryAt cut word)) (IsPrimaryAt cut word)
+
+pub alone_is : (word : List ℕ) (answer : Option SocketAddr) → None ≡ host_and_port word → MatchOption answer (IsNone (IsAlone word)) (IsAlone word) → MatchOption answer (IsNoPrimary word) (IsPrimary word)
+alone_is word answer cut is = subst (IsOneOf word answer) cut is
+
+pub at_port_is : (word host port : List ℕ) (answer : Option SocketAddr) → Some (host, port) ≡ host_and_port word → MatchOption answer (IsNone (IsAtPort host port)) (IsAtPort host port)
+    → MatchOption answer (IsNoPrimary word) (IsPrimary word)
+at_port_is word host port answer cut is = subst (IsOneOf word answer) cut is

@@ -1,6 +1,6 @@
 -- A list has one reading.
-use Rattle.std.proofs.Common.{◌≡◌, ℕ, ◌+◌, List, [], ◌∷◌, Bool, true, false, refl, ap, sym, subst, ◌∙◌, Option, None, Some, Result, Ok, Err}
-use Rattle.std.specs.Prelude.{◌⊎◌, inl, inr, nat_le, length}
+use Rattle.std.proofs.Common.{◌≡◌, ℕ, ◌+◌, List, [], ◌∷◌, Bool, true, false, refl, ap, sym, subst, ◌∙◌, Option, None, Some, Result, Ok, Err, ◌⊎◌, inl, inr, length}
+use Rattle.std.specs.Prelude.{nat_le}
 use Rattle.std.specs.Str.{IsUtf8}
 use Rattle.command_parts.specs.Numbers.{number_in}
 use Rattle.dns_names.specs.Name.{Labels}

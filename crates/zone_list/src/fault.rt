@@ -1,6 +1,7 @@
 //! Why a list is not read.
 
 ghost use Rattle.std.specs.Prelude.{◌≡◌};
+ghost use Rattle.zone_list.specs.Telling.{at_line};
 ghost use Rattle.zone_list.specs.declared.fault.LineFault.TheVariants as faults;
 
 use dns_base::NoMemory;
@@ -44,6 +45,18 @@ pub enum ListFault {
 pub(crate) enum LineFault {
     Wrong(Part),
     NoMemory,
+}
+
+impl LineFault {
+    /// The same of the line of a number.
+    pub(crate) fn at(self, line: usize) -> ListFault
+        ensures { result ≡ at_line line self }
+    {
+        match self {
+            LineFault::Wrong(part) => ListFault::Wrong(WrongLine { line, part }),
+            LineFault::NoMemory => ListFault::NoMemory,
+        }
+    }
 }
 
 impl From<NoMemory> for LineFault {

@@ -3,7 +3,7 @@
 ghost use Rattle.std.specs.Prelude.{◌≡◌, ◌≤◌, Ok, length, IfErr, IfOk};
 ghost use Rattle.zone_list.specs.Listing.{TellsFault, TextSays};
 
-use crate::fault::{LineFault, ListFault, WrongLine};
+use crate::fault::ListFault;
 use crate::line::line_says;
 use crate::listed::Listed;
 use crate::words::split_line;
@@ -13,7 +13,7 @@ use std::alloc::Global;
 /// The zones that a list names, in order.
 ///
 /// `TooLong` where it has more than 16777216 octets, and `Wrong` with the first line that is wrong.
-#[tactic(auto, using(crate::proofs::Lists::leads_all, crate::proofs::Lists::zone_follows, crate::proofs::Lists::nothing_follows, crate::proofs::Lists::wrong_follows, crate::proofs::Lists::all_said))]
+#[tactic(auto, using(crate::proofs::Lists::leads_all, crate::proofs::Lists::zone_follows, crate::proofs::Lists::nothing_follows, crate::proofs::Lists::all_said))]
 pub fn zones_of(alloc: Global, text: &[u8]) -> Result<Vec<Listed>, ListFault>
     ensures fits { IfOk result (λ _. length text.now ≤ 16777216) }
     ensures zones { IfOk result (λ zones. TextSays text.now (Ok zones.items)) }
@@ -34,10 +34,7 @@ pub fn zones_of(alloc: Global, text: &[u8]) -> Result<Vec<Listed>, ListFault>
                 }
             }
             Ok(None) => {}
-            Err(LineFault::Wrong(part)) => {
-                return Err(ListFault::Wrong(WrongLine { line, part }));
-            }
-            Err(LineFault::NoMemory) => return Err(ListFault::NoMemory),
+            Err(fault) => return Err(fault.at(line)),
         }
         rest = behind;
         line += 1;
@@ -48,7 +45,7 @@ pub fn zones_of(alloc: Global, text: &[u8]) -> Result<Vec<Listed>, ListFault>
 #[cfg(test)]
 mod tests {
     use super::*;
-    use crate::fault::Part;
+    use crate::fault::{Part, WrongLine};
     use dns_base::IpAddr;
     use std::test::Fail;
 

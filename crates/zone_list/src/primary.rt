@@ -52,6 +52,7 @@ fn at_port(host: &str, port: &str) -> Option<SocketAddr>
 }
 
 /// The primary that a word is.
+#[tactic(auto, using(crate::proofs::Primaries::alone_is, crate::proofs::Primaries::at_port_is))]
 fn primary_of(word: &str) -> Option<SocketAddr>
     ensures { MatchOption result (IsNoPrimary word.now) (IsPrimary word.now) }
 {

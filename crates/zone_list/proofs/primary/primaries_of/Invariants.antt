@@ -1,10 +1,7 @@
 -- what the words that are left say stands behind the primaries so far
-use Rattle.std.proofs.Common.{◌≡◌, ◌≤◌, ◌+◌, ℕ, List, Result, length}
+use Rattle.std.proofs.Common.{◌≤◌, ◌+◌, length}
 use Rattle.std.specs.Str.Iter.{split_whitespace_rest}
-use Rattle.dns_values.specs.declared.address.SocketAddr.{SocketAddr}
 use Rattle.resolv_conf.specs.Words.{words_of}
-use Rattle.zone_list.specs.Listing.{PrimariesSay}
-use Rattle.zone_list.specs.declared.fault.Part.{Part}
 use Rattle.zone_list.proofs.Primaries.{Leads}
 use Rattle.zone_list.proofs.primary.primaries_of.Given as goal
 

@@ -1,5 +1,4 @@
-use Rattle.std.proofs.Common.{◌≡◌, ◌<◌, List, ℕ, ◌++◌, length, length-append, ap, arith, Option, Some, None}
-use Rattle.std.specs.Option.{MatchOption}
+use Rattle.std.proofs.Common.{◌<◌, List, ℕ, ◌++◌, length, length-append, ap, arith, Option, Some, None}
 use Rattle.std.specs.Borrow.{Bor}
 use Rattle.std.specs.Prelude.{OnSome}
 use Rattle.std.specs.Str.Iter.{split_whitespace_rest, split_whitespace_steps}
