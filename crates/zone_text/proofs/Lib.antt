@@ -1,7 +1,10 @@
 pub mod Cuts
 pub mod Spelled
 pub mod Lacking
+pub mod Shown
 pub mod Written
 pub mod Said
+pub mod Zones
 pub mod Above
 pub mod ReadBack
+pub mod Worked

@@ -1,4 +1,6 @@
 pub mod Lines
 pub mod Words
 pub mod Saying
+pub mod Zones
+pub mod Telling
 pub mod Laws
