@@ -7,4 +7,6 @@ pub mod Said
 pub mod Zones
 pub mod Above
 pub mod ReadBack
+pub mod Digits
+pub mod NumbersBack
 pub mod Worked

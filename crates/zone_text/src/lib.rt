@@ -21,7 +21,7 @@ mod telling;
 mod zone;
 
 pub use fault::{Part, TextFault, WrongLine};
-pub use laws::read_back_law;
+pub use laws::{numbers_back_law, read_back_law};
 pub use lines::write_text;
 pub use reading::records_of;
 pub use zone::{Flaw, Unread, zone_of};
