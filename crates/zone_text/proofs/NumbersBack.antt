@@ -17,7 +17,7 @@ use Rattle.zone_text.specs.Numbers.{head_of, hex_word, named, numbers_text, octe
 use Rattle.zone_text.specs.Saying.{class_says, data_says, line_says, owner_says, record_says, says_from, ttl_says, type_says, with_record}
 use Rattle.zone_text.specs.Words.{behind_last}
 use Rattle.zone_text.proofs.Above.{above_append, above_lacks, above_more, decimal_above, is_above, numbered_above}
-use Rattle.zone_text.proofs.Digits.{digits_back, no_class, no_type}
+use Rattle.zone_text.proofs.OnlyDigits.{digits_back, no_class, no_type}
 use Rattle.zone_text.proofs.Lacking.{Lacks, lacks_append, lacks_more, not_octet}
 use Rattle.zone_text.proofs.ReadBack.{cut_first, five_words, none_last, ttl_back, ttl_wide}
 use Rattle.zone_text.proofs.Said.{first_cut, said_first}

@@ -72,7 +72,7 @@ fn known_text(alloc: Global, known: &Record<'_>) -> Result<String, NoMemory>
 }
 
 /// The data as a message prints it.
-#[tactic(auto, using(crate::proofs::Shown::record_is_said, crate::proofs::Shown::octets_are_said))]
+#[tactic(auto, using(crate::proofs::Printing::record_is_said, crate::proofs::Printing::octets_are_said))]
 fn message_text(alloc: Global, item: &ZoneRecord) -> Result<String, NoMemory>
     requires { length item.now.rdata < 65536 }
     ensures { IfOk result (λ s. IfSome (read_text item.now.rdata (first_of (answer_items (message_of item.now)))) (λ text. string_bytes s ≡ text)) }
@@ -85,7 +85,7 @@ fn message_text(alloc: Global, item: &ZoneRecord) -> Result<String, NoMemory>
 }
 
 /// The data in presentation form.
-#[tactic(auto, using(crate::proofs::Shown::rare_is_said, crate::proofs::Shown::long_is_said, crate::proofs::Shown::message_is_said))]
+#[tactic(auto, using(crate::proofs::Printing::rare_is_said, crate::proofs::Printing::long_is_said, crate::proofs::Printing::message_is_said))]
 fn data_text(alloc: Global, item: &ZoneRecord) -> Result<String, NoMemory>
     ensures { IfOk result (λ s. IfSome (data_text item.now) (λ text. string_bytes s ≡ text)) }
 {
@@ -105,7 +105,7 @@ fn has_feed(text: &[u8]) -> bool
 }
 
 /// The data as it stands on a line.
-#[tactic(auto, using(crate::proofs::Lacking::generic_is_line, crate::proofs::Shown::feed_is_generic, crate::proofs::Shown::line_is_said))]
+#[tactic(auto, using(crate::proofs::Lacking::generic_is_line, crate::proofs::Printing::feed_is_generic, crate::proofs::Printing::line_is_said))]
 pub(crate) fn shown_data(alloc: Global, item: &ZoneRecord) -> Result<String, NoMemory>
     ensures shown { IfOk result (λ s. IfSome (data_text item.now) (λ text. string_bytes s ≡ in_line item.now.rdata text)) }
     ensures no_feed { IfOk result (λ s. has_feed (string_bytes s) ≡ false) }
