@@ -1,5 +1,5 @@
 -- A zone in the form that name servers load: a record a line (RFC 1035 5.1), and behind each the data in a comment.
-use Rattle.std.specs.Prelude.{◌≡◌, ℕ, ◌==◌, ◌&&◌, ◌||◌, codes, nat_le, nat_lt, Bool, false, if◌then◌else◌, List, [], ◌∷◌, ◌++◌, length, decimal, Option, None, Some, IfSome, Result, Ok, Err}
+use Rattle.std.specs.Prelude.{◌≡◌, ℕ, ◌==◌, ◌&&◌, ◌||◌, codes, nat_le, nat_lt, Bool, false, if◌then◌else◌, List, [], ◌∷◌, ◌++◌, length, take, decimal, Option, None, Some, IfSome, Result, Ok, Err}
 use Rattle.std.specs.List.{list_any}
 use Rattle.std.specs.Int.{w16, w32, to_be_bytes}
 use Rattle.dns_values.specs.NumberNames.{class_text, type_text}
@@ -96,3 +96,13 @@ pub record Writes (records : List ZoneRecord) (before after : Option (List ℕ))
   pub text : List ℕ
   pub is_text : IsText records text
   pub after_is : after ≡ with_octets text before
+
+-- Of the text of the first of records the first octets are written behind what was.
+pub record WritesFront (records : List ZoneRecord) (before after : Option (List ℕ)) : Type 0 where
+  pub first : List ZoneRecord
+  pub behind : List ZoneRecord
+  pub records_are : records ≡ first ++ behind
+  pub text : List ℕ
+  pub is_text : IsText first text
+  pub count : ℕ
+  pub after_is : after ≡ with_octets (take count text) before
