@@ -50,7 +50,7 @@ decimal_above n h = digits_above (decimal n) (decimal_digits n h)
 
 -- ---- names
 
-below_octet : (c o : ℕ) → c < o → (c == o) ≡ false
+pub below_octet : (c o : ℕ) → c < o → (c == o) ≡ false
 below_octet c o h = go (c == o) refl
   where
     go : (t : Bool) → (c == o) ≡ t → (c == o) ≡ false

@@ -16,7 +16,7 @@ use Rattle.zone_text.specs.Laws.{IsWritable, NumbersBackLaw}
 use Rattle.zone_text.specs.Numbers.{head_of, hex_word, named, numbers_text, octet_digits, record_line}
 use Rattle.zone_text.specs.Saying.{class_says, data_says, line_says, owner_says, record_says, says_from, ttl_says, type_says, with_record}
 use Rattle.zone_text.specs.Words.{behind_last}
-use Rattle.zone_text.proofs.Above.{above_append, above_lacks, above_more, decimal_above, is_above, numbered_above}
+use Rattle.zone_text.proofs.Above.{above_append, above_lacks, above_more, below_octet, decimal_above, is_above, numbered_above}
 use Rattle.zone_text.proofs.OnlyDigits.{digits_back, no_class, no_type}
 use Rattle.zone_text.proofs.Lacking.{Lacks, lacks_append, lacks_more, not_octet}
 use Rattle.zone_text.proofs.ReadBack.{cut_first, five_words, none_last, ttl_back, ttl_wide}
@@ -90,12 +90,9 @@ type_back n h =
 digit_lacks : (o d : ℕ) → d < 16 → (o < 48) ⊎ (o ≡ 59) → (digit_char d == o) ≡ false
 digit_lacks o d h other = go (nat_lt d 10) refl other
   where
-    differ : (m n : ℕ) → m < n → (m == n) ≡ false
-    differ m n less = grind arith
-
     go : (b : Bool) → nat_lt d 10 ≡ b → (o < 48) ⊎ (o ≡ 59) → (digit_char d == o) ≡ false
     go true e (inl low) = let few : d < 10 = ltb-true d 10 e in let above : o < 48 + d = omega arith in rw e (not_octet (48 + d) o above)
-    go true e (inr is) = let few : d < 10 = ltb-true d 10 e in let below : 48 + d < o = omega arith in rw e (differ (48 + d) o below)
+    go true e (inr is) = let few : d < 10 = ltb-true d 10 e in let below : 48 + d < o = omega arith in rw e (below_octet (48 + d) o below)
     go false e (inl low) = let many : 10 ≤ d = ltb-false d 10 e in let above : o < 87 + d = omega arith in rw e (not_octet (87 + d) o above)
     go false e (inr is) = let many : 10 ≤ d = ltb-false d 10 e in let above : o < 87 + d = omega arith in rw e (not_octet (87 + d) o above)
 

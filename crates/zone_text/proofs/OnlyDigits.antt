@@ -9,6 +9,7 @@ use Rattle.std.proofs.lemmas.Fmt.{decimal_nonempty}
 use Rattle.dns_values.specs.NumberNames.{begins_with, class_names, class_of_text, number_of, number_of_text, type_names, type_of_text}
 use Rattle.dns_presentation.specs.Octets.{hex_value, octets_of_hex}
 use Rattle.zone_text.specs.Numbers.{octet_digits}
+use Rattle.zone_text.proofs.Above.{below_octet}
 use Rattle.zone_text.proofs.Lacking.{decimal_digits, not_octet}
 
 both : (a b : Bool) → (a && b) ≡ true → (a ≡ true) × (b ≡ true)
@@ -48,7 +49,7 @@ other_word (c ∷ word) d rest high low =
 word_other : (c : ℕ) (word : List ℕ) (d : ℕ) (rest : List ℕ) → begins_high (c ∷ word) ≡ true → d ≤ 57 → str_eq_ignore_ascii_case (d ∷ rest) (c ∷ word) ≡ false
 word_other c word d rest high low =
     let above : 57 < to_ascii_lowercase c = ltb-true 57 (to_ascii_lowercase c) high in
-    let differ : (to_ascii_lowercase d == to_ascii_lowercase c) ≡ false = ap (λ (x : ℕ). x == to_ascii_lowercase c) (same_lower d low) ∙ below (omega arith) in
+    let differ : (to_ascii_lowercase d == to_ascii_lowercase c) ≡ false = ap (λ (x : ℕ). x == to_ascii_lowercase c) (same_lower d low) ∙ below_octet d (to_ascii_lowercase c) (omega arith) in
     rw differ refl
   where
     below : d < to_ascii_lowercase c → (d == to_ascii_lowercase c) ≡ false

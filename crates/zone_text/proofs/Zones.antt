@@ -6,6 +6,7 @@ use Rattle.std.specs.Ordering.{is_eq}
 use Rattle.std.specs.declared.cmp.Ordering.{Ordering}
 use Rattle.std.specs.declared.cmp.Ordering.TheVariants.{Less, Equal, Greater}
 use Rattle.std.proofs.lemmas.Bool.{eq-eqb, eqb-true}
+use Rattle.std.proofs.lemmas.List.Sums.{sum_by-cons}
 use Rattle.dns_names.specs.Name.{Labels}
 use Rattle.zone_reading.specs.declared.steps.Update.{Update}
 use Rattle.zone_reading.specs.declared.steps.Update.TheVariants.{AddRecord, Finished}
@@ -106,21 +107,24 @@ added_are (x ∷ items) rs r =
     turned false false c = refl
 
 counted : (x : ZoneRecord) (items : List ZoneRecord) → count_by is_soa (x ∷ items) ≡ cond (is_soa x) 1 0 + count_by is_soa items
-counted x items = refl
+counted x items = sum_by-cons (λ (r : ZoneRecord). cond (is_soa r) 1 0) x items
+
+counts : (x : ZoneRecord) (items : List ZoneRecord) (b : Bool) → is_soa x ≡ b → count_by is_soa (x ∷ items) ≡ cond b 1 0 + count_by is_soa items
+counts x items b e = counted x items ∙ ap (λ (t : Bool). cond t 1 0 + count_by is_soa items) e
 
 no_soa : (items : List ZoneRecord) (r : ZoneRecord) → count_by is_soa items ≡ 0 → is_soa r ≡ true → has items r ≡ false
 no_soa [] r none soa = refl
-no_soa (x ∷ items) r none soa = go (is_soa x) refl
+no_soa (x ∷ items) r none soa = go (is_soa x) refl (λ fewer. no_soa items r fewer soa)
   where
-    go : (b : Bool) → is_soa x ≡ b → has (x ∷ items) r ≡ false
-    go true e =
-        let one : count_by is_soa (x ∷ items) ≡ 1 + count_by is_soa items = ap (λ (b : Bool). cond b 1 0 + count_by is_soa items) e in
+    go : (b : Bool) → is_soa x ≡ b → (count_by is_soa items ≡ 0 → has items r ≡ false) → has (x ∷ items) r ≡ false
+    go true e more =
+        let one : count_by is_soa (x ∷ items) ≡ 1 + count_by is_soa items = counts x items true e in
         absurd (omega (arith, one, none))
-    go false e =
-        let rest : count_by is_soa (x ∷ items) ≡ 0 + count_by is_soa items = ap (λ (b : Bool). cond b 1 0 + count_by is_soa items) e in
+    go false e more =
+        let rest : count_by is_soa (x ∷ items) ≡ 0 + count_by is_soa items = counts x items false e in
         let fewer : count_by is_soa items ≡ 0 = omega (arith, rest, none) in
         let differ : is_same r x ≡ false = other_kind r x true false soa e (λ same. absurd cc) in
-        ap (λ (b : Bool). b || has items r) differ ∙ no_soa items r fewer soa
+        ap (λ (b : Bool). b || has items r) differ ∙ more fewer
 
 or_false : (b : Bool) → (b || false) ≡ b
 or_false true = refl
@@ -129,36 +133,36 @@ or_false false = refl
 -- the only SOA is the one that is found
 soa_here : (items : List ZoneRecord) (soa r : ZoneRecord) → count_by is_soa items ≡ 1 → find is_soa items ≡ Some soa → is_soa r ≡ true → has items r ≡ is_same soa r
 soa_here [] soa r one found is = absurd cc
-soa_here (x ∷ items) soa r one found is = go (is_soa x) refl
+soa_here (x ∷ items) soa r one found is = go (is_soa x) refl (λ rest there. soa_here items soa r rest there is)
   where
-    go : (b : Bool) → is_soa x ≡ b → has (x ∷ items) r ≡ is_same soa r
-    go true e =
-        let counts : count_by is_soa (x ∷ items) ≡ 1 + count_by is_soa items = ap (λ (b : Bool). cond b 1 0 + count_by is_soa items) e in
-        let none : count_by is_soa items ≡ 0 = omega (arith, counts, one) in
+    go : (b : Bool) → is_soa x ≡ b → (count_by is_soa items ≡ 1 → find is_soa items ≡ Some soa → has items r ≡ is_same soa r) → has (x ∷ items) r ≡ is_same soa r
+    go true e more =
+        let first : count_by is_soa (x ∷ items) ≡ 1 + count_by is_soa items = counts x items true e in
+        let none : count_by is_soa items ≡ 0 = omega (arith, first, one) in
         let here : find is_soa (x ∷ items) ≡ Some x = ap (λ (b : Bool). cond b (Some x) (find is_soa items)) e in
         let both : ◌≡◌ {A = Option ZoneRecord} (Some x) (Some soa) = sym here ∙ found in
         let same : x ≡ soa = cc in
         ap (λ (b : Bool). is_same r x || b) (no_soa items r none is) ∙ (or_false (is_same r x) ∙ (sym (same_both_ways x r) ∙ ap (λ (y : ZoneRecord). is_same y r) same))
-    go false e =
-        let counts : count_by is_soa (x ∷ items) ≡ 0 + count_by is_soa items = ap (λ (b : Bool). cond b 1 0 + count_by is_soa items) e in
-        let rest : count_by is_soa items ≡ 1 = omega (arith, counts, one) in
+    go false e more =
+        let first : count_by is_soa (x ∷ items) ≡ 0 + count_by is_soa items = counts x items false e in
+        let rest : count_by is_soa items ≡ 1 = omega (arith, first, one) in
         let there : find is_soa (x ∷ items) ≡ find is_soa items = ap (λ (b : Bool). cond b (Some x) (find is_soa items)) e in
         let differ : is_same r x ≡ false = other_kind r x true false is e (λ same. absurd cc) in
-        ap (λ (b : Bool). b || has items r) differ ∙ soa_here items soa r rest (sym there ∙ found) is
+        ap (λ (b : Bool). b || has items r) differ ∙ more rest (sym there ∙ found)
 
 found_is : (items : List ZoneRecord) (soa : ZoneRecord) → find is_soa items ≡ Some soa → is_soa soa ≡ true
 found_is [] soa found = absurd cc
-found_is (x ∷ items) soa found = go (is_soa x) refl
+found_is (x ∷ items) soa found = go (is_soa x) refl (λ there. found_is items soa there)
   where
-    go : (b : Bool) → is_soa x ≡ b → is_soa soa ≡ true
-    go true e =
+    go : (b : Bool) → is_soa x ≡ b → (find is_soa items ≡ Some soa → is_soa soa ≡ true) → is_soa soa ≡ true
+    go true e more =
         let here : find is_soa (x ∷ items) ≡ Some x = ap (λ (b : Bool). cond b (Some x) (find is_soa items)) e in
         let both : ◌≡◌ {A = Option ZoneRecord} (Some x) (Some soa) = sym here ∙ found in
         let same : x ≡ soa = cc in
         ap is_soa (sym same) ∙ e
-    go false e =
+    go false e more =
         let there : find is_soa (x ∷ items) ≡ find is_soa items = ap (λ (b : Bool). cond b (Some x) (find is_soa items)) e in
-        found_is items soa (sym there ∙ found)
+        more (sym there ∙ found)
 
 -- all records without other SOAs than the one are all records
 soa_stays : (items : List ZoneRecord) (soa r : ZoneRecord) → count_by is_soa items ≡ 1 → find is_soa items ≡ Some soa → (is_same soa r || (not (is_soa r) && (has items r || false))) ≡ has items r
@@ -209,7 +213,7 @@ is_zone apex records soa serial count updates old new found is_serial are empty 
     same = some_same applies.serial serial (sym applies.leads ∙ (ap (λ (z : Zone). checked z.serial updates) empty ∙ leads))
 
     some : IsSome (Some applies.serial)
-    some = tt
+    some = refl
 
 pub zone_is_in : (text : List ℕ) (apex : Labels) (records : List ZoneRecord) (zone : Zone) → text_says text ≡ Ok records → IsZoneOf apex records zone → IsZoneIn text apex zone
 zone_is_in text apex records zone says is = record { records = records; says = says; is_zone = is }
