@@ -51,12 +51,6 @@ word_other c word d rest high low =
     let above : 57 < to_ascii_lowercase c = ltb-true 57 (to_ascii_lowercase c) high in
     let differ : (to_ascii_lowercase d == to_ascii_lowercase c) ≡ false = ap (λ (x : ℕ). x == to_ascii_lowercase c) (same_lower d low) ∙ below_octet d (to_ascii_lowercase c) (omega arith) in
     rw differ refl
-  where
-    below : d < to_ascii_lowercase c → (d == to_ascii_lowercase c) ≡ false
-    below h = not_same d (to_ascii_lowercase c) h
-
-    not_same : (m n : ℕ) → m < n → (m == n) ≡ false
-    not_same m n h = grind arith
 
 abbrev begin_high : List (ℕ × List ℕ) → Bool
 begin_high names = list_all (λ (entry : ℕ × List ℕ). begins_high entry.1) names
