@@ -25,7 +25,7 @@ pub above_append : (a b : List ℕ) → is_above a ≡ true → is_above b ≡ t
 above_append [] b f g = g
 above_append (c ∷ a) b f g = let parts = both (nat_lt 32 c) (is_above a) f in rw (parts.0, above_append a b parts.1 g) refl
 
-above_more : (c : ℕ) (text : List ℕ) → 32 < c → is_above text ≡ true → is_above (c ∷ text) ≡ true
+pub above_more : (c : ℕ) (text : List ℕ) → 32 < c → is_above text ≡ true → is_above (c ∷ text) ≡ true
 above_more c text h f = rw (lt-ltb 32 c h, f) refl
 
 pub above_lacks : (o : ℕ) (text : List ℕ) → o ≤ 32 → is_above text ≡ true → Lacks o text
@@ -50,7 +50,7 @@ decimal_above n h = digits_above (decimal n) (decimal_digits n h)
 
 -- ---- names
 
-below_octet : (c o : ℕ) → c < o → (c == o) ≡ false
+pub below_octet : (c o : ℕ) → c < o → (c == o) ≡ false
 below_octet c o h = go (c == o) refl
   where
     go : (t : Bool) → (c == o) ≡ t → (c == o) ≡ false
@@ -74,7 +74,7 @@ plain_above n e = go (nat_lt 32 n) refl
         let no : is_plain n ≡ false = rw (lt-leb 97 n a, lt-leb 65 n b, lt-leb 48 n c, below_octet n 45 p, below_octet n 95 q, below_octet n 42 r, below_octet n 47 s) refl in
         absurd cc
 
-numbered_above : (n : ℕ) → n < 256 → is_above (numbered_octet n) ≡ true
+pub numbered_above : (n : ℕ) → n < 256 → is_above (numbered_octet n) ≡ true
 numbered_above n h =
     let a : n / 100 < 2 ^ 64 = omega arith in
     let b : n / 10 % 10 < 2 ^ 64 = omega arith in

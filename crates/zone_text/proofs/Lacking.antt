@@ -1,8 +1,9 @@
 -- Data on one line.
-use Rattle.std.proofs.Common.{◌≡◌, ◌<◌, ◌≤◌, ◌^◌, ℕ, ◌+◌, ◌/◌, ◌%◌, List, [], ◌∷◌, ◌++◌, length, length-append, Bool, true, false, refl, ap, sym, ◌∙◌, arith, decimal}
+use Rattle.std.proofs.Common.{◌≡◌, ◌<◌, ◌≤◌, ◌^◌, ℕ, zero, suc, ◌+◌, ◌/◌, ◌%◌, List, [], ◌∷◌, ◌++◌, length, length-append, Bool, true, false, refl, ap, sym, ◌∙◌, arith, decimal}
 use Rattle.std.specs.Prelude.{◌==◌, ◌||◌, ◌&&◌, nat_lt, nat_le}
 use Rattle.std.specs.List.{list_any}
 use Rattle.std.specs.Char.{is_ascii_digit}
+use Rattle.std.specs.Fmt.{digit_glyph, digits, digits_onto}
 use Rattle.std.specs.Str.{all_ascii_digits}
 use Rattle.std.proofs.lemmas.Bool.{eqb-true, leb-true}
 use Rattle.std.proofs.lemmas.Fmt.{digits_decimal}
@@ -81,15 +82,32 @@ own = numerals_by_value _ tells_all_ascii_digits
 pub decimal_digits : (n : ℕ) → n < 2 ^ 64 → all_ascii_digits (decimal n) ≡ true
 decimal_digits n h = digits_decimal own n h
 
-pub decimal_lacks : (o n : ℕ) → o < 48 → n < 2 ^ 64 → Lacks o (decimal n)
-decimal_lacks o n low h = digits_lack o (decimal n) low (decimal_digits n h)
+glyph_above : (o d : ℕ) → o < 48 → o < digit_glyph false d
+glyph_above o d low = go (nat_lt d 10) refl
+  where
+    go : (t : Bool) → nat_lt d 10 ≡ t → o < digit_glyph false d
+    go true e = rw e (let more : o < 48 + d = omega arith in more)
+    go false e = rw e (let more : o < 87 + d = omega arith in more)
+
+-- so many digits at most, whatever the number
+onto_lacks : (o k n : ℕ) (acc : List ℕ) → o < 48 → Lacks o acc → Lacks o (digits_onto k 10 false n acc)
+onto_lacks o zero n acc low f = f
+onto_lacks o (suc k) n acc low f = go (n / 10 == 0) refl (onto_lacks o k (n / 10) (digit_glyph false (n % 10) ∷ acc) low (lacks_more o (digit_glyph false (n % 10)) acc (glyph_above o (n % 10) low) f))
+  where
+    go : (t : Bool) → (n / 10 == 0) ≡ t → Lacks o (digits_onto k 10 false (n / 10) (digit_glyph false (n % 10) ∷ acc)) → Lacks o (digits_onto (suc k) 10 false n acc)
+    go true e more = rw e (lacks_more o (digit_glyph false (n % 10)) acc (glyph_above o (n % 10) low) f)
+    go false e more = rw e more
+
+pub decimal_lacks : (o n : ℕ) → o < 48 → Lacks o (decimal n)
+unfolding digits
+decimal_lacks o n low = onto_lacks o 64 n [] low refl
 
 behind_no_feed : (octets : List ℕ) → Lacks 10 (digits_behind octets)
 behind_no_feed [] = refl
 behind_no_feed (n ∷ octets) = hex_no_feed (n ∷ octets)
 
-pub generic_no_feed : (octets : List ℕ) → length octets < 2 ^ 64 → has_feed (generic_text octets) ≡ false
-generic_no_feed octets h = lacks_append 10 (decimal (length octets)) (digits_behind octets) (decimal_lacks 10 (length octets) (omega arith) h) (behind_no_feed octets)
+generic_no_feed : (octets : List ℕ) → has_feed (generic_text octets) ≡ false
+generic_no_feed octets = lacks_append 10 (decimal (length octets)) (digits_behind octets) (decimal_lacks 10 (length octets) (omega arith)) (behind_no_feed octets)
 
-pub generic_is_line : (octets shown : List ℕ) → shown ≡ generic_text octets → length octets < 2 ^ 64 → has_feed shown ≡ false
-generic_is_line octets shown is h = ap has_feed is ∙ generic_no_feed octets h
+pub generic_is_line : (octets shown : List ℕ) → shown ≡ generic_text octets → has_feed shown ≡ false
+generic_is_line octets shown is = ap has_feed is ∙ generic_no_feed octets

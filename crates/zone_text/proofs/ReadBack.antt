@@ -35,11 +35,11 @@ other_first o c text f = go (c == o) refl
     go true e = let bad : list_any (λ x. x == o) (c ∷ text) ≡ true = rw e refl in absurd cc
     go false e = let same : list_any (λ x. x == o) (c ∷ text) ≡ list_any (λ x. x == o) text = rw e refl in (e, sym same ∙ f)
 
-cut_first : (o : ℕ) (a b : List ℕ) → Lacks o a → cut_at o (a ++ o ∷ b) ≡ Some (a, b)
+pub cut_first : (o : ℕ) (a b : List ℕ) → Lacks o a → cut_at o (a ++ o ∷ b) ≡ Some (a, b)
 cut_first o [] b f = rw (eq-eqb o o refl) refl
 cut_first o (c ∷ a) b f = let other = other_first o c a f in rw (other.0, cut_first o a b other.1) refl
 
-none_last : (o : ℕ) (text : List ℕ) → Lacks o text → behind_last o text ≡ None
+pub none_last : (o : ℕ) (text : List ℕ) → Lacks o text → behind_last o text ≡ None
 none_last o [] f = refl
 none_last o (c ∷ text) f = let other = other_first o c text f in rw (other.0, none_last o text other.1) refl
 
@@ -49,7 +49,7 @@ last_behind o (c ∷ a) b f = rw (last_behind o a b f) refl
 
 -- ---- a line
 
-five_words : (o t c r rest : List ℕ) → Lacks 32 o → Lacks 32 t → Lacks 32 c → Lacks 32 r → line_says (o ++ 32 ∷ (t ++ 32 ∷ (c ++ 32 ∷ (r ++ 32 ∷ rest)))) ≡ record_says o t c r rest
+pub five_words : (o t c r rest : List ℕ) → Lacks 32 o → Lacks 32 t → Lacks 32 c → Lacks 32 r → line_says (o ++ 32 ∷ (t ++ 32 ∷ (c ++ 32 ∷ (r ++ 32 ∷ rest)))) ≡ record_says o t c r rest
 five_words o t c r rest fo ft fc fr =
     rw (cut_first 32 o (t ++ 32 ∷ (c ++ 32 ∷ (r ++ 32 ∷ rest))) fo, cut_first 32 t (c ++ 32 ∷ (r ++ 32 ∷ rest)) ft, cut_first 32 c (r ++ 32 ∷ rest) fc, cut_first 32 r rest fr) refl
 
@@ -65,7 +65,7 @@ owner_back item w =
     let spelled : map to_ascii_lowercase (spelling w.owner) ≡ item.owner = ap (map to_ascii_lowercase) (sym w.owner_is) ∙ w.lower in
     rw (name_read w.owner w.legal w.octets) (ap Ok spelled)
 
-ttl_back : (n : ℕ) → n < 2 ^ 32 → ttl_says (decimal n) ≡ Ok n
+pub ttl_back : (n : ℕ) → n < 2 ^ 32 → ttl_says (decimal n) ≡ Ok n
 ttl_back n h =
     let wide : n < 2 ^ 64 = omega arith in
     let fits : n ≤ 4294967295 = omega arith in
@@ -103,7 +103,7 @@ record_back : (item : ZoneRecord) (w : IsWritable item) (shown : List ℕ)
     → record_says (absolute_text w.owner) (decimal item.ttl.0) (class_text item.class.0) (type_word item.rtype.0) (shown ++ 32 ∷ 59 ∷ 32 ∷ hex_text item.rdata) ≡ Ok item
 record_back item w shown = rw (owner_back item w, ttl_back item.ttl.0 w.ttl, class_back item.class.0 w.class, type_back item.rtype.0 w.rtype, data_back shown item.rdata w.content) refl
 
-ttl_wide : (n : ℕ) → n < 2 ^ 32 → n < 2 ^ 64
+pub ttl_wide : (n : ℕ) → n < 2 ^ 32 → n < 2 ^ 64
 ttl_wide n h = omega arith
 
 line_back : (item : ZoneRecord) (w : IsWritable item) (shown : List ℕ) → line_says (line_text shown item) ≡ Ok item

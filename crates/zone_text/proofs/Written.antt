@@ -1,12 +1,13 @@
 -- The text of a zone, as it is written.
-use Rattle.std.proofs.Common.{◌≡◌, ◌≢◌, ◌≤◌, ◌<◌, ℕ, ◌+◌, List, [], ◌∷◌, ◌++◌, false, refl, ap, sym, subst, ◌∙◌, arith, append_assoc, get_or, length, take, Option, None, Some}
+use Rattle.std.proofs.Common.{◌≡◌, ◌≢◌, ◌≤◌, ◌<◌, ℕ, ◌+◌, List, [], ◌∷◌, ◌++◌, false, refl, ap, sym, subst, ◌∙◌, arith, append_assoc, drop, get_or, length, take, Option, None, Some}
 use Rattle.std.specs.Prelude.{IfSome}
-use Rattle.std.proofs.lemmas.List.{take_more}
+use Rattle.std.proofs.Math.Seq.{take-append_seam}
+use Rattle.std.proofs.lemmas.List.{take-append-drop, take_more}
 use Rattle.dns_values.specs.Sink.{with_octets}
 use Rattle.dns_values.specs.Source.{Rose, last_count}
 use Rattle.dns_presentation.specs.Octets.{hex_text}
 use Rattle.zone_records.specs.declared.record.ZoneRecord.{ZoneRecord}
-use Rattle.zone_text.specs.Lines.{IsLine, IsText, PutsLine, Writes, data_text, front_text, has_feed, in_line, line_more, line_text, no_line}
+use Rattle.zone_text.specs.Lines.{IsLine, IsText, PutsLine, Writes, WritesFront, data_text, front_text, has_feed, in_line, line_more, line_text, no_line}
 
 put_together : (before front shown sep hex end : List ℕ) → ((((before ++ front) ++ shown) ++ sep) ++ hex) ++ end ≡ (before ++ ((front ++ shown) ++ (sep ++ hex))) ++ end
 put_together before front shown sep hex end =
@@ -84,6 +85,39 @@ pub all_written : (all left : List ZoneRecord) (before now : Option (List ℕ)) 
 all_written all left before now none so_far =
     let whole : so_far.done ≡ all = sym (records_nil so_far.done) ∙ (ap (λ (xs : List ZoneRecord). so_far.done ++ xs) (sym none) ∙ so_far.all_are) in
     subst (λ (xs : List ZoneRecord). Writes xs before now) whole so_far.writes
+
+-- ---- the first octets
+
+take_front : (front behind whole : List ℕ) → front ++ behind ≡ whole → take (length front) whole ≡ front
+take_front front behind whole is = ap (take (length front)) (sym is) ∙ take-append_seam front behind
+
+pub front_so_far : (all left : List ZoneRecord) (before now after : Option (List ℕ)) → after ≡ now → SoFar all left before now → WritesFront all before after
+front_so_far all left before now after same so_far = record {
+  first = so_far.done;
+  behind = left;
+  records_are = sym so_far.all_are;
+  text = so_far.writes.text;
+  is_text = so_far.writes.is_text;
+  count = length so_far.writes.text;
+  after_is = same ∙ (so_far.writes.after_is ∙ ap (λ (xs : List ℕ). with_octets xs before) (sym (take_front so_far.writes.text [] so_far.writes.text (nil_right so_far.writes.text))));
+}
+
+pub front_in_piece : (all left rest piece : List ZoneRecord) (before now after : Option (List ℕ)) (text : List ℕ) → left ≡ piece ++ rest → IsText piece text → ((n : ℕ) × (after ≡ with_octets (take n text) now)) → SoFar all left before now
+    → WritesFront all before after
+front_in_piece all left rest piece before now after text parts is_text front so_far =
+    let done = so_far.writes.text in
+    let first = take front.0 text in
+    let cut : (done ++ first) ++ drop front.0 text ≡ done ++ text = append_assoc done first (drop front.0 text) ∙ ap (λ (xs : List ℕ). done ++ xs) (take-append-drop front.0 text) in
+    record {
+      first = so_far.done ++ piece;
+      behind = rest;
+      records_are = sym (append_assoc so_far.done piece rest ∙ (ap (λ (xs : List ZoneRecord). so_far.done ++ xs) (sym parts) ∙ so_far.all_are));
+      text = done ++ text;
+      is_text = texts_joined so_far.done piece done text so_far.writes.is_text is_text;
+      count = length (done ++ first);
+      after_is =
+          front.1 ∙ (ap (with_octets first) so_far.writes.after_is ∙ (then_more done first before ∙ ap (λ (xs : List ℕ). with_octets xs before) (sym (take_front (done ++ first) (drop front.0 text) (done ++ text) cut))));
+    }
 
 pub rose_later : (a b c : ℕ) → a ≤ b → Rose b c → Rose a c
 rose_later a b c h r = (let x : b ≤ c = r.0 in omega arith, λ e. above e)

@@ -5,6 +5,7 @@ use Rattle.std.specs.List.{AllByRecursion}
 use Rattle.dns_names.specs.Name.{AreOctets, IsLegal, Labels, spelling}
 use Rattle.zone_records.specs.declared.record.ZoneRecord.{ZoneRecord}
 use Rattle.zone_text.specs.Lines.{IsText}
+use Rattle.zone_text.specs.Numbers.{numbers_text}
 use Rattle.zone_text.specs.Saying.{text_says}
 
 -- A record whose owner is a name in lower case, as each is that comes of a message, and whose numbers and octets are such.
@@ -21,3 +22,6 @@ pub record IsWritable (item : ZoneRecord) : Type 0 where
 
 abbrev pub ReadBackLaw : Type 0
 ReadBackLaw = (records : List ZoneRecord) (text : List ℕ) → AllByRecursion IsWritable records → IsText records text → text_says text ≡ Ok records
+
+abbrev pub NumbersBackLaw : Type 0
+NumbersBackLaw = (records : List ZoneRecord) → AllByRecursion IsWritable records → text_says (numbers_text records) ≡ Ok records

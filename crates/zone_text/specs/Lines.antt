@@ -1,5 +1,5 @@
 -- A zone in the form that name servers load: a record a line (RFC 1035 5.1), and behind each the data in a comment.
-use Rattle.std.specs.Prelude.{◌≡◌, ℕ, ◌==◌, ◌&&◌, ◌||◌, codes, nat_le, nat_lt, Bool, false, if◌then◌else◌, List, [], ◌∷◌, ◌++◌, length, decimal, Option, None, Some, IfSome, Result, Ok, Err}
+use Rattle.std.specs.Prelude.{◌≡◌, ℕ, ◌==◌, ◌&&◌, ◌||◌, codes, nat_le, nat_lt, Bool, false, if◌then◌else◌, List, [], ◌∷◌, ◌++◌, length, take, decimal, Option, None, Some, IfSome, Result, Ok, Err}
 use Rattle.std.specs.List.{list_any}
 use Rattle.std.specs.Int.{w16, w32, to_be_bytes}
 use Rattle.dns_values.specs.NumberNames.{class_text, type_text}
@@ -20,13 +20,13 @@ abbrev pub header : List ℕ
 header = 0 ∷ 0 ∷ 0 ∷ 0 ∷ 0 ∷ 0 ∷ 0 ∷ 1 ∷ 0 ∷ 0 ∷ 0 ∷ 0 ∷ []
 
 -- the message that has a record alone
-abbrev pub message_of : ZoneRecord → List ℕ
+unfoldable pub message_of : ZoneRecord → List ℕ
 message_of item =
     header ++ item.owner ++ to_be_bytes w16 item.rtype.0 ++ to_be_bytes w16 item.class.0 ++ to_be_bytes w32 item.ttl.0
     ++ to_be_bytes w16 (length item.rdata) ++ item.rdata
 
 -- the first record of a section
-abbrev pub first_of : Option (List (Result Known ParseError)) → Option Known
+unfoldable pub first_of : Option (List (Result Known ParseError)) → Option Known
 first_of None = None
 first_of (Some []) = None
 first_of (Some (Err _ ∷ items)) = None
@@ -34,7 +34,7 @@ first_of (Some (Ok known ∷ items)) = Some known
 
 -- The data in presentation form, as a message prints it; and what no message can hold is generic (RFC 3597 5). Of a type that has a
 -- form of which nothing is said there, nothing is said here.
-abbrev pub read_text : List ℕ → Option Known → Option (List ℕ)
+unfoldable pub read_text : List ℕ → Option Known → Option (List ℕ)
 read_text rdata None = Some (generic_text rdata)
 read_text rdata (Some known) = known_text known
 
@@ -46,7 +46,7 @@ is_rare rtype = rtype == 3 || rtype == 4 || (nat_le 7 rtype && nat_le rtype 11) 
 abbrev pub type_word : ℕ → List ℕ
 type_word rtype = if is_rare rtype then codes "TYPE" ++ decimal rtype else type_text rtype
 
-abbrev pub data_text : ZoneRecord → Option (List ℕ)
+unfoldable pub data_text : ZoneRecord → Option (List ℕ)
 data_text item =
     if is_rare item.rtype.0 then Some (generic_text item.rdata)
     else if nat_lt (length item.rdata) 65536 then read_text item.rdata (first_of (answer_items (message_of item))) else Some (generic_text item.rdata)
@@ -96,3 +96,13 @@ pub record Writes (records : List ZoneRecord) (before after : Option (List ℕ))
   pub text : List ℕ
   pub is_text : IsText records text
   pub after_is : after ≡ with_octets text before
+
+-- Of the text of the first of records the first octets are written behind what was.
+pub record WritesFront (records : List ZoneRecord) (before after : Option (List ℕ)) : Type 0 where
+  pub first : List ZoneRecord
+  pub behind : List ZoneRecord
+  pub records_are : records ≡ first ++ behind
+  pub text : List ℕ
+  pub is_text : IsText first text
+  pub count : ℕ
+  pub after_is : after ≡ with_octets (take count text) before

@@ -1,6 +1,6 @@
 //! Octets as hexadecimal digits.
 
-ghost use Rattle.std.specs.Prelude.{◌≡◌, ◌++◌, ◌<◌, None, Some, IfOk, IfSome, MatchOption, OnOk};
+ghost use Rattle.std.specs.Prelude.{◌≡◌, ◌++◌, ◌∷◌, ◌<◌, length, None, Some, IfOk, IfSome, MatchOption, OnOk};
 ghost use Rattle.dns_presentation.specs.Octets.{hex_digit, hex_text, hex_value, octets_of_hex};
 ghost use Rattle.zone_text.specs.Saying.{TellsOctets, octet_says};
 
@@ -50,6 +50,16 @@ fn octet_of(high: u8, low: u8) -> Option<u8>
     Some(16 * hex_value(high)? + hex_value(low)?)
 }
 
+/// The first two octets, and what stands behind them.
+fn first_two(text: &[u8]) -> Option<(u8, u8, &[u8])>
+    ensures { MatchOption result (length text.now < 2) (λ x. text.now ≡ x.0 ∷ x.1 ∷ x.2.now) }
+{
+    match text {
+        [first, second, behind @ ..] => Some((*first, *second, behind)),
+        _ => None,
+    }
+}
+
 /// The octets that digits write, two for each.
 #[tactic(auto, using(crate::proofs::Spelled::nothing_before, crate::proofs::Spelled::two_digits, crate::proofs::Spelled::not_two, crate::proofs::Spelled::whole_read, crate::proofs::Spelled::one_digit))]
 pub(crate) fn octets_of(alloc: Global, digits: &[u8]) -> Result<Option<Vec<u8>>, NoMemory>
@@ -57,8 +67,8 @@ pub(crate) fn octets_of(alloc: Global, digits: &[u8]) -> Result<Option<Vec<u8>>,
 {
     let mut octets = Vec::with_capacity(alloc, digits.len() / 2)?;
     let mut rest = digits;
-    while let [high, low, behind @ ..] = rest {
-        let Some(octet) = octet_of(*high, *low) else {
+    while let Some((high, low, behind)) = first_two(rest) {
+        let Some(octet) = octet_of(high, low) else {
             return Ok(None);
         };
         octets.push(octet)?;

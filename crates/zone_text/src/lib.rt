@@ -6,7 +6,7 @@
 //!
 //! ```text
 //! write_text(alloc, &mut sink, zone.records())?;
-//! let records = records_of(alloc, text)?;
+//! let zone = zone_of(alloc, octets, apex)?;
 //! ```
 #![tactic(auto)]
 
@@ -17,8 +17,11 @@ mod laws;
 mod lines;
 mod reading;
 mod shown;
+mod telling;
+mod zone;
 
 pub use fault::{Part, TextFault, WrongLine};
-pub use laws::read_back_law;
+pub use laws::{numbers_back_law, read_back_law};
 pub use lines::write_text;
 pub use reading::records_of;
+pub use zone::{Flaw, Unread, zone_of};

@@ -5,7 +5,7 @@ ghost use Rattle.std.specs.String.{string_bytes};
 ghost use Rattle.dns_values.specs.Source.{Rose};
 ghost use Rattle.dns_values.specs.Sink.{IsFlushed};
 ghost use Rattle.dns_values.specs.declared.sink.SinkFault.{SinkFault};
-ghost use Rattle.zone_text.specs.Lines.{IsText, PutsLine, Writes, front_text, type_word};
+ghost use Rattle.zone_text.specs.Lines.{IsText, PutsLine, Writes, WritesFront, front_text, type_word};
 
 use crate::digits::push_digits;
 use crate::shown::{is_rare, shown_data};
@@ -70,13 +70,16 @@ fn text_of(alloc: Global, records: &[ZoneRecord]) -> Result<Vec<u8>, NoMemory>
 }
 
 /// Writes the lines of records, so many at once, and hands them on.
-#[tactic(auto, using(crate::proofs::Written::none_yet, crate::proofs::Written::piece_more, crate::proofs::Written::all_written, crate::proofs::Written::rose_later))]
+///
+/// `Failed` only where the sink's count of faults rose. After an error the first octets are written.
+#[tactic(auto, using(crate::proofs::Written::none_yet, crate::proofs::Written::piece_more, crate::proofs::Written::all_written, crate::proofs::Written::front_so_far, crate::proofs::Written::front_in_piece, crate::proofs::Written::rose_later))]
 pub fn write_text<K: Sink>(
     alloc: Global,
     sink: &mut K,
     records: &[ZoneRecord],
 ) -> Result<(), SinkFault>
     ensures whole { OnOk result (Writes records.now (K.held sink.old) (K.held sink.new)) }
+    ensures begun { WritesFront records.now (K.held sink.old) (K.held sink.new) }
     ensures flushed { OnOk result (IsFlushed (K.held sink.new) (K.flushed sink.new)) }
     ensures failed { IfErr result (λ e. e ≡ SinkFault.Failed → Rose (K.faults sink.old) (K.faults sink.new)) }
 {

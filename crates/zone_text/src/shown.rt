@@ -16,7 +16,7 @@ use zone_records::ZoneRecord;
 const HEADER: [u8; 12] = [0, 0, 0, 0, 0, 0, 0, 1, 0, 0, 0, 0];
 
 /// The message that has a record alone.
-#[tactic(auto, using(crate::proofs::Lacking::long_enough))]
+#[tactic(auto, using(crate::proofs::Lacking::long_enough), unfolding(crate::specs::Lines::message_of))]
 fn message_of(alloc: Global, item: &ZoneRecord) -> Result<Message, NoMemory>
     requires { length item.now.rdata < 65536 }
     ensures { IfOk result (λ m. m ≡ message_of item.now) }
@@ -51,6 +51,7 @@ pub(crate) fn is_rare(rtype: Rtype) -> bool
 }
 
 /// The first record of the answer section.
+#[tactic(auto, unfolding(crate::specs::Lines::first_of))]
 fn first_of(message: &Message) -> Option<Record<'_>>
     ensures { result ≡ first_of (answer_items message.now) }
 {
@@ -71,6 +72,7 @@ fn known_text(alloc: Global, known: &Record<'_>) -> Result<String, NoMemory>
 }
 
 /// The data as a message prints it.
+#[tactic(auto, using(crate::proofs::Printing::record_is_said, crate::proofs::Printing::octets_are_said))]
 fn message_text(alloc: Global, item: &ZoneRecord) -> Result<String, NoMemory>
     requires { length item.now.rdata < 65536 }
     ensures { IfOk result (λ s. IfSome (read_text item.now.rdata (first_of (answer_items (message_of item.now)))) (λ text. string_bytes s ≡ text)) }
@@ -83,10 +85,14 @@ fn message_text(alloc: Global, item: &ZoneRecord) -> Result<String, NoMemory>
 }
 
 /// The data in presentation form.
+#[tactic(auto, using(crate::proofs::Printing::rare_is_said, crate::proofs::Printing::long_is_said, crate::proofs::Printing::message_is_said))]
 fn data_text(alloc: Global, item: &ZoneRecord) -> Result<String, NoMemory>
     ensures { IfOk result (λ s. IfSome (data_text item.now) (λ text. string_bytes s ≡ text)) }
 {
-    if is_rare(item.rtype) || item.rdata.as_slice().len() > 65535 {
+    if is_rare(item.rtype) {
+        return generic_data(alloc, item);
+    }
+    if item.rdata.as_slice().len() > 65535 {
         return generic_data(alloc, item);
     }
     message_text(alloc, item)
@@ -99,7 +105,7 @@ fn has_feed(text: &[u8]) -> bool
 }
 
 /// The data as it stands on a line.
-#[tactic(auto, using(crate::proofs::Lacking::generic_is_line))]
+#[tactic(auto, using(crate::proofs::Lacking::generic_is_line, crate::proofs::Printing::feed_is_generic, crate::proofs::Printing::line_is_said))]
 pub(crate) fn shown_data(alloc: Global, item: &ZoneRecord) -> Result<String, NoMemory>
     ensures shown { IfOk result (λ s. IfSome (data_text item.now) (λ text. string_bytes s ≡ in_line item.now.rdata text)) }
     ensures no_feed { IfOk result (λ s. has_feed (string_bytes s) ≡ false) }
