@@ -111,13 +111,15 @@ def zone_after(before, kind, messages):
         if code != 0 or not message:
             return "again" if kind == IXFR and code in UNWILLING else None
         records = records + message
-        if not all(is_held(r) for r in records) or any(r.serial is not None and r.owner.lower() != ZONE for r in records):
+        if records[0].serial is None or not all(is_held(r) for r in records) or any(r.serial is not None and r.owner.lower() != ZONE for r in records):
             return None
         if kind == IXFR and at == 0 and len(records) == 1 and records[0].serial is not None:
             return records[0].serial
         body = whole_in(records)
         if body is not None:
             return {r.kept() for r in body} | {records[-1].kept()}
+        if (kind == AXFR or records[1:] and records[1].serial is None) and any(r.serial is not None for r in records[1:]):
+            return None
         batches = batches_in(records) if kind == IXFR else None
         if batches is None:
             continue
@@ -244,8 +246,8 @@ class Server:
             stream, _ = self.listener.accept()
             try:
                 self.answer(stream)
-            except OSError:
-                pass
+            except (OSError, struct.error, IndexError):
+                pass  # who asks may be killed before the whole question came
             stream.close()
 
     def answer(self, stream):

@@ -1,5 +1,6 @@
 -- How a zone is brought to what a server has, in one step or two.
-use Rattle.std.proofs.Common.{◌≡◌, ℕ, List, Option, None, Some, Result, Ok, Err, refl, subst}
+use Rattle.std.proofs.Common.{◌≡◌, ℕ, List, Option, None, Some, Result, Ok, Err, refl, ap, subst, ◌∙◌}
+use Rattle.dns_names.specs.Name.{Labels}
 use Rattle.dns_values.specs.declared.numbers.Serial.{Serial}
 use Rattle.zone_records.specs.Folding.{Zone, empty_zone}
 use Rattle.zone_transfer.specs.Turning.{Scene}
@@ -8,6 +9,11 @@ use Rattle.zone_fetch_run.specs.Leading.{Course, course_to}
 use Rattle.zone_fetch_run.specs.declared.command.Command.{Command}
 use Rattle.zone_fetch_run.specs.declared.leading.Detour.{Detour}
 use Rattle.zone_fetch_run.specs.declared.leading.Left.{Left}
+
+-- it was asked for in place of another, whose memory is free
+pub whole_anew : (command : Command) (words : ℕ → ℕ) (have : Option Serial) (zone after : Zone) (apex : Labels) (end : Result (Unit {0}) Left) (old new : Scene) → zone ≡ empty_zone apex → apex ≡ command.apex
+    → IsWhole command words have zone after end old new → IsWhole command words have (empty_zone command.apex) after end old new
+whole_anew command words have zone after apex end old new is same h = subst (λ (z : Zone). IsWhole command words have z after end old new) (is ∙ ap empty_zone same) h
 
 module _ (command : Command) (words : ℕ → ℕ) (zone after : Zone) (old new later later_new : Scene) where
   -- there was none with a serial

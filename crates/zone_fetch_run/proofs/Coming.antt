@@ -9,7 +9,7 @@ use Rattle.zone_transfer.specs.Turning.{Scene}
 use Rattle.zone_transfer.specs.declared.fault.FetchFault.{FetchFault}
 
 some_of : (o : Option ℕ) (n : ℕ) → o ≡ Some n → IsSome o
-some_of o n is = subst IsSome (sym is) tt
+some_of o n is = subst IsSome (sym is) refl
 
 -- a zone that was fetched has a serial
 pub serial_there : (kind : XfrKind) (words : ℕ → ℕ) (most : ℕ) (old new : Zone) (before after : Scene) (r : Result ℕ FetchFault) → IfOk r (λ misfits. IsFetched kind words most old new misfits before after)

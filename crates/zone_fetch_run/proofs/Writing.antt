@@ -1,5 +1,5 @@
 -- What is written of a zone, piece by piece.
-use Rattle.std.proofs.Common.{◌≡◌, ◌≢◌, ℕ, ◌≤◌, ◌<◌, List, [], ◌∷◌, ◌++◌, length, take, drop, Bool, Option, None, Some, refl, ap, sym, ◌∙◌, append_assoc, arith}
+use Rattle.std.proofs.Common.{◌≡◌, ◌≢◌, ℕ, ◌≤◌, ◌<◌, List, [], ◌∷◌, ◌++◌, length, take, drop, Bool, Option, None, Some, refl, ap, sym, subst, ◌∙◌, append_assoc, arith}
 use Rattle.std.proofs.Math.Seq.{take-append_seam}
 use Rattle.std.proofs.lemmas.List.{take-append-drop}
 use Rattle.std.proofs.lemmas.List.Concat.{flat_map-append}
@@ -56,16 +56,18 @@ pub begun_so_far : (is_loaded : Bool) (left all : List ZoneRecord) (start held :
 begun_so_far is_loaded left all start held h = begun_by h.done (zone_text is_loaded left) (zone_text is_loaded all) start held h.held_is h.whole
 
 -- and the first octets of the next piece
-pub begun_in_piece : (is_loaded : Bool) (left piece rest all : List ZoneRecord) (start before after : Option (List ℕ)) → left ≡ piece ++ rest
-    → ((n : ℕ) × (after ≡ with_octets (take n (zone_text is_loaded piece)) before)) → WrittenSoFar is_loaded left all start before → IsBegun (zone_text is_loaded all) start after
-begun_in_piece is_loaded left piece rest all start before after is front h =
-    let text = zone_text is_loaded piece in
+pub begun_in_piece : (is_loaded : Bool) (left piece rest all : List ZoneRecord) (text : List ℕ) (start before after : Option (List ℕ)) → text ≡ zone_text is_loaded piece → left ≡ piece ++ rest
+    → ((n : ℕ) × (after ≡ with_octets (take n text) before)) → WrittenSoFar is_loaded left all start before → IsBegun (zone_text is_loaded all) start after
+begun_in_piece is_loaded left piece rest all text start before after text_is is front h =
     let first = take front.0 text in
     begun_by (h.done ++ first) (drop front.0 text ++ zone_text is_loaded rest) (zone_text is_loaded all) start after
     (front.1 ∙ ap (with_octets first) h.held_is ∙ then_more h.done first start)
     (append_assoc h.done first (drop front.0 text ++ zone_text is_loaded rest)
-    ∙ ap (λ (xs : List ℕ). h.done ++ xs) (sym (append_assoc first (drop front.0 text) (zone_text is_loaded rest)) ∙ ap (λ (xs : List ℕ). xs ++ zone_text is_loaded rest) (take-append-drop front.0 text))
+    ∙ ap (λ (xs : List ℕ). h.done ++ xs) (sym (append_assoc first (drop front.0 text) (zone_text is_loaded rest)) ∙ ap (λ (xs : List ℕ). xs ++ zone_text is_loaded rest) (take-append-drop front.0 text ∙ text_is))
     ∙ ap (λ (xs : List ℕ). h.done ++ xs) (sym (ap (zone_text is_loaded) is ∙ flat_map-append (record_line is_loaded) piece rest)) ∙ h.whole)
+
+pub begun_then : (line : List ℕ) (before mid after : Option (List ℕ)) → after ≡ mid → IsBegun line before mid → IsBegun line before after
+begun_then line before mid after same h = subst (IsBegun line before) (sym same) h
 
 pub rose_later : (a b c : ℕ) → a ≤ b → Rose b c → Rose a c
 rose_later a b c h r = (let x : b ≤ c = r.0 in omega arith, λ e. above e)

@@ -110,12 +110,15 @@ memory_sentence = codes "zone_fetch: memory ran out\n"
 abbrev pub path_text : Command → List ℕ
 path_text command = text_of command.file
 
+-- a serial that is not greater than another
+abbrev pub compared_text : (have got : ℕ) → List ℕ
+compared_text have got = codes "its serial " ++ decimal got ++ codes " is not greater than " ++ decimal have
+
 -- why the zone is left as it was
 abbrev pub left_told : (most : ℕ) → (path : List ℕ) → Left → List ℕ
 left_told most path (lefts.NotFetched fault) = told_fault most fault
 left_told most path (lefts.Unchanged serial) = codes "unchanged: its serial is " ++ decimal serial.0 ++ codes ", which " ++ path ++ codes " has"
-left_told most path (lefts.NotNewer have got) =
-    codes "failed serial: its serial " ++ decimal got.0 ++ codes " is not greater than " ++ decimal have.0 ++ codes ", which " ++ path ++ codes " has"
+left_told most path (lefts.NotNewer have got) = codes "failed serial: " ++ compared_text have.0 got.0 ++ codes ", which " ++ path ++ codes " has"
 
 abbrev pub left_text : Command → Left → List ℕ
 left_text command left = left_told command.most (path_text command) left

@@ -1,7 +1,6 @@
 -- The words of the command line: `[--text] [--port P] [--most OCTETS] [--from FILE] [--output FILE] ZONE ADDRESS`.
-use Rattle.std.specs.Prelude.{◌≡◌, ℕ, ◌+◌, ◌==◌, ◌||◌, ◌&&◌, not, Bool, true, false, if◌then◌else◌, List, [], ◌∷◌, codes, nat_lt, Option, None, Some, option_and_then, String, Result, Ok, Err}
+use Rattle.std.specs.Prelude.{◌≡◌, ℕ, ◌+◌, ◌==◌, ◌||◌, ◌&&◌, not, Bool, true, false, if◌then◌else◌, List, [], ◌∷◌, codes, nat_lt, Option, None, Some, option_and_then, option_map, String, Result, Ok, Err}
 use Rattle.std.specs.Result.{result_ok}
-use Rattle.std.specs.Str.{bytes_eq}
 use Rattle.std.specs.String.{string_bytes}
 use Rattle.std.specs.declared.alloc.Global.{Global}
 use Rattle.dns_names.specs.Name.{Labels}
@@ -9,6 +8,10 @@ use Rattle.dns_names.specs.Text.{name_of_text}
 use Rattle.dns_values.specs.Address.{IsAddressText}
 use Rattle.dns_values.specs.declared.address.IpAddr.{IpAddr}
 use Rattle.resolv_conf.specs.Number.{number_of}
+use Rattle.program_words.specs.Rows.{Row, said_in}
+use Rattle.program_words.specs.declared.row.Letters.TheVariants.{Whole}
+use Rattle.zone_fetch_run.specs.declared.command.Choice.{Choice}
+use Rattle.zone_fetch_run.specs.declared.command.Choice.TheVariants as choices
 use Rattle.zone_fetch_run.specs.declared.command.Command.{Command}
 use Rattle.zone_fetch_run.specs.declared.command.Next.{Next}
 use Rattle.zone_fetch_run.specs.declared.command.Next.TheVariants as next
@@ -73,15 +76,22 @@ abbrev pub zone_given : Option Labels → Said → Result Said Wrong
 zone_given None said = Err wrongs.Zone
 zone_given (Some zone) said = Ok (record said { zone = Some zone; next = next.Address })
 
--- options
-unfoldable pub optioned : List ℕ → Said → Option Said
-optioned word said =
-    if bytes_eq word (codes "--text") then Some (record said { text = true })
-    else if bytes_eq word (codes "--port") then Some (record said { next = next.Port })
-    else if bytes_eq word (codes "--most") then Some (record said { next = next.Most })
-    else if bytes_eq word (codes "--from") then Some (record said { next = next.File })
-    else if bytes_eq word (codes "--output") then Some (record said { next = next.Output })
-    else None
+-- options, each by its whole name
+unfoldable pub option_rows : List (Row Choice)
+option_rows =
+    (codes "--text", Whole, choices.Text)
+    ∷ (codes "--port", Whole, choices.Value next.Port)
+    ∷ (codes "--most", Whole, choices.Value next.Most)
+    ∷ (codes "--from", Whole, choices.Value next.File)
+    ∷ (codes "--output", Whole, choices.Value next.Output)
+    ∷ []
+
+abbrev pub chosen : Choice → Said → Said
+chosen choices.Text said = record said { text = true }
+chosen (choices.Value value) said = record said { next = value }
+
+abbrev pub optioned : List ℕ → Said → Option Said
+optioned word said = option_map (λ choice. chosen choice said) (said_in option_rows word)
 
 -- A word that is no option is the zone.
 abbrev pub option_or_zone : Option Said → List ℕ → Said → Result Said Wrong

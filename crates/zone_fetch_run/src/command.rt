@@ -49,6 +49,15 @@ pub(crate) enum Next {
     Nothing,
 }
 
+/// What an option says.
+#[derive(Clone, Copy)]
+pub(crate) enum Choice {
+    /// That the zone is written in the form that name servers load.
+    Text,
+    /// What the next word is, which is its value.
+    Value(Next),
+}
+
 /// What words say so far.
 #[derive(Drop)]
 pub(crate) struct Said {

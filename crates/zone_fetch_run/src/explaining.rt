@@ -1,6 +1,6 @@
 //! Sentences that tell why the program ends by another status than 0.
 
-ghost use Rattle.std.specs.Prelude.{◌≡◌, ◌≢◌, ◌⊎◌, OnOk};
+ghost use Rattle.std.specs.Prelude.{◌≡◌, ◌≢◌, ◌≤◌, ◌⊎◌, OnOk};
 ghost use Rattle.command_parts.specs.Ends.{IsSaid};
 ghost use Rattle.dns_values.specs.Sink.{IsFlushed};
 ghost use Rattle.dns_values.specs.Source.{Rose};
@@ -14,7 +14,7 @@ use crate::sentences::{
 };
 use crate::stop::{Stop, status_of};
 use crate::wrong::Refusal;
-use command_parts::{end_by, say, statuses};
+use command_parts::{deliver, end_by, statuses};
 use dns_base::{NoMemory, Sink, Status};
 use std::alloc::Global;
 
@@ -73,20 +73,24 @@ pub(crate) fn tell_stop<L: Sink>(
 }
 
 /// Tells why the whole zone was asked for in place of its changes, if it was.
-#[tactic(auto, using(crate::proofs::Telling::tells_nothing, crate::proofs::Telling::tells_line))]
+#[tactic(auto, using(crate::proofs::Telling::tells_nothing, crate::proofs::Telling::tells_unless))]
 pub(crate) fn tell_detour<L: Sink>(
     alloc: Global,
     command: &Command,
     detour: Option<Detour>,
     errors: &mut L,
 ) -> Result<(), NoMemory>
-    ensures { OnOk result (Tells (detour_sentence command.now detour) (L.held errors.old) (L.held errors.new) (L.faults errors.old) (L.faults errors.new)) }
+    ensures told { OnOk result (Tells (detour_sentence command.now detour) (L.held errors.old) (L.held errors.new) (L.faults errors.old) (L.faults errors.new)) }
+    ensures count { L.faults errors.old ≤ L.faults errors.new }
 {
     let sentence = detour_sentence(alloc, command, detour)?;
     if sentence.is_empty() {
         return Ok(());
     }
-    say(errors, sentence.as_bytes())
+    if deliver(errors, sentence.as_bytes()) == statuses::NO_MEMORY {
+        return Err(NoMemory);
+    }
+    Ok(())
 }
 
 /// Ends by the status with which a zone was put where the words say, and tells where it could not be written whole.

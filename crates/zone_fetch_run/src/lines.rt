@@ -182,7 +182,7 @@ pub(crate) fn zone_text(
 }
 
 /// Writes the lines of records, so many at once, and hands them on.
-#[tactic(auto, using(crate::proofs::Writing::begun_so_far, crate::proofs::Writing::begun_in_piece, crate::proofs::Writing::rose_later))]
+#[tactic(auto, using(crate::proofs::Writing::none_yet, crate::proofs::Writing::piece_more, crate::proofs::Writing::all_written, crate::proofs::Writing::rose_later))]
 pub(crate) fn write_zone<K: Sink>(
     alloc: Global,
     sink: &mut K,

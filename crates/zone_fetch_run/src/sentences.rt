@@ -227,6 +227,22 @@ impl Display for Told {
     }
 }
 
+/// A serial that is not greater than another.
+#[derive(Clone, Copy)]
+struct Compared {
+    have: u32,
+    got: u32,
+}
+
+impl Display for Compared {
+    ghost output = { λ of. Some (spec.compared_text of.have of.got) };
+
+    fn fmt<W: fmt::Write>(&self, f: &mut fmt::Formatter<W>) -> fmt::Result {
+        let (have, got) = (self.have, self.got);
+        write!(f, "its serial {got} is not greater than {have}")
+    }
+}
+
 /// Why a zone is left as it was, where the words named this file and so many octets were taken at most.
 #[derive(Clone, Copy)]
 struct OfLeft<'a> {
@@ -250,11 +266,11 @@ impl Display for OfLeft<'_> {
                 write!(f, "unchanged: its serial is {serial}, which {path} has")
             }
             Left::NotNewer { have, got } => {
-                let (have, got) = (have.0, got.0);
-                write!(
-                    f,
-                    "failed serial: its serial {got} is not greater than {have}, which {path} has"
-                )
+                let compared = Compared {
+                    have: have.0,
+                    got: got.0,
+                };
+                write!(f, "failed serial: {compared}, which {path} has")
             }
         }
     }
