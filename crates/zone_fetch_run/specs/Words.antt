@@ -1,7 +1,6 @@
--- The words of the command line: `[--text] [--port P] [--most OCTETS] [--from FILE] ZONE ADDRESS`.
-use Rattle.std.specs.Prelude.{◌≡◌, ℕ, ◌+◌, ◌==◌, ◌||◌, ◌&&◌, not, Bool, true, false, if◌then◌else◌, List, [], ◌∷◌, codes, nat_lt, Option, None, Some, option_and_then, String, Result, Ok, Err}
+-- The words of the command line: `[--text] [--port P] [--most OCTETS] [--from FILE] [--output FILE] ZONE ADDRESS`.
+use Rattle.std.specs.Prelude.{◌≡◌, ℕ, ◌+◌, ◌==◌, ◌||◌, ◌&&◌, not, Bool, true, false, if◌then◌else◌, List, [], ◌∷◌, codes, nat_lt, Option, None, Some, option_and_then, option_map, String, Result, Ok, Err}
 use Rattle.std.specs.Result.{result_ok}
-use Rattle.std.specs.Str.{bytes_eq}
 use Rattle.std.specs.String.{string_bytes}
 use Rattle.std.specs.declared.alloc.Global.{Global}
 use Rattle.dns_names.specs.Name.{Labels}
@@ -9,6 +8,10 @@ use Rattle.dns_names.specs.Text.{name_of_text}
 use Rattle.dns_values.specs.Address.{IsAddressText}
 use Rattle.dns_values.specs.declared.address.IpAddr.{IpAddr}
 use Rattle.resolv_conf.specs.Number.{number_of}
+use Rattle.program_words.specs.Rows.{Row, said_in}
+use Rattle.program_words.specs.declared.row.Letters.TheVariants.{Whole}
+use Rattle.zone_fetch_run.specs.declared.command.Choice.{Choice}
+use Rattle.zone_fetch_run.specs.declared.command.Choice.TheVariants as choices
 use Rattle.zone_fetch_run.specs.declared.command.Command.{Command}
 use Rattle.zone_fetch_run.specs.declared.command.Next.{Next}
 use Rattle.zone_fetch_run.specs.declared.command.Next.TheVariants as next
@@ -24,7 +27,7 @@ use Rattle.zone_fetch_run.specs.declared.wrong.Wrong.TheVariants as wrongs
 
 -- before the first word: port 53, and a billion octets of memory
 abbrev pub nothing_said : Said
-nothing_said = record { port = 53; most = 1000000000; file = None; text = false; zone = None; server = None; next = next.Any }
+nothing_said = record { port = 53; most = 1000000000; file = None; output = None; text = false; zone = None; server = None; next = next.Any }
 
 -- ---- numbers without a sign or a leading zero
 
@@ -55,6 +58,11 @@ abbrev pub FileGives : List ℕ → Said → Result Said Wrong → Type 0
 FileGives word said (Ok new) = (file : String Global) × (string_bytes file ≡ word) × (new ≡ record said { file = Some file; next = next.Any })
 FileGives word said (Err wrong) = ⊥
 
+-- `--output FILE`, the last of which counts
+abbrev pub OutputGives : List ℕ → Said → Result Said Wrong → Type 0
+OutputGives word said (Ok new) = (output : String Global) × (string_bytes output ≡ word) × (new ≡ record said { output = Some output; next = next.Any })
+OutputGives word said (Err wrong) = ⊥
+
 -- ADDRESS
 abbrev pub with_server : IpAddr → Said → Said
 with_server ip said = record said { server = Some ip; next = next.Nothing }
@@ -68,14 +76,22 @@ abbrev pub zone_given : Option Labels → Said → Result Said Wrong
 zone_given None said = Err wrongs.Zone
 zone_given (Some zone) said = Ok (record said { zone = Some zone; next = next.Address })
 
--- options
-unfoldable pub optioned : List ℕ → Said → Option Said
-optioned word said =
-    if bytes_eq word (codes "--text") then Some (record said { text = true })
-    else if bytes_eq word (codes "--port") then Some (record said { next = next.Port })
-    else if bytes_eq word (codes "--most") then Some (record said { next = next.Most })
-    else if bytes_eq word (codes "--from") then Some (record said { next = next.File })
-    else None
+-- options, each by its whole name
+unfoldable pub option_rows : List (Row Choice)
+option_rows =
+    (codes "--text", Whole, choices.Text)
+    ∷ (codes "--port", Whole, choices.Value next.Port)
+    ∷ (codes "--most", Whole, choices.Value next.Most)
+    ∷ (codes "--from", Whole, choices.Value next.File)
+    ∷ (codes "--output", Whole, choices.Value next.Output)
+    ∷ []
+
+abbrev pub chosen : Choice → Said → Said
+chosen choices.Text said = record said { text = true }
+chosen (choices.Value value) said = record said { next = value }
+
+abbrev pub optioned : List ℕ → Said → Option Said
+optioned word said = option_map (λ choice. chosen choice said) (said_in option_rows word)
 
 -- A word that is no option is the zone.
 abbrev pub option_or_zone : Option Said → List ℕ → Said → Result Said Wrong
@@ -90,6 +106,7 @@ GivesAt next.Any word said answer = answer ≡ any_said word said
 GivesAt next.Port word said answer = answer ≡ port_given (number_in 1 65535 word) said
 GivesAt next.Most word said answer = answer ≡ most_given (number_in 0 18446744073709551615 word) said
 GivesAt next.File word said answer = FileGives word said answer
+GivesAt next.Output word said answer = OutputGives word said answer
 GivesAt next.Address word said answer = AddressGives word said answer
 GivesAt next.Nothing word said answer = answer ≡ Err wrongs.More
 
@@ -127,12 +144,13 @@ abbrev pub missing : Next → Refusal
 missing next.Port = refusals.NoPort
 missing next.Most = refusals.NoMost
 missing next.File = refusals.NoFile
+missing next.Output = refusals.NoOutput
 missing next.Any = refusals.NoZone
 missing next.Address = refusals.NoZone
 missing next.Nothing = refusals.NoZone
 
 abbrev pub command_at : Option Labels → Option IpAddr → Said → Result Command Refusal
-command_at (Some apex) (Some ip) said = Ok (record { apex = apex; server = record { ip = ip; port = said.port }; most = said.most; file = said.file; text = said.text })
+command_at (Some apex) (Some ip) said = Ok (record { apex = apex; server = record { ip = ip; port = said.port }; most = said.most; file = said.file; output = said.output; text = said.text })
 command_at (Some apex) None said = Err refusals.NoAddress
 command_at None server said = Err (missing said.next)
 

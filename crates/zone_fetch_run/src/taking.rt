@@ -1,18 +1,37 @@
 //! Words that are taken, one after another.
 
-ghost use Rattle.std.specs.Prelude.{◌≡◌, Ok, Err, Some, None, false, if◌then◌else◌};
+ghost use Rattle.std.specs.Prelude.{◌≡◌, Ok, Err};
 ghost use Rattle.dns_names.specs.Text.{name_of_text};
 ghost use Rattle.std.specs.Result.{result_ok};
-ghost use Rattle.zone_fetch_run.specs.Words.{AddressGives, AllAnswer, Answers, FileGives, WordGives, WordsGive, any_said, fault_at, most_given, number_in, optioned, port_given, zone_given};
+ghost use Rattle.program_words.specs.Rows.{said_in};
+ghost use Rattle.zone_fetch_run.specs.Words.{AddressGives, AllAnswer, Answers, FileGives, OutputGives, WordGives, WordsGive, any_said, chosen, fault_at, most_given, number_in, option_rows, port_given, zone_given};
 
-use crate::command::{Next, Said};
+use crate::command::{Choice, Next, Said};
 use crate::number::number_in;
 use crate::wrong::{Fault, Refusal, WordFault, Wrong};
 use dns_base::{IpAddr, Name, NameFault};
+use program_words::{Letters, Row, said_in};
 use std::alloc::Global;
 
 /// The greatest port.
 const MOST_PORT: usize = 65535;
+
+/// The options, each by its whole name.
+const OPTIONS: [Row<Choice>; 5] = [
+    ("--text", Letters::Whole, Choice::Text),
+    ("--port", Letters::Whole, Choice::Value(Next::Port)),
+    ("--most", Letters::Whole, Choice::Value(Next::Most)),
+    ("--from", Letters::Whole, Choice::Value(Next::File)),
+    ("--output", Letters::Whole, Choice::Value(Next::Output)),
+];
+
+/// What the option of this name says.
+#[tactic(auto, unfolding(crate::specs::Words::option_rows))]
+fn choice_of(word: &str) -> Option<Choice>
+    ensures { result ≡ said_in option_rows word.now }
+{
+    said_in(&OPTIONS, word.as_bytes())
+}
 
 /// Why words were not taken of which the one of this number was not.
 fn fault_at(at: usize, fault: WordFault) -> Fault
@@ -62,6 +81,17 @@ impl Said {
         Ok(())
     }
 
+    fn take_output(&mut self, alloc: Global, word: &str) -> Result<(), WordFault>
+        ensures { Answers (OutputGives word.now self.old) result self.new }
+    {
+        let Ok(output) = String::from_str(alloc, word) else {
+            return Err(WordFault::NoMemory);
+        };
+        self.output = Some(output);
+        self.next = Next::Any;
+        Ok(())
+    }
+
     fn take_address(&mut self, word: &str) -> Result<(), WordFault>
         ensures { Answers (AddressGives word.now self.old) result self.new }
     {
@@ -88,26 +118,21 @@ impl Said {
         }
     }
 
-    /// Sets what an option says, and whether the word is one.
-    #[tactic(auto, unfolding(crate::specs::Words::optioned))]
-    fn set_option(&mut self, word: &str) -> bool
-        ensures option { (if result then Some self.new else None) ≡ optioned word.now self.old }
-        ensures other { result ≡ false → self.new ≡ self.old }
+    /// Sets what an option says.
+    fn choose(&mut self, choice: Choice)
+        ensures { self.new ≡ chosen choice self.old }
     {
-        match word {
-            "--text" => self.text = true,
-            "--port" => self.next = Next::Port,
-            "--most" => self.next = Next::Most,
-            "--from" => self.next = Next::File,
-            _ => return false,
+        match choice {
+            Choice::Text => self.text = true,
+            Choice::Value(next) => self.next = next,
         }
-        true
     }
 
     fn take_any(&mut self, alloc: Global, word: &str) -> Result<(), WordFault>
         ensures { Answers (λ o. o ≡ any_said word.now self.old) result self.new }
     {
-        if self.set_option(word) {
+        if let Some(choice) = choice_of(word) {
+            self.choose(choice);
             return Ok(());
         }
         self.take_zone(alloc, word)
@@ -121,6 +146,7 @@ impl Said {
             Next::Port => self.take_port(word),
             Next::Most => self.take_most(word),
             Next::File => self.take_file(alloc, word),
+            Next::Output => self.take_output(alloc, word),
             Next::Address => self.take_address(word),
             Next::Nothing => Err(WordFault::Wrong(Wrong::More)),
         }
