@@ -1,0 +1,4 @@
+pub mod Deeds
+pub mod Visits
+pub mod Turns
+pub mod Laws
