@@ -9,11 +9,12 @@ messages, 300 if it is left out. kdig (of the package knot-dnsutils) prints what
 answers it; without kdig nothing is compared, and that is said. Texts are compared up to blanks. Prints the first
 message that differs, or how many were the same.
 
-Made even before: kdig's NOTIMPL, which is IANA's NOTIMP, and its names of codes that only signatures of transactions have; the
-decimals that it prints of some whole metres; and the flags for which it has no room; and the
-empty data outside the class IN, which it leaves out.
+Made even before: six types that are printed here by their numbers; kdig's NOTIMPL, which is IANA's NOTIMP, and its names of
+codes that only signatures of transactions have; the decimals that it prints of some whole metres; the flags for which it has
+no room; and the empty data outside the class IN, which it leaves out.
 No random message has what kdig prints in a form of its own: moments past 2038 as if they were before 1970, types that it
-doesn't know, and data that can't be read, where it stops.
+doesn't know, data that can't be read, where it stops, and kinds and algorithms of certificates that have a name, which it
+prints by number.
 """
 
 import itertools
@@ -34,6 +35,7 @@ NAMES = {
     "NOTIMPL": "NOTIMP", "BADKEY": "RCODE17", "BADTIME": "RCODE18", "BADMODE": "RCODE19", "BADNAME": "RCODE20",
     "BADALG": "RCODE21", "BADTRUNC": "RCODE22",
 }
+TYPES = {"TYPE104": "NID", "TYPE105": "L32", "TYPE106": "L64", "TYPE107": "LP", "TYPE108": "EUI48", "TYPE109": "EUI64"}
 SKIPPED = (";; Received", ";; Time", ";; From", ";; WARNING: query/response question", ";; WARNING: response doesn't have")
 
 
@@ -78,6 +80,7 @@ def even(lines):
     for line in map(six_flags, lines):
         line = re.sub(r"; id: \d+$", "", line).replace(".00m", "m")
         line = re.sub(r"(status|ext-rcode): (\w+)$", lambda found: found[1] + ": " + NAMES.get(found[2], found[2]), line)
+        line = re.sub(r"\bTYPE10[4-9]\b", lambda found: TYPES[found[0]], line)
         line = re.sub(r"((CH|NONE|ANY|CLASS\d+)\sTYPE\d+)\s\\# 0$", r"\1", line)
         line = "".join(line.split())
         if line:
@@ -170,6 +173,15 @@ class Writer:
         keys = sorted(rng.sample(sorted(values), rng.randrange(5)))
         return b"".join(number(2, key) + number(2, len(v)) + v for key, v in ((key, values[key]()) for key in keys))
 
+    def prefixes(self):
+        rng = self.rng
+        out = b""
+        for _ in range(rng.randrange(4)):
+            family, bits, most = rng.choice([(1, 32, 4), (2, 128, 16)])
+            address = self.octets(most).rstrip(b"\0")
+            out += number(2, family) + number(1, rng.randrange(bits + 1)) + number(1, len(address) + rng.choice([0, 128])) + address
+        return out
+
     def moments(self):
         return number(4, self.rng.randrange(1500000000, 2100000000)) + number(4, self.rng.randrange(1500000000, 2100000000))
 
@@ -190,6 +202,8 @@ class Writer:
             33: lambda: small(6) + self.name(),
             35: lambda: small(4) + self.string() + self.string() + self.string() + self.shortened(),
             36: lambda: small(2) + self.name(),
+            37: lambda: number(2, rng.choice([0, 9, 65535])) + small(2) + number(1, rng.choice([0, 9, 200])) + self.octets(32, 1),
+            42: self.prefixes,
             43: lambda: small(4) + self.octets(32, 1),
             44: lambda: small(2) + self.octets(32, 1),
             46: lambda: number(2, rng.choice([1, 47, 12345])) + small(6) + self.moments() + small(2) + self.name() + self.octets(40, 1),
@@ -201,9 +215,17 @@ class Writer:
             59: lambda: small(4) + self.octets(32, 1),
             60: lambda: small(4) + self.octets(40, 1),
             61: lambda: self.octets(20, 1),
+            62: lambda: small(6) + self.types(),
+            63: lambda: small(6) + self.octets(48, 1),
             64: lambda: small(2) + self.name() + self.parameters(),
             65: lambda: small(2) + self.name() + self.parameters(),
             99: self.strings,
+            104: lambda: small(10),
+            105: lambda: small(6),
+            106: lambda: small(10),
+            107: lambda: small(2) + self.name(),
+            108: lambda: small(6),
+            109: lambda: small(8),
             256: lambda: small(4) + self.octets(20),
             257: lambda: small(1) + number(1, 5) + b"issue" + self.octets(20),
             12345: lambda: self.octets(9),
@@ -211,8 +233,8 @@ class Writer:
         return forms[rtype]() if rtype in forms else self.name()
 
     def record(self):
-        rtype = self.rng.choice([1, 2, 5, 6, 12, 13, 14, 15, 16, 17, 18, 28, 29, 33, 35, 36, 39, 43, 44, 46, 47, 48, 50, 51,
-                                 52, 59, 60, 61, 64, 65, 99, 256, 257, 12345])
+        rtype = self.rng.choice([1, 2, 5, 6, 12, 13, 14, 15, 16, 17, 18, 28, 29, 33, 35, 36, 37, 39, 42, 43, 44, 46, 47, 48,
+                                 50, 51, 52, 59, 60, 61, 62, 63, 64, 65, 99, 104, 105, 106, 107, 108, 109, 256, 257, 12345])
         rclass = self.rng.choice([1, 1, 1, 3, 254, 255, 77])
         data = self.data(rtype)
         return self.name() + struct.pack(">HHIH", rtype, rclass, self.rng.randrange(2**32), len(data)) + data

@@ -1,4 +1,9 @@
+pub mod Base64Texts
+pub mod BitTexts
+pub mod CountedTexts
+pub mod FilledOctets
 pub mod GenericTexts
+pub mod LocatorTexts
 pub mod NameTexts
 pub mod OctetTexts
 pub mod RecordTexts

@@ -1,5 +1,5 @@
 -- Data of any type as text: `\#`, how many octets, and hexadecimal digits (RFC 3597 5).
-use Rattle.std.specs.Prelude.{◌==◌, ℕ, ◌+◌, ◌*◌, ◌-◌, List, [], ◌∷◌, ◌++◌, length, decimal, Option, Some, None, option_and_then, if◌then◌else◌}
+use Rattle.std.specs.Prelude.{◌==◌, ℕ, ◌+◌, ◌*◌, ◌-◌, List, [], ◌∷◌, ◌++◌, length, decimal, Option, Some, None, option_and_then, unwrap_or, if◌then◌else◌}
 use Rattle.dns_names.specs.Text.{is_digit}
 use Rattle.dns_presentation.specs.Octets.{hex_text, octets_of_hex}
 
@@ -10,6 +10,10 @@ digits_behind (n ∷ octets) = 32 ∷ hex_text (n ∷ octets)
 
 abbrev pub generic_text : List ℕ → List ℕ
 generic_text octets = 92 ∷ 35 ∷ 32 ∷ decimal (length octets) ++ digits_behind octets
+
+-- the text of a form, or generic data where octets aren't of it
+abbrev pub or_generic : Option (List ℕ) → List ℕ → List ℕ
+or_generic form octets = unwrap_or form (generic_text octets)
 
 -- the number at the head of a text, and the text behind it
 unfoldable pub read_number : ℕ → List ℕ → ℕ × List ℕ

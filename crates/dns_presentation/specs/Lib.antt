@@ -2,6 +2,14 @@ pub mod Octets
 pub mod Strings
 pub mod Names
 pub mod Generic
+pub mod Types
+pub mod Prefixes
+pub mod Counted
+pub mod Base64
+pub mod Certificates
+pub mod Zones
+pub mod Locators
+pub mod Forms
 pub mod Named
 pub mod Records
 pub mod Laws

@@ -6,7 +6,9 @@ use Rattle.std.specs.Net.Text.{ipv4_text, ipv6_text}
 use Rattle.dns_values.specs.NumberNames.{class_text, type_text}
 use Rattle.dns_base.specs.Message.{Asked, Entry, Known}
 use Rattle.dns_base.specs.Data.{Data, Soa, Srv, A, Aaaa, One, Minfo, Mx, StartOfAuthority, Service, Named, Txt, Opt, Other}
-use Rattle.dns_presentation.specs.Generic.{generic_text}
+use Rattle.dns_presentation.specs.Counted.{strings_text}
+use Rattle.dns_presentation.specs.Forms.{form_text}
+use Rattle.dns_presentation.specs.Generic.{generic_text, or_generic}
 use Rattle.dns_presentation.specs.Named.{named_text}
 use Rattle.dns_presentation.specs.Names.{absolute_text}
 
@@ -22,16 +24,15 @@ soa_text soa =
 abbrev pub srv_text : Srv → List ℕ
 srv_text srv = decimal srv.priority ++ 32 ∷ decimal srv.weight ++ 32 ∷ decimal srv.port ++ 32 ∷ absolute_text srv.target
 
--- types of which a message's reader looks into no data, and which have a form here
+-- types of which a message's reader looks into no data, and whose form is not told here
 abbrev pub has_form : ℕ → Bool
 has_form rtype =
-    rtype == 13 || rtype == 29 || rtype == 36 || rtype == 43 || rtype == 44 || rtype == 46 || rtype == 47 || rtype == 48 || rtype == 50
-    || rtype == 51 || rtype == 52 || rtype == 53 || rtype == 59 || rtype == 60 || rtype == 61 || rtype == 64 || rtype == 65 || rtype == 99
-    || rtype == 256 || rtype == 257
+    rtype == 29 || rtype == 43 || rtype == 44 || rtype == 46 || rtype == 47 || rtype == 48 || rtype == 50 || rtype == 51 || rtype == 52
+    || rtype == 53 || rtype == 59 || rtype == 60 || rtype == 61 || rtype == 64 || rtype == 65 || rtype == 256 || rtype == 257
 
 -- octets that a message's reader doesn't look into
 abbrev pub octets_text : ℕ → List ℕ → Option (List ℕ)
-octets_text rtype octets = if has_form rtype then None else Some (generic_text octets)
+octets_text rtype octets = if has_form rtype then None else Some (or_generic (form_text rtype octets) octets)
 
 -- the start of a zone, where a service is, and options, which are generic
 abbrev pub numbered_text : List ℕ → Data → Option (List ℕ)
@@ -40,10 +41,10 @@ numbered_text whole (Service srv) = Some (srv_text srv)
 numbered_text whole (Opt octets) = Some (generic_text whole)
 numbered_text whole other = None
 
--- Of strings, and of octets of the types above, it says nothing.
+-- Of octets of the types above it says nothing.
 abbrev pub typed_text : ℕ → List ℕ → Data → Option (List ℕ)
 typed_text rtype whole (Named it) = named_text rtype it
-typed_text rtype whole (Txt octets) = None
+typed_text rtype whole (Txt octets) = Some (or_generic (strings_text 1 65535 octets) whole)
 typed_text rtype whole (Other octets) = octets_text rtype octets
 typed_text rtype whole other = numbered_text whole other
 

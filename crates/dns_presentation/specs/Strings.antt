@@ -1,5 +1,5 @@
 -- Character strings as text: between quotes, with escapes (RFC 1035 5.1).
-use Rattle.std.specs.Prelude.{ℕ, ◌==◌, ◌&&◌, ◌||◌, nat_le, List, [], ◌∷◌, ◌++◌, Option, Some, None, option_map, if◌then◌else◌}
+use Rattle.std.specs.Prelude.{ℕ, ◌+◌, ◌==◌, ◌&&◌, ◌||◌, nat_le, List, [], ◌∷◌, ◌++◌, Option, Some, None, option_map, if◌then◌else◌}
 use Rattle.std.specs.List.{flat_map}
 use Rattle.dns_names.specs.Text.{backslash, is_digit, is_printable, three_digits}
 use Rattle.dns_presentation.specs.Octets.{numbered_octet}
@@ -16,6 +16,16 @@ string_octet n =
 
 abbrev pub string_text : List ℕ → List ℕ
 string_text octets = quote ∷ flat_map string_octet octets ++ quote ∷ []
+
+-- how many octets a string has with the one that counts the others (RFC 1035 3.3)
+abbrev pub counted_size : List ℕ → Option ℕ
+counted_size [] = None
+counted_size (count ∷ octets) = Some (1 + count)
+
+-- the text of a string behind its count
+abbrev pub counted_text : List ℕ → List ℕ
+counted_text [] = []
+counted_text (count ∷ octets) = string_text octets
 
 -- An octet of an item of a list, in a text that may go on behind it: a comma stands behind two backslashes and a backslash behind
 -- three, since the list and the text each have an escape (RFC 9460 A.1).

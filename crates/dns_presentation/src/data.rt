@@ -1,22 +1,34 @@
 //! The data of records as text, by its type.
 
 ghost use Rattle.std.specs.Prelude.{◌≡◌, ◌<◌};
-ghost use Rattle.std.specs.Fmt.{DisplaysOnOk};
+ghost use Rattle.std.specs.Fmt.{DisplaysOnOk, WritesOnOk};
 ghost use Rattle.dns_base.specs.Data.{data_size};
 ghost use Rattle.dns_base.specs.RecordData.{data_view};
+ghost use Rattle.dns_presentation.specs.Forms.{form_text};
+ghost use Rattle.dns_presentation.specs.Generic.{or_generic};
 ghost use Rattle.dns_presentation.specs.Records.{has_form, octets_text, numbered_text, typed_text, data_text, known_text};
 
 use crate::base64::Base64;
+use crate::certificates::write_certificate;
+use crate::counted::{write_prefixes, write_strings};
 use crate::generic::Generic;
 use crate::location::Location;
+use crate::locators::write_locator;
 use crate::named::{NamedParts, write_named};
 use crate::names::Absolute;
-use crate::plain::{Caa, Preferred, Sshfp, Strings, Tlsa, Uri, read_hinfo};
+use crate::plain::{Caa, Sshfp, Tlsa, Uri};
 use crate::security::{Dnskey, Ds, Hashing, Nsec, Nsec3, Rrsig};
 use crate::service::Service;
+use crate::zones::{write_csync, write_zonemd};
 use dns_base::{IpAddr, Record, RecordData, Rtype};
 use std::fmt::{self, Display};
 use std::net::Ipv6Addr;
+
+const X25: Rtype = Rtype(19);
+
+const ISDN: Rtype = Rtype(20);
+
+const GPOS: Rtype = Rtype(27);
 
 /// What was read of data, or generic data where it wasn't.
 fn write_read<D: Display + Drop, W: fmt::Write>(
@@ -47,31 +59,27 @@ fn write_security<W: fmt::Write>(
     }
 }
 
-/// Whether octets of a type have a form here.
+/// Whether octets of a type have a form here of which no contract tells.
 fn has_form(rtype: Rtype) -> bool
     ensures { result ≡ has_form rtype.0 }
 {
     match rtype {
-        Rtype::HINFO | Rtype::LOC | Rtype::KX => true,
-        Rtype::DS | Rtype::SSHFP | Rtype::RRSIG | Rtype::NSEC | Rtype::DNSKEY => true,
+        Rtype::LOC | Rtype::DS | Rtype::SSHFP | Rtype::RRSIG | Rtype::NSEC | Rtype::DNSKEY => true,
         Rtype::NSEC3 | Rtype::NSEC3PARAM | Rtype::TLSA | Rtype::SMIMEA | Rtype::CDS => true,
         Rtype::CDNSKEY | Rtype::OPENPGPKEY | Rtype::SVCB | Rtype::HTTPS => true,
-        Rtype::SPF | Rtype::URI | Rtype::CAA => true,
+        Rtype::URI | Rtype::CAA => true,
         _ => false,
     }
 }
 
-/// Octets of a type that has a form here.
+/// Octets of a type that has such a form.
 fn write_form<W: fmt::Write>(
     rtype: Rtype,
     octets: &[u8],
     f: &mut fmt::Formatter<W>,
 ) -> fmt::Result {
     match rtype {
-        Rtype::SPF => write_read(Strings::read(octets), octets, f),
-        Rtype::HINFO => write_read(read_hinfo(octets), octets, f),
         Rtype::LOC => write_read(Location::read(octets), octets, f),
-        Rtype::KX => write_read(Preferred::read(octets), octets, f),
         Rtype::SSHFP => write_read(Sshfp::read(octets), octets, f),
         Rtype::TLSA | Rtype::SMIMEA => write_read(Tlsa::read(octets), octets, f),
         Rtype::OPENPGPKEY if !octets.is_empty() => f.write(Base64(octets)),
@@ -79,6 +87,24 @@ fn write_form<W: fmt::Write>(
         Rtype::URI => write_read(Uri::read(octets), octets, f),
         Rtype::CAA => write_read(Caa::read(octets), octets, f),
         _ => write_security(rtype, octets, f),
+    }
+}
+
+/// Octets in the form of their type, or generic data where it has none or they aren't of it.
+fn write_told<W: fmt::Write>(rtype: Rtype, octets: &[u8], f: &mut fmt::Formatter<W>) -> fmt::Result
+    ensures { WritesOnOk W.Write.write_str_gives f.old result (or_generic (form_text rtype.0 octets.now) octets.now) f.new }
+{
+    match rtype {
+        Rtype::HINFO => write_strings(octets, octets, 2, 2, f),
+        X25 => write_strings(octets, octets, 1, 1, f),
+        ISDN => write_strings(octets, octets, 1, 2, f),
+        GPOS => write_strings(octets, octets, 3, 3, f),
+        Rtype::SPF => write_strings(octets, octets, 1, 65535, f),
+        Rtype::CERT => write_certificate(octets, f),
+        Rtype::APL => write_prefixes(octets, f),
+        Rtype::CSYNC => write_csync(octets, f),
+        Rtype::ZONEMD => write_zonemd(octets, f),
+        _ => write_locator(rtype, octets, f),
     }
 }
 
@@ -93,7 +119,7 @@ fn write_octets<W: fmt::Write>(
     if has_form(rtype) {
         write_form(rtype, octets, f)
     } else {
-        f.write(Generic(octets))
+        write_told(rtype, octets, f)
     }
 }
 
@@ -155,7 +181,7 @@ fn write_typed<W: fmt::Write>(
             };
             write_named(rtype, &named, f)
         }
-        RecordData::Txt(strings) => write_read(Strings::read(strings), whole, f),
+        RecordData::Txt(strings) => write_strings(strings, whole, 1, 65535, f),
         RecordData::Other(octets) => write_octets(rtype, octets, f),
         _ => write_numbered(known, whole, f),
     }

@@ -2,10 +2,13 @@
 #![tactic(auto)]
 
 mod base64;
+mod certificates;
+mod counted;
 mod data;
 mod generic;
 mod laws;
 mod location;
+mod locators;
 mod message;
 mod named;
 mod names;
@@ -13,12 +16,14 @@ mod octets;
 mod options;
 mod parts;
 mod plain;
+mod prefixes;
 mod security;
 mod service;
 mod shown;
 mod strings;
 mod time;
 mod types;
+mod zones;
 
 pub use data::ShownData;
 pub use generic::Generic;

@@ -1,6 +1,6 @@
 //! Data with names that may be compressed, of seven types that came after RFC 1035 (RFC 3597 4).
 
-ghost use Rattle.std.specs.Prelude.{◌≡◌, ◌<◌, ◌≤◌, ◌∷◌, length};
+ghost use Rattle.std.specs.Prelude.{◌≡◌, ◌<◌, ◌≤◌, ◌∷◌, length, IsTrue};
 ghost use Rattle.std.specs.Fmt.{DisplaysOnOk, WritesOnOk};
 ghost use Rattle.dns_names.specs.Name.{octet_count, spelling};
 ghost use Rattle.dns_base.specs.Forms.{named_size, second_size, second_spelling};
@@ -8,12 +8,12 @@ ghost use Rattle.dns_presentation.specs.Octets.{hex_text};
 ghost use Rattle.dns_presentation.specs.Named.{parts_view, names_text, preferred_text, spelled_text, are_type_bits, has_named_form, named_text};
 
 use crate::base64::Base64;
+use crate::counted::{PartKind, Parts, Spaced};
 use crate::names::Absolute;
 use crate::octets::{Hex, HexOctet};
 use crate::parts;
-use crate::plain::Strings;
 use crate::security::Signed;
-use crate::types::TypeBits;
+use crate::types::write_bits;
 use dns_base::{ParsedName, Rtype};
 use std::fmt;
 
@@ -33,7 +33,7 @@ pub(crate) struct NamedParts<'s, 'a> {
 }
 
 /// How many octets a name has spelled out.
-fn name_size(name: &ParsedName<'_>) -> usize
+pub(crate) fn name_size(name: &ParsedName<'_>) -> usize
     ensures all { result ≡ octet_count name.now }
     ensures few { result ≤ 255 }
 {
@@ -146,10 +146,11 @@ fn write_signature<W: fmt::Write>(
 }
 
 /// Two numbers, and the strings behind them.
-fn rule_front(data: &[u8]) -> Option<(u16, u16, Strings<'_>)> {
+fn rule_front(data: &[u8]) -> Option<(u16, u16, Spaced<'_>)> {
     let (order, rest) = parts::u16_front(data)?;
     let (preference, rest) = parts::u16_front(rest)?;
-    Some((order, preference, Strings::read(rest)?))
+    let strings = Parts::read(PartKind::Text, rest)?;
+    Some((order, preference, Spaced(strings)))
 }
 
 /// A rule that rewrites a name (RFC 3403 4.1).
@@ -192,13 +193,14 @@ fn write_named_form<W: fmt::Write>(
     named: &NamedParts<'_, '_>,
     f: &mut fmt::Formatter<W>,
 ) -> fmt::Result
-    requires { named_size (parts_view named.now) < 65536 }
+    requires few { named_size (parts_view named.now) < 65536 }
+    requires form { IsTrue (has_named_form rtype.0 named.now.behind.now) }
 {
     match rtype {
         Rtype::SIG => write_signature(named, f),
         NXT => {
-            let next = Absolute(named.first);
-            write!(f, "{next}{}", TypeBits(named.behind))
+            write!(f, "{}", Absolute(named.first))?;
+            write_bits(0, named.behind, f)
         }
         _ => write_rule(named, f),
     }

@@ -73,12 +73,6 @@ pub(crate) fn name_front(data: &[u8]) -> Option<(ParsedName<'_>, &[u8])> {
     Some((name, &data[end..]))
 }
 
-/// A name without pointers that fills the data.
-pub(crate) fn sole_name(data: &[u8]) -> Option<ParsedName<'_>> {
-    let (name, rest) = name_front(data)?;
-    if rest.is_empty() { Some(name) } else { None }
-}
-
 /// The IPv6 address of sixteen octets; what lacks is 0.
 pub(crate) fn long_address(octets: &[u8]) -> IpAddr {
     let mut groups = [0; 8];

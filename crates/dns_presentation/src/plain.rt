@@ -1,77 +1,9 @@
-//! The data of types that are strings, numbers and names.
+//! The data of types that are numbers and octets.
 
-use crate::names::Absolute;
 use crate::octets::Hex;
 use crate::parts;
 use crate::strings::{CharacterString, Unquoted};
-use dns_base::ParsedName;
 use std::fmt::{self, Display};
-
-/// Character strings with a blank between, of TXT (RFC 1035 3.3.14) and SPF (RFC 7208 3.1).
-#[derive(Clone, Copy)]
-pub(crate) struct Strings<'a>(&'a [u8]);
-
-impl<'a> Strings<'a> {
-    /// The strings that fill the data; one at least.
-    pub(crate) fn read(data: &'a [u8]) -> Option<Strings<'a>> {
-        let (_, others) = parts::string_front(data)?;
-        let mut rest = others;
-        while !rest.is_empty() {
-            let (_, behind) = parts::string_front(rest)?;
-            rest = behind;
-        }
-        Some(Strings(data))
-    }
-}
-
-impl Display for Strings<'_> {
-    fn fmt<W: fmt::Write>(&self, f: &mut fmt::Formatter<W>) -> fmt::Result {
-        let Some((first, others)) = parts::string_front(self.0) else {
-            return Ok(());
-        };
-        f.write(CharacterString(first))?;
-        let mut rest = others;
-        while let Some((string, behind)) = parts::string_front(rest) {
-            write!(f, " {}", CharacterString(string))?;
-            rest = behind;
-        }
-        Ok(())
-    }
-}
-
-/// Two strings that fill the data, a processor and a system (RFC 1035 3.3.2).
-pub(crate) fn read_hinfo(data: &[u8]) -> Option<Strings<'_>> {
-    let (_, rest) = parts::string_front(data)?;
-    let (_, behind) = parts::string_front(rest)?;
-    if behind.is_empty() {
-        Some(Strings(data))
-    } else {
-        None
-    }
-}
-
-/// A preference and a name, of KX (RFC 2230 3).
-#[derive(Drop)]
-pub(crate) struct Preferred<'a> {
-    preference: u16,
-    name: ParsedName<'a>,
-}
-
-impl<'a> Preferred<'a> {
-    pub(crate) fn read(data: &'a [u8]) -> Option<Preferred<'a>> {
-        let (preference, rest) = parts::u16_front(data)?;
-        let name = parts::sole_name(rest)?;
-        Some(Preferred { preference, name })
-    }
-}
-
-impl Display for Preferred<'_> {
-    fn fmt<W: fmt::Write>(&self, f: &mut fmt::Formatter<W>) -> fmt::Result {
-        let preference = self.preference;
-        let name = Absolute(&self.name);
-        write!(f, "{preference} {name}")
-    }
-}
 
 /// Who may issue certificates (RFC 8659 4.1).
 #[derive(Clone, Copy)]

@@ -1,11 +1,11 @@
 //! The data of DNSSEC's types (RFC 4034, RFC 5155).
 
 use crate::base64::{Base32, Base64};
+use crate::counted::{PartKind, Parts};
 use crate::names::Absolute;
 use crate::octets::Hex;
 use crate::parts;
 use crate::time::Moment;
-use crate::types::TypeSet;
 use dns_base::{ParsedName, Rtype};
 use std::fmt::{self, Display};
 
@@ -165,13 +165,13 @@ impl Display for Rrsig<'_> {
 #[derive(Drop)]
 pub(crate) struct Nsec<'a> {
     next: ParsedName<'a>,
-    types: TypeSet<'a>,
+    types: Parts<'a>,
 }
 
 impl<'a> Nsec<'a> {
     pub(crate) fn read(data: &'a [u8]) -> Option<Nsec<'a>> {
         let (next, rest) = parts::name_front(data)?;
-        let types = TypeSet::read(rest)?;
+        let types = Parts::read(PartKind::Window, rest)?;
         Some(Nsec { next, types })
     }
 }
@@ -235,7 +235,7 @@ impl Display for Hashing<'_> {
 pub(crate) struct Nsec3<'a> {
     hashing: Hashing<'a>,
     next: &'a [u8],
-    types: TypeSet<'a>,
+    types: Parts<'a>,
 }
 
 impl<'a> Nsec3<'a> {
@@ -243,7 +243,7 @@ impl<'a> Nsec3<'a> {
     pub(crate) fn read(data: &'a [u8]) -> Option<Nsec3<'a>> {
         let (hashing, rest) = Hashing::front(data)?;
         let (next, rest) = parts::string_front(rest)?;
-        let types = TypeSet::read(rest)?;
+        let types = Parts::read(PartKind::Window, rest)?;
         if next.is_empty() {
             return None;
         }
