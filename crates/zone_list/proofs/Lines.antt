@@ -7,8 +7,8 @@ use Rattle.dns_names.specs.Name.{Labels}
 use Rattle.dns_values.specs.declared.address.SocketAddr.{SocketAddr}
 use Rattle.resolv_conf.specs.Words.{Words}
 use Rattle.zone_list.specs.Listing.{FileSays, PrimariesSay}
-use Rattle.zone_list.specs.declared.fault.Part.{Part}
-use Rattle.zone_list.specs.declared.fault.Part.TheVariants as parts
+use Rattle.zone_list.specs.declared.fault.ListPart.{ListPart}
+use Rattle.zone_list.specs.declared.fault.ListPart.TheVariants as parts
 use Rattle.zone_list.specs.declared.listed.Listed.{Listed}
 
 pub long_file : (zone : Labels) (file : List ℕ) (words : Words) → 4095 < length file → FileSays (nat_le (length file) 4095) zone file words (Err parts.LongFile)
@@ -21,7 +21,7 @@ long_file zone file words long = go (nat_le (length file) 4095) refl
 file_fits : (file : List ℕ) → length file ≤ 4095 → nat_le (length file) 4095 ≡ true
 file_fits file low = grind (arith, nat_tests)
 
-pub wrong_primary : (zone : Labels) (file : List ℕ) (words : Words) (part : Part) → length file ≤ 4095 → PrimariesSay 1 words (Err part) → FileSays (nat_le (length file) 4095) zone file words (Err part)
+pub wrong_primary : (zone : Labels) (file : List ℕ) (words : Words) (part : ListPart) → length file ≤ 4095 → PrimariesSay 1 words (Err part) → FileSays (nat_le (length file) 4095) zone file words (Err part)
 wrong_primary zone file words part low says = subst (λ (b : Bool). FileSays b zone file words (Err part)) (sym (file_fits file low)) (Err part, says, refl)
 
 pub no_primary : (zone : Labels) (file : List ℕ) (words : Words) (primaries : List SocketAddr) → length file ≤ 4095 → length primaries ≡ 0 → PrimariesSay 1 words (Ok primaries)

@@ -2,10 +2,10 @@
 use Rattle.std.proofs.Common.{◌≡◌, ◌≤◌, ℕ, ◌+◌, List, [], ◌∷◌, ◌++◌, length, refl, ap, sym, subst, ◌∙◌, append_assoc, append-nil, arith, Option, None, Some, Result, Ok, Err}
 use Rattle.zone_list.specs.Listing.{Follows, LineSays, LinesSay, Said, TellsFault, with_zone}
 use Rattle.zone_list.specs.Telling.{Tells, at_line}
-use Rattle.zone_list.specs.declared.fault.LineFault.{LineFault}
-use Rattle.zone_list.specs.declared.fault.LineFault.TheVariants as faults
+use Rattle.zone_list.specs.declared.fault.EntryFault.{EntryFault}
+use Rattle.zone_list.specs.declared.fault.EntryFault.TheVariants as faults
 use Rattle.zone_list.specs.declared.fault.ListFault.{ListFault}
-use Rattle.zone_list.specs.declared.fault.Part.{Part}
+use Rattle.zone_list.specs.declared.fault.ListPart.{ListPart}
 use Rattle.zone_list.specs.declared.fault.WrongLine.{WrongLine}
 use Rattle.zone_list.specs.declared.listed.Listed.{Listed}
 use Rattle.resolv_conf.specs.Words.{lines_of}
@@ -48,14 +48,14 @@ nothing_follows all left lines zones number line is one leads = record {
       leads.says said (subst (λ (ls : List (List ℕ)). LinesSay number ls said) (sym is) here);
 }
 
-wrong_follows : (all left lines : List (List ℕ)) (zones : List Listed) (number : ℕ) (line : List ℕ) (part : Part) → left ≡ line ∷ lines → LineSays line (Err part) → Leads all zones number left
+wrong_follows : (all left lines : List (List ℕ)) (zones : List Listed) (number : ℕ) (line : List ℕ) (part : ListPart) → left ≡ line ∷ lines → LineSays line (Err part) → Leads all zones number left
     → LinesSay 1 all (Err (record { line = number; part = part }))
 wrong_follows all left lines zones number line part is one leads =
     let at : WrongLine = record { line = number; part = part } in
     let here : LinesSay number (line ∷ lines) (Err at) = (Err part, one, refl) in
     leads.says (Err at) (subst (λ (ls : List (List ℕ)). LinesSay number ls (Err at)) (sym is) here)
 
-pub fault_follows : (text : List ℕ) (left lines : List (List ℕ)) (zones : List Listed) (number : ℕ) (line : List ℕ) (fault : LineFault) (why : ListFault) → length text ≤ 16777216 → why ≡ at_line number fault → left ≡ line ∷ lines
+pub fault_follows : (text : List ℕ) (left lines : List (List ℕ)) (zones : List Listed) (number : ℕ) (line : List ℕ) (fault : EntryFault) (why : ListFault) → length text ≤ 16777216 → why ≡ at_line number fault → left ≡ line ∷ lines
     → Tells (LineSays line) (Err fault) → Leads (lines_of text) zones number left → TellsFault text why
 fault_follows text left lines zones number line (faults.Wrong part) why fits is are one leads = subst (TellsFault text) (sym is) (fits, wrong_follows (lines_of text) left lines zones number line part are one leads)
 fault_follows text left lines zones number line faults.NoMemory why fits is are one leads = subst (TellsFault text) (sym is) tt

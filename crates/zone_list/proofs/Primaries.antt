@@ -5,19 +5,19 @@ use Rattle.dns_values.specs.declared.address.SocketAddr.{SocketAddr}
 use Rattle.resolv_conf.specs.Words.{Words}
 use Rattle.zone_list.specs.Listing.{IsAlone, IsAtPort, IsNoPrimary, IsPrimary, IsPrimaryAt, PrimariesSay, host_and_port, with_primary}
 use Rattle.zone_list.specs.Telling.{IsNone}
-use Rattle.zone_list.specs.declared.fault.Part.{Part}
-use Rattle.zone_list.specs.declared.fault.Part.TheVariants as parts
+use Rattle.zone_list.specs.declared.fault.ListPart.{ListPart}
+use Rattle.zone_list.specs.declared.fault.ListPart.TheVariants as parts
 
 -- primaries before those that words say
-abbrev pub put_primaries : List SocketAddr → Result (List SocketAddr) Part → Result (List SocketAddr) Part
+abbrev pub put_primaries : List SocketAddr → Result (List SocketAddr) ListPart → Result (List SocketAddr) ListPart
 put_primaries primaries (Ok more) = Ok (primaries ++ more)
 put_primaries primaries (Err part) = Err part
 
 -- Of all words these primaries come first, and what is said of the words that are left, from this place on, is said of all.
 pub record Leads (all : Words) (primaries : List SocketAddr) (place : ℕ) (left : Words) : Type 0 where
-  pub says : (said : Result (List SocketAddr) Part) → PrimariesSay place left said → PrimariesSay 1 all (put_primaries primaries said)
+  pub says : (said : Result (List SocketAddr) ListPart) → PrimariesSay place left said → PrimariesSay 1 all (put_primaries primaries said)
 
-put_none : (said : Result (List SocketAddr) Part) → said ≡ put_primaries [] said
+put_none : (said : Result (List SocketAddr) ListPart) → said ≡ put_primaries [] said
 put_none (Ok more) = refl
 put_none (Err part) = refl
 
@@ -26,7 +26,7 @@ leads_all all primaries none = record {
   says = λ said says. subst (PrimariesSay 1 all) (put_none said ∙ ap (λ (ps : List SocketAddr). put_primaries ps said) (sym none)) says;
 }
 
-put_one : (primaries : List SocketAddr) (primary : SocketAddr) (said : Result (List SocketAddr) Part) → put_primaries primaries (with_primary primary said) ≡ put_primaries (primaries ++ primary ∷ []) said
+put_one : (primaries : List SocketAddr) (primary : SocketAddr) (said : Result (List SocketAddr) ListPart) → put_primaries primaries (with_primary primary said) ≡ put_primaries (primaries ++ primary ∷ []) said
 put_one primaries primary (Ok more) = ap Ok (sym (append_assoc primaries (primary ∷ []) more))
 put_one primaries primary (Err part) = refl
 

@@ -12,7 +12,7 @@ use Rattle.dns_values.specs.declared.address.SocketAddr.{SocketAddr}
 use Rattle.resolv_conf.specs.Words.{Words, lines_of, words_of}
 use Rattle.zone_list.specs.Laws.{OneReadingLaw}
 use Rattle.zone_list.specs.Listing.{FileSays, FirstSays, Follows, IsPrimary, IsPrimaryAt, LineSays, LinesSay, PrimariesSay, Said, WordsSay, ZoneSays, host_and_port, is_comment, with_primary, with_zone, zone_with}
-use Rattle.zone_list.specs.declared.fault.Part.{Part}
+use Rattle.zone_list.specs.declared.fault.ListPart.{ListPart}
 use Rattle.zone_list.specs.declared.listed.Listed.{Listed}
 
 -- ---- primaries
@@ -30,7 +30,7 @@ one_at None word p q h k = same_place p q (one_address word p.ip q.ip h.0 k.0) (
 one_at (Some cut) word p q h k = same_place p q (one_address cut.0 p.ip q.ip h.0 k.0) (some_same p.port q.port (sym h.1 ∙ k.1))
 
 abbrev Primaries : Type 0
-Primaries = Result (List SocketAddr) Part
+Primaries = Result (List SocketAddr) ListPart
 
 primaries_one : (place : ℕ) (words : Words) (a b : Primaries) → PrimariesSay place words a → PrimariesSay place words b → a ≡ b
 primaries_one place [] a b h k = h ∙ sym k
@@ -45,7 +45,7 @@ primaries_one place (word ∷ words) a b (inr h) (inr k) =
 -- ---- a line
 
 abbrev One : Type 0
-One = Result (Option Listed) Part
+One = Result (Option Listed) ListPart
 
 file_one : (fits : Bool) (zone : Labels) (file : List ℕ) (words : Words) (a b : One) → FileSays fits zone file words a → FileSays fits zone file words b → a ≡ b
 file_one false zone file words a b h k = h ∙ sym k

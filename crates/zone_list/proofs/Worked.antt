@@ -12,7 +12,7 @@ use Rattle.dns_values.specs.declared.address.IpAddr.TheVariants.{V4, V6}
 use Rattle.dns_values.specs.declared.address.SocketAddr.{SocketAddr}
 use Rattle.resolv_conf.specs.Words.{lines_of, words_of}
 use Rattle.zone_list.specs.Listing.{FileSays, IsNoPrimary, IsPrimary, LineSays, PrimariesSay, TextSays, WordsSay, ZoneSays, host_and_port}
-use Rattle.zone_list.specs.declared.fault.Part.TheVariants as parts
+use Rattle.zone_list.specs.declared.fault.ListPart.TheVariants as parts
 use Rattle.zone_list.specs.declared.listed.Listed.{Listed}
 
 -- ---- a primary

@@ -11,8 +11,8 @@ use Rattle.dns_values.specs.declared.address.SocketAddr.{SocketAddr}
 use Rattle.resolv_conf.specs.Words.{Words, lines_of, words_of}
 use Rattle.zone_list.specs.declared.fault.ListFault.{ListFault}
 use Rattle.zone_list.specs.declared.fault.ListFault.TheVariants as faults
-use Rattle.zone_list.specs.declared.fault.Part.{Part}
-use Rattle.zone_list.specs.declared.fault.Part.TheVariants as parts
+use Rattle.zone_list.specs.declared.fault.ListPart.{ListPart}
+use Rattle.zone_list.specs.declared.fault.ListPart.TheVariants as parts
 use Rattle.zone_list.specs.declared.fault.WrongLine.{WrongLine}
 use Rattle.zone_list.specs.declared.listed.Listed.{Listed}
 
@@ -41,36 +41,36 @@ IsNoPrimary word = (primary : SocketAddr) → ¬ (IsPrimary word primary)
 
 -- ---- primaries
 
-abbrev pub with_primary : SocketAddr → Result (List SocketAddr) Part → Result (List SocketAddr) Part
+abbrev pub with_primary : SocketAddr → Result (List SocketAddr) ListPart → Result (List SocketAddr) ListPart
 with_primary primary (Ok primaries) = Ok (primary ∷ primaries)
 with_primary primary (Err part) = Err part
 
 -- The words from this place on are primaries, or the first of them that is none.
-abbrev pub PrimariesSay : ℕ → Words → Result (List SocketAddr) Part → Type 0
+abbrev pub PrimariesSay : ℕ → Words → Result (List SocketAddr) ListPart → Type 0
 PrimariesSay place [] said = said ≡ Ok []
 PrimariesSay place (word ∷ words) said =
     (IsNoPrimary word × (said ≡ Err (parts.Primary place)))
-    ⊎ ((primary : SocketAddr) × (more : Result (List SocketAddr) Part) × IsPrimary word primary × PrimariesSay (place + 1) words more × (said ≡ with_primary primary more))
+    ⊎ ((primary : SocketAddr) × (more : Result (List SocketAddr) ListPart) × IsPrimary word primary × PrimariesSay (place + 1) words more × (said ≡ with_primary primary more))
 
 -- ---- a line
 
 -- a zone has one primary at least
-abbrev pub zone_with : (zone : Labels) (file : List ℕ) → Result (List SocketAddr) Part → Result (Option Listed) Part
+abbrev pub zone_with : (zone : Labels) (file : List ℕ) → Result (List SocketAddr) ListPart → Result (Option Listed) ListPart
 zone_with zone file (Ok []) = Err parts.Primaries
 zone_with zone file (Ok (primary ∷ primaries)) = Ok (Some (record { zone = zone; file = file; primaries = primary ∷ primaries }))
 zone_with zone file (Err part) = Err part
 
 -- A path of more than 4095 octets opens no file.
-abbrev pub FileSays : (fits : Bool) → (zone : Labels) (file : List ℕ) → Words → Result (Option Listed) Part → Type 0
+abbrev pub FileSays : (fits : Bool) → (zone : Labels) (file : List ℕ) → Words → Result (Option Listed) ListPart → Type 0
 FileSays false zone file words said = said ≡ Err parts.LongFile
-FileSays true zone file words said = (primaries : Result (List SocketAddr) Part) × PrimariesSay 1 words primaries × (said ≡ zone_with zone file primaries)
+FileSays true zone file words said = (primaries : Result (List SocketAddr) ListPart) × PrimariesSay 1 words primaries × (said ≡ zone_with zone file primaries)
 
 -- the zone that a word names
-abbrev pub NameSays : Result Labels NameFault → Result Labels Part → Type 0
+abbrev pub NameSays : Result Labels NameFault → Result Labels ListPart → Type 0
 NameSays (Err fault) said = said ≡ Err parts.Zone
 NameSays (Ok zone) said = said ≡ Ok zone
 
-abbrev pub ZoneSays : Result Labels NameFault → Words → Result (Option Listed) Part → Type 0
+abbrev pub ZoneSays : Result Labels NameFault → Words → Result (Option Listed) ListPart → Type 0
 ZoneSays (Err fault) words said = said ≡ Err parts.Zone
 ZoneSays (Ok zone) [] said = said ≡ Err parts.File
 ZoneSays (Ok zone) (file ∷ words) said = FileSays (nat_le (length file) 4095) zone file words said
@@ -80,17 +80,17 @@ abbrev pub is_comment : List ℕ → Bool
 is_comment [] = false
 is_comment (c ∷ word) = c == 35
 
-abbrev pub FirstSays : (comment : Bool) → List ℕ → Words → Result (Option Listed) Part → Type 0
+abbrev pub FirstSays : (comment : Bool) → List ℕ → Words → Result (Option Listed) ListPart → Type 0
 FirstSays true zone words said = said ≡ Ok None
 FirstSays false zone words said = ZoneSays (name_of_text zone) words said
 
 -- A line without words says nothing, nor does one whose first word is a comment.
-abbrev pub WordsSay : Words → Result (Option Listed) Part → Type 0
+abbrev pub WordsSay : Words → Result (Option Listed) ListPart → Type 0
 WordsSay [] said = said ≡ Ok None
 WordsSay (first ∷ words) said = FirstSays (is_comment first) first words said
 
 -- A line, which is text, names a zone, or names none, or this is wrong with it.
-abbrev pub LineSays : List ℕ → Result (Option Listed) Part → Type 0
+abbrev pub LineSays : List ℕ → Result (Option Listed) ListPart → Type 0
 LineSays line said = (IsUtf8 line × WordsSay (words_of line) said) ⊎ (¬ (IsUtf8 line) × (said ≡ Err parts.Text))
 
 -- ---- lines
@@ -103,7 +103,7 @@ with_zone item (Ok items) = Ok (item ∷ items)
 with_zone item (Err at) = Err at
 
 -- A wrong line ends the list; one that names a zone stands before what the lines behind it say.
-abbrev pub Follows : ℕ → Result (Option Listed) Part → (behind : Said → Type 0) → Said → Type 0
+abbrev pub Follows : ℕ → Result (Option Listed) ListPart → (behind : Said → Type 0) → Said → Type 0
 Follows number (Err part) behind said = said ≡ Err (record { line = number; part = part })
 Follows number (Ok None) behind said = behind said
 Follows number (Ok (Some item)) behind said = (more : Said) × behind more × (said ≡ with_zone item more)
@@ -111,7 +111,7 @@ Follows number (Ok (Some item)) behind said = (more : Said) × behind more × (s
 -- the zones of the lines from this number on, in order, or the first line that is wrong
 abbrev pub LinesSay : ℕ → List (List ℕ) → Said → Type 0
 LinesSay number [] said = said ≡ Ok []
-LinesSay number (line ∷ lines) said = (one : Result (Option Listed) Part) × LineSays line one × Follows number one (LinesSay (number + 1) lines) said
+LinesSay number (line ∷ lines) said = (one : Result (Option Listed) ListPart) × LineSays line one × Follows number one (LinesSay (number + 1) lines) said
 
 abbrev pub TextSays : List ℕ → Said → Type 0
 TextSays text said = LinesSay 1 (lines_of text) said

@@ -2,13 +2,13 @@
 
 ghost use Rattle.std.specs.Prelude.{◌≡◌};
 ghost use Rattle.zone_list.specs.Telling.{at_line};
-ghost use Rattle.zone_list.specs.declared.fault.LineFault.TheVariants as faults;
+ghost use Rattle.zone_list.specs.declared.fault.EntryFault.TheVariants as faults;
 
 use dns_base::NoMemory;
 
 /// What is wrong with a line.
 #[derive(Clone, Copy, Debug, PartialEq, Eq)]
-pub enum Part {
+pub enum ListPart {
     /// It is no text in UTF-8.
     Text,
     /// The zone is no name.
@@ -28,7 +28,7 @@ pub enum Part {
 pub struct WrongLine {
     /// Its number, counted from 1.
     pub line: usize,
-    pub part: Part,
+    pub part: ListPart,
 }
 
 /// Why a list is not read.
@@ -42,27 +42,27 @@ pub enum ListFault {
 
 /// Why a line is not read.
 #[derive(Clone, Copy)]
-pub(crate) enum LineFault {
-    Wrong(Part),
+pub(crate) enum EntryFault {
+    Wrong(ListPart),
     NoMemory,
 }
 
-impl LineFault {
+impl EntryFault {
     /// The same of the line of a number.
     pub(crate) fn at(self, line: usize) -> ListFault
         ensures { result ≡ at_line line self }
     {
         match self {
-            LineFault::Wrong(part) => ListFault::Wrong(WrongLine { line, part }),
-            LineFault::NoMemory => ListFault::NoMemory,
+            EntryFault::Wrong(part) => ListFault::Wrong(WrongLine { line, part }),
+            EntryFault::NoMemory => ListFault::NoMemory,
         }
     }
 }
 
-impl From<NoMemory> for LineFault {
+impl From<NoMemory> for EntryFault {
     ghost from_gives = { λ _ e. e ≡ faults.NoMemory };
 
-    fn from(_e: NoMemory) -> LineFault {
-        LineFault::NoMemory
+    fn from(_e: NoMemory) -> EntryFault {
+        EntryFault::NoMemory
     }
 }

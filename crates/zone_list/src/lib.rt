@@ -16,7 +16,7 @@ mod listed;
 mod primary;
 mod words;
 
-pub use fault::{ListFault, Part, WrongLine};
+pub use fault::{ListFault, ListPart, WrongLine};
 pub use laws::one_reading_law;
 pub use list::zones_of;
 pub use listed::{FilePath, Listed};

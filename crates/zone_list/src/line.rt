@@ -7,7 +7,7 @@ ghost use Rattle.resolv_conf.specs.Words.{words_of};
 ghost use Rattle.zone_list.specs.Listing.{FileSays, LineSays, NameSays, WordsSay, ZoneSays, is_comment};
 ghost use Rattle.zone_list.specs.Telling.{Tells};
 
-use crate::fault::{LineFault, Part};
+use crate::fault::{EntryFault, ListPart};
 use crate::listed::{FilePath, Listed};
 use crate::primary::primaries_of;
 use crate::words::next_word;
@@ -19,13 +19,13 @@ use std::str::{self, SplitWhitespace};
 const MOST_PATH: usize = 4095;
 
 /// The zone that a word names.
-fn zone_of(alloc: Global, word: &str) -> Result<Name, LineFault>
+fn zone_of(alloc: Global, word: &str) -> Result<Name, EntryFault>
     ensures { Tells (NameSays (name_of_text word.now)) result }
 {
     match Name::from_text(alloc, word) {
         Ok(zone) => Ok(zone),
-        Err(NameFault::NoMemory) => Err(LineFault::NoMemory),
-        Err(_) => Err(LineFault::Wrong(Part::Zone)),
+        Err(NameFault::NoMemory) => Err(EntryFault::NoMemory),
+        Err(_) => Err(EntryFault::Wrong(ListPart::Zone)),
     }
 }
 
@@ -36,17 +36,17 @@ fn listed(
     zone: Name,
     file: &str,
     words: SplitWhitespace<'_>,
-) -> Result<Option<Listed>, LineFault>
+) -> Result<Option<Listed>, EntryFault>
     requires { length (split_whitespace_rest words) < 2 ^ 63 }
     ensures { Tells (FileSays (nat_le (length file.now) 4095) zone file.now (words_of (split_whitespace_rest words.entry))) result }
 {
     if file.len() > MOST_PATH {
-        return Err(LineFault::Wrong(Part::LongFile));
+        return Err(EntryFault::Wrong(ListPart::LongFile));
     }
     let file = FilePath::new(alloc, file)?;
     let primaries = primaries_of(alloc, words)?;
     if primaries.is_empty() {
-        return Err(LineFault::Wrong(Part::Primaries));
+        return Err(EntryFault::Wrong(ListPart::Primaries));
     }
     Ok(Some(Listed {
         zone,
@@ -60,14 +60,14 @@ fn named(
     alloc: Global,
     first: &str,
     mut words: SplitWhitespace<'_>,
-) -> Result<Option<Listed>, LineFault>
+) -> Result<Option<Listed>, EntryFault>
     requires { length (split_whitespace_rest words) < 2 ^ 63 }
     ensures { Tells (ZoneSays (name_of_text first.now) (words_of (split_whitespace_rest words.entry))) result }
 {
     let zone = zone_of(alloc, first)?;
     match next_word(&mut words) {
         Some(file) => listed(alloc, zone, file, words),
-        None => Err(LineFault::Wrong(Part::File)),
+        None => Err(EntryFault::Wrong(ListPart::File)),
     }
 }
 
@@ -82,7 +82,7 @@ fn is_comment(word: &str) -> bool
 }
 
 /// What the words of a line say.
-fn words_say(alloc: Global, line: &str) -> Result<Option<Listed>, LineFault>
+fn words_say(alloc: Global, line: &str) -> Result<Option<Listed>, EntryFault>
     ensures { Tells (WordsSay (words_of line.now)) result }
 {
     let mut words = line.split_whitespace();
@@ -96,11 +96,11 @@ fn words_say(alloc: Global, line: &str) -> Result<Option<Listed>, LineFault>
 }
 
 /// What a line says, without its line feed.
-pub(crate) fn line_says(alloc: Global, line: &[u8]) -> Result<Option<Listed>, LineFault>
+pub(crate) fn line_says(alloc: Global, line: &[u8]) -> Result<Option<Listed>, EntryFault>
     ensures { Tells (LineSays line.now) result }
 {
     match str::from_utf8(line) {
         Ok(line) => words_say(alloc, line),
-        Err(_) => Err(LineFault::Wrong(Part::Text)),
+        Err(_) => Err(EntryFault::Wrong(ListPart::Text)),
     }
 }

@@ -45,7 +45,7 @@ pub fn zones_of(alloc: Global, text: &[u8]) -> Result<Vec<Listed>, ListFault>
 #[cfg(test)]
 mod tests {
     use super::*;
-    use crate::fault::{Part, WrongLine};
+    use crate::fault::{ListPart, WrongLine};
     use dns_base::IpAddr;
     use std::test::Fail;
 
@@ -75,13 +75,17 @@ mod tests {
     #[test]
     fn names_the_first_wrong_line(rt: HostRuntime) {
         for (text, line, part) in [
-            (b"a f 192.0.2.1\nb f\nc".as_slice(), 2, Part::Primaries),
-            (b"a f ns.example".as_slice(), 1, Part::Primary(1)),
-            (b"a f 192.0.2.1 192.0.2.2@0".as_slice(), 1, Part::Primary(2)),
-            (b"a f 192.0.2.1@65536".as_slice(), 1, Part::Primary(1)),
-            (b"#\n\na..b f 192.0.2.1".as_slice(), 3, Part::Zone),
-            (b"a".as_slice(), 1, Part::File),
-            (b"a \xff 192.0.2.1".as_slice(), 1, Part::Text),
+            (b"a f 192.0.2.1\nb f\nc".as_slice(), 2, ListPart::Primaries),
+            (b"a f ns.example".as_slice(), 1, ListPart::Primary(1)),
+            (
+                b"a f 192.0.2.1 192.0.2.2@0".as_slice(),
+                1,
+                ListPart::Primary(2),
+            ),
+            (b"a f 192.0.2.1@65536".as_slice(), 1, ListPart::Primary(1)),
+            (b"#\n\na..b f 192.0.2.1".as_slice(), 3, ListPart::Zone),
+            (b"a".as_slice(), 1, ListPart::File),
+            (b"a \xff 192.0.2.1".as_slice(), 1, ListPart::Text),
         ] {
             assert_eq!(rt; wrong(&rt, text), Some(WrongLine { line, part }));
         }

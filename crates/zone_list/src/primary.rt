@@ -6,7 +6,7 @@ ghost use Rattle.resolv_conf.specs.Words.{words_of};
 ghost use Rattle.zone_list.specs.Listing.{IsAlone, IsAtPort, IsNoPrimary, IsPrimary, PrimariesSay, host_and_port};
 ghost use Rattle.zone_list.specs.Telling.{IsNone, Tells};
 
-use crate::fault::{LineFault, Part};
+use crate::fault::{EntryFault, ListPart};
 use crate::words::next_word;
 use command_parts::number_in;
 use dns_base::{IpAddr, SocketAddr};
@@ -67,7 +67,7 @@ fn primary_of(word: &str) -> Option<SocketAddr>
 pub(crate) fn primaries_of(
     alloc: Global,
     mut words: SplitWhitespace<'_>,
-) -> Result<Seq<SocketAddr>, LineFault>
+) -> Result<Seq<SocketAddr>, EntryFault>
     requires { length (split_whitespace_rest words) < 2 ^ 63 }
     ensures { Tells (PrimariesSay 1 (words_of (split_whitespace_rest words.entry))) result }
 {
@@ -75,7 +75,7 @@ pub(crate) fn primaries_of(
     let mut place = 1;
     while let Some(word) = next_word(&mut words) {
         let Some(primary) = primary_of(word) else {
-            return Err(LineFault::Wrong(Part::Primary(place)));
+            return Err(EntryFault::Wrong(ListPart::Primary(place)));
         };
         primaries.push(primary)?;
         place += 1;

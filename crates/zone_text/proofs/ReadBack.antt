@@ -21,7 +21,7 @@ use Rattle.zone_text.specs.Laws.{IsWritable}
 use Rattle.zone_text.specs.Lines.{IsLine, IsText, front_text, is_rare, line_more, line_text, no_line, owner_text, type_word}
 use Rattle.zone_text.specs.Saying.{class_says, data_says, line_says, owner_says, record_says, says_from, ttl_says, type_says, with_record, Said}
 use Rattle.zone_text.specs.Words.{behind_last, cut_at}
-use Rattle.zone_text.specs.declared.fault.Part.{Part}
+use Rattle.zone_text.specs.declared.fault.LinePart.{LinePart}
 use Rattle.zone_text.proofs.Above.{above_lacks, class_above, decimal_above, hex_lacks_semicolon, name_above, word_above}
 use Rattle.zone_text.proofs.Said.{first_cut, said_first}
 use Rattle.zone_text.proofs.Lacking.{Lacks, hex_no_feed, lacks_append}

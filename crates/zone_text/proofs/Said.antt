@@ -3,8 +3,8 @@ use Rattle.std.proofs.Common.{◌≡◌, ◌≢◌, ℕ, ◌+◌, List, [], ◌�
 use Rattle.zone_records.specs.declared.record.ZoneRecord.{ZoneRecord}
 use Rattle.zone_text.specs.Words.{cut_at, pieces_at}
 use Rattle.zone_text.specs.Saying.{Said, beside, end_says, first_says, line_says, lines_say, or_wrong, says_from, with_line, with_record, wrong, ◌>>=◌}
-use Rattle.zone_text.specs.declared.fault.Part.{Part}
-use Rattle.zone_text.specs.declared.fault.Part.TheVariants as parts
+use Rattle.zone_text.specs.declared.fault.LinePart.{LinePart}
+use Rattle.zone_text.specs.declared.fault.LinePart.TheVariants as parts
 use Rattle.zone_text.proofs.Cuts.{cut_shorter, pieces_cut, pieces_some, pieces_whole}
 
 -- records before those that are said
@@ -22,14 +22,14 @@ one_more records item (Ok more) = ap Ok (sym (append_assoc records (item ∷ [])
 
 -- ---- the first line
 
-found_same : (x y : ZoneRecord × List ℕ) → ◌≡◌ {A = Result (ZoneRecord × List ℕ) Part} (Ok x) (Ok y) → (x.0 ≡ y.0) × (x.1 ≡ y.1)
+found_same : (x y : ZoneRecord × List ℕ) → ◌≡◌ {A = Result (ZoneRecord × List ℕ) LinePart} (Ok x) (Ok y) → (x.0 ≡ y.0) × (x.1 ≡ y.1)
 found_same x y e = let same : x ≡ y = cc in (ap (λ (p : ZoneRecord × List ℕ). p.0) same, ap (λ (p : ZoneRecord × List ℕ). p.1) same)
 
-beside_ok : (said : Result ZoneRecord Part) (cut behind : List ℕ) (item : ZoneRecord) → beside cut said ≡ Ok (item, behind) → (said ≡ Ok item) × (cut ≡ behind)
+beside_ok : (said : Result ZoneRecord LinePart) (cut behind : List ℕ) (item : ZoneRecord) → beside cut said ≡ Ok (item, behind) → (said ≡ Ok item) × (cut ≡ behind)
 beside_ok (Err part) cut behind item e = absurd cc
 beside_ok (Ok it) cut behind item e = let same = found_same (it, cut) (item, behind) e in (ap (λ (r : ZoneRecord). Ok r) same.0, same.1)
 
-beside_err : (said : Result ZoneRecord Part) (cut : List ℕ) (part : Part) → beside cut said ≡ Err part → said ≡ Err part
+beside_err : (said : Result ZoneRecord LinePart) (cut : List ℕ) (part : LinePart) → beside cut said ≡ Err part → said ≡ Err part
 beside_err (Err other) cut part e = let same : other ≡ part = cc in ap Err same
 beside_err (Ok it) cut part e = absurd cc
 
@@ -49,24 +49,24 @@ said_first line text behind item e = go (cut_at 10 text) refl
     go (Some x) c =
         let here : first_says text ≡ beside x.1 (line_says x.0) = rw c refl in
         let found = beside_ok (line_says x.0) x.1 behind item (sym here ∙ e) in
-        says_cut line text x.0 x.1 c ∙ (ap (λ (r : Result ZoneRecord Part). with_line line r (says_from (line + 1) x.1)) found.0 ∙ ap (λ (t : List ℕ). with_record item (says_from (line + 1) t)) found.1)
+        says_cut line text x.0 x.1 c ∙ (ap (λ (r : Result ZoneRecord LinePart). with_line line r (says_from (line + 1) x.1)) found.0 ∙ ap (λ (t : List ℕ). with_record item (says_from (line + 1) t)) found.1)
 
 last_line : (line : ℕ) (text : List ℕ) → length text ≢ 0 → end_says line text ≡ Err (wrong line parts.End)
 last_line line [] some = absurd (some refl)
 last_line line (c ∷ text) some = refl
 
-pub said_wrong : (line : ℕ) (text : List ℕ) (part : Part) → length text ≢ 0 → first_says text ≡ Err part → says_from line text ≡ Err (wrong line part)
+pub said_wrong : (line : ℕ) (text : List ℕ) (part : LinePart) → length text ≢ 0 → first_says text ≡ Err part → says_from line text ≡ Err (wrong line part)
 said_wrong line text part some e = go (cut_at 10 text) refl
   where
     go : (cut : Option (List ℕ × List ℕ)) → cut_at 10 text ≡ cut → says_from line text ≡ Err (wrong line part)
     go None c =
         let none : first_says text ≡ Err parts.End = rw c refl in
         let same : parts.End ≡ part = cc in
-        ap (lines_say line) (pieces_whole 10 text c) ∙ (last_line line text some ∙ ap (λ (p : Part). Err (wrong line p)) same)
+        ap (lines_say line) (pieces_whole 10 text c) ∙ (last_line line text some ∙ ap (λ (p : LinePart). Err (wrong line p)) same)
     go (Some x) c =
         let here : first_says text ≡ beside x.1 (line_says x.0) = rw c refl in
         let bad : line_says x.0 ≡ Err part = beside_err (line_says x.0) x.1 part (sym here ∙ e) in
-        says_cut line text x.0 x.1 c ∙ ap (λ (r : Result ZoneRecord Part). with_line line r (says_from (line + 1) x.1)) bad
+        says_cut line text x.0 x.1 c ∙ ap (λ (r : Result ZoneRecord LinePart). with_line line r (says_from (line + 1) x.1)) bad
 
 -- ---- the loop over lines
 
@@ -75,7 +75,7 @@ pub record_more : (records after : List ZoneRecord) (item : ZoneRecord) (line : 
 record_more records after item line text behind whole e more so_far =
     so_far ∙ (ap (put_records records) (said_first line text behind item e) ∙ (one_more records item (says_from (line + 1) behind) ∙ ap (λ (xs : List ZoneRecord). put_records xs (says_from (line + 1) behind)) (sym more)))
 
-pub line_wrong : (records : List ZoneRecord) (line : ℕ) (text : List ℕ) (part : Part) (whole : Said) → length text ≢ 0 → first_says text ≡ Err part
+pub line_wrong : (records : List ZoneRecord) (line : ℕ) (text : List ℕ) (part : LinePart) (whole : Said) → length text ≢ 0 → first_says text ≡ Err part
     → whole ≡ put_records records (says_from line text) → whole ≡ Err (wrong line part)
 line_wrong records line text part whole some e so_far = so_far ∙ ap (put_records records) (said_wrong line text part some e)
 

@@ -7,7 +7,7 @@ use Rattle.dns_presentation.specs.Octets.{octets_of_hex}
 use Rattle.zone_records.specs.declared.record.ZoneRecord.{ZoneRecord}
 use Rattle.zone_text.specs.Saying.{data_says, line_says, text_says}
 use Rattle.zone_text.specs.Words.{behind_last, cut_at, pieces_at}
-use Rattle.zone_text.specs.declared.fault.Part.TheVariants as parts
+use Rattle.zone_text.specs.declared.fault.LinePart.TheVariants as parts
 
 abbrev address : ZoneRecord
 address = record { owner = 1 ∷ 97 ∷ 4 ∷ codes "test" ++ 0 ∷ []; rtype = record { 0 = 1 }; class = record { 0 = 1 }; ttl = record { 0 = 300 }; rdata = 192 ∷ 0 ∷ 2 ∷ 1 ∷ [] }

@@ -1,11 +1,11 @@
 -- What is told of octets that have no zone.
 use Rattle.std.specs.Prelude.{ℕ, List, ◌++◌, codes, decimal}
-use Rattle.zone_text.specs.declared.fault.Part.{Part}
-use Rattle.zone_text.specs.declared.fault.Part.TheVariants as parts
+use Rattle.zone_text.specs.declared.fault.LinePart.{LinePart}
+use Rattle.zone_text.specs.declared.fault.LinePart.TheVariants as parts
 use Rattle.zone_text.specs.declared.zone.Flaw.{Flaw}
 use Rattle.zone_text.specs.declared.zone.Flaw.TheVariants as flaws
 
-abbrev pub part_text : Part → List ℕ
+abbrev pub part_text : LinePart → List ℕ
 part_text parts.End = codes "no line feed behind it"
 part_text parts.Words = codes "fewer than five words"
 part_text parts.Owner = codes "the owner is no name"

@@ -2,14 +2,14 @@
 
 ghost use Rattle.std.specs.Prelude.{◌≡◌};
 ghost use Rattle.zone_text.specs.Saying.{wrong};
-ghost use Rattle.zone_text.specs.declared.fault.Fault.TheVariants as faults;
+ghost use Rattle.zone_text.specs.declared.fault.PartFault.TheVariants as faults;
 ghost use Rattle.zone_text.specs.declared.fault.TextFault.TheVariants as texts;
 
 use dns_base::NoMemory;
 
 /// What is wrong with a line.
 #[derive(Clone, Copy, Debug, PartialEq, Eq)]
-pub enum Part {
+pub enum LinePart {
     /// No line feed ends it.
     End,
     /// It has fewer than five words.
@@ -31,7 +31,7 @@ pub enum Part {
 pub struct WrongLine {
     /// Its number, counted from 1.
     pub line: usize,
-    pub part: Part,
+    pub part: LinePart,
 }
 
 /// Why the records of a text are not read.
@@ -51,15 +51,15 @@ impl From<NoMemory> for TextFault {
 
 /// Why a part of a line is not read.
 #[derive(Clone, Copy)]
-pub(crate) enum Fault {
-    Wrong(Part),
+pub(crate) enum PartFault {
+    Wrong(LinePart),
     NoMemory,
 }
 
-impl From<NoMemory> for Fault {
+impl From<NoMemory> for PartFault {
     ghost from_gives = { λ _ e. e ≡ faults.NoMemory };
 
-    fn from(_e: NoMemory) -> Fault {
-        Fault::NoMemory
+    fn from(_e: NoMemory) -> PartFault {
+        PartFault::NoMemory
     }
 }

@@ -20,7 +20,7 @@ mod shown;
 mod telling;
 mod zone;
 
-pub use fault::{Part, TextFault, WrongLine};
+pub use fault::{LinePart, TextFault, WrongLine};
 pub use laws::{numbers_back_law, read_back_law};
 pub use lines::write_text;
 pub use reading::records_of;

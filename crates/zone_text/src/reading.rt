@@ -7,62 +7,62 @@ ghost use Rattle.zone_text.specs.Saying.{Tells, TellsFault, TellsOctets, TellsPa
 
 use crate::cutting::{behind_last, cut_at};
 use crate::digits::octets_of;
-use crate::fault::{Fault, Part, TextFault, WrongLine};
+use crate::fault::{LinePart, PartFault, TextFault, WrongLine};
 use dns_base::{Class, Name, NameFault, NoMemory, Rtype, Ttl};
 use dns_values::decimal_number;
 use std::alloc::Global;
 use zone_records::{OctetList, ZoneRecord};
 
 /// The octets of an owner, in lower case.
-fn owner_says(alloc: Global, word: &str) -> Result<OctetList, Fault>
+fn owner_says(alloc: Global, word: &str) -> Result<OctetList, PartFault>
     ensures { Tells (owner_says word.now) result }
 {
     let name = match Name::from_text(alloc, word) {
         Ok(name) => name,
-        Err(NameFault::NoMemory) => return Err(Fault::NoMemory),
-        Err(_) => return Err(Fault::Wrong(Part::Owner)),
+        Err(NameFault::NoMemory) => return Err(PartFault::NoMemory),
+        Err(_) => return Err(PartFault::Wrong(LinePart::Owner)),
     };
     let Ok(mut octets) = Vec::from_slice(alloc, name.as_octets()) else {
-        return Err(Fault::NoMemory);
+        return Err(PartFault::NoMemory);
     };
     octets.make_ascii_lowercase();
     Ok(OctetList::from_vec(octets))
 }
 
-fn ttl_says(word: &str) -> Result<u32, Fault>
+fn ttl_says(word: &str) -> Result<u32, PartFault>
     ensures { Tells (ttl_says word.now) result }
 {
     match decimal_number(4_294_967_295, word.as_bytes()) {
         Some(number) => Ok(number as u32),
-        None => Err(Fault::Wrong(Part::Ttl)),
+        None => Err(PartFault::Wrong(LinePart::Ttl)),
     }
 }
 
 /// A number of 16 bits.
-fn number_of(word: &str, part: Part) -> Result<u16, Fault>
+fn number_of(word: &str, part: LinePart) -> Result<u16, PartFault>
     ensures { Tells (or_wrong part (decimal_number 65535 word.now)) result }
 {
     match decimal_number(65535, word.as_bytes()) {
         Some(number) => Ok(number as u16),
-        None => Err(Fault::Wrong(part)),
+        None => Err(PartFault::Wrong(part)),
     }
 }
 
-fn class_says(word: &str) -> Result<u16, Fault>
+fn class_says(word: &str) -> Result<u16, PartFault>
     ensures { Tells (class_says word.now) result }
 {
     match Class::from_text(word) {
         Ok(class) => Ok(class.0),
-        Err(_) => number_of(word, Part::Class),
+        Err(_) => number_of(word, LinePart::Class),
     }
 }
 
-fn type_says(word: &str) -> Result<u16, Fault>
+fn type_says(word: &str) -> Result<u16, PartFault>
     ensures { Tells (type_says word.now) result }
 {
     match Rtype::from_text(word) {
         Ok(rtype) => Ok(rtype.0),
-        Err(_) => number_of(word, Part::Type),
+        Err(_) => number_of(word, LinePart::Type),
     }
 }
 
@@ -98,21 +98,21 @@ fn digits_say(alloc: Global, text: &[u8]) -> Result<Option<Vec<u8>>, NoMemory>
     }
 }
 
-fn data_says(alloc: Global, text: &str) -> Result<OctetList, Fault>
+fn data_says(alloc: Global, text: &str) -> Result<OctetList, PartFault>
     ensures { Tells (data_says text.now) result }
 {
     match digits_say(alloc, text.as_bytes())? {
         Some(octets) => Ok(OctetList::from_vec(octets)),
-        None => Err(Fault::Wrong(Part::Data)),
+        None => Err(PartFault::Wrong(LinePart::Data)),
     }
 }
 
 /// What stands before the first blank, and what stands behind it.
-fn cut_word(text: &str) -> Result<(&str, &str), Fault>
+fn cut_word(text: &str) -> Result<(&str, &str), PartFault>
     ensures cut { IfOk result (λ x. cut_word text.now ≡ Ok (x.0.now, x.1.now)) }
-    ensures uncut { IfErr result (λ e. (e ≡ Fault.Wrong Part.Words) × (cut_word text.now ≡ Err Part.Words)) }
+    ensures uncut { IfErr result (λ e. (e ≡ PartFault.Wrong LinePart.Words) × (cut_word text.now ≡ Err LinePart.Words)) }
 {
-    cut_at(text, ' ').ok_or(Fault::Wrong(Part::Words))
+    cut_at(text, ' ').ok_or(PartFault::Wrong(LinePart::Words))
 }
 
 fn record_says(
@@ -122,7 +122,7 @@ fn record_says(
     class: &str,
     rtype: &str,
     content: &str,
-) -> Result<ZoneRecord, Fault>
+) -> Result<ZoneRecord, PartFault>
     ensures { Tells (record_says owner.now ttl.now class.now rtype.now content.now) result }
 {
     let owner = owner_says(alloc, owner)?;
@@ -140,7 +140,7 @@ fn record_says(
 }
 
 /// The record of a line without its line feed.
-fn line_says(alloc: Global, line: &str) -> Result<ZoneRecord, Fault>
+fn line_says(alloc: Global, line: &str) -> Result<ZoneRecord, PartFault>
     ensures { Tells (line_says line.now) result }
 {
     let (owner, behind_owner) = cut_word(line)?;
@@ -152,13 +152,13 @@ fn line_says(alloc: Global, line: &str) -> Result<ZoneRecord, Fault>
 
 /// The record of the line that begins a text, and what stands behind the line.
 #[tactic(auto, using(crate::proofs::Cuts::cut_shorter))]
-fn first_says(alloc: Global, text: &str) -> Result<(ZoneRecord, &str), Fault>
+fn first_says(alloc: Global, text: &str) -> Result<(ZoneRecord, &str), PartFault>
     ensures read { IfOk result (λ x. first_says text.now ≡ Ok (x.0, x.1.now)) }
     ensures wrong { IfErr result (λ e. TellsPart (first_says text.now) e) }
     ensures shorter { IfOk result (λ x. length x.1.now < length text.now) }
 {
     let Some((line, behind)) = cut_at(text, '\n') else {
-        return Err(Fault::Wrong(Part::End));
+        return Err(PartFault::Wrong(LinePart::End));
     };
     match line_says(alloc, line) {
         Ok(item) => Ok((item, behind)),
@@ -184,8 +184,8 @@ pub fn records_of(alloc: Global, text: &str) -> Result<Vec<ZoneRecord>, TextFaul
                 rest = behind;
                 line += 1;
             }
-            Err(Fault::Wrong(part)) => return Err(TextFault::Wrong(WrongLine { line, part })),
-            Err(Fault::NoMemory) => return Err(TextFault::NoMemory),
+            Err(PartFault::Wrong(part)) => return Err(TextFault::Wrong(WrongLine { line, part })),
+            Err(PartFault::NoMemory) => return Err(TextFault::NoMemory),
         }
     }
     Ok(records)

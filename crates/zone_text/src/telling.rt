@@ -3,21 +3,21 @@
 ghost use Rattle.std.specs.Prelude.{◌≡◌, Some};
 ghost use Rattle.zone_text.specs.Telling.{flaw_text, part_text};
 
-use crate::fault::Part;
+use crate::fault::LinePart;
 use crate::zone::Flaw;
 use std::fmt::{self, Display};
 
-fn part_text(part: Part) -> &'static str
+fn part_text(part: LinePart) -> &'static str
     ensures { result.now ≡ part_text part }
 {
     match part {
-        Part::End => "no line feed behind it",
-        Part::Words => "fewer than five words",
-        Part::Owner => "the owner is no name",
-        Part::Ttl => "the TTL is no number of 32 bits",
-        Part::Class => "the class has no such name, and is no number of 16 bits",
-        Part::Type => "the type has no such name, and is no number of 16 bits",
-        Part::Data => "the data is not in pairs of hexadecimal digits",
+        LinePart::End => "no line feed behind it",
+        LinePart::Words => "fewer than five words",
+        LinePart::Owner => "the owner is no name",
+        LinePart::Ttl => "the TTL is no number of 32 bits",
+        LinePart::Class => "the class has no such name, and is no number of 16 bits",
+        LinePart::Type => "the type has no such name, and is no number of 16 bits",
+        LinePart::Data => "the data is not in pairs of hexadecimal digits",
     }
 }
 
