@@ -10,8 +10,8 @@ use Rattle.dns_values.specs.declared.address.IpAddr.{IpAddr}
 use Rattle.resolv_conf.specs.Number.{number_of}
 use Rattle.program_words.specs.Rows.{Row, said_in}
 use Rattle.program_words.specs.declared.row.Letters.TheVariants.{Whole}
-use Rattle.zone_fetch_run.specs.declared.command.Choice.{Choice}
-use Rattle.zone_fetch_run.specs.declared.command.Choice.TheVariants as choices
+use Rattle.zone_fetch_run.specs.declared.command.Meaning.{Meaning}
+use Rattle.zone_fetch_run.specs.declared.command.Meaning.TheVariants as meanings
 use Rattle.zone_fetch_run.specs.declared.command.Command.{Command}
 use Rattle.zone_fetch_run.specs.declared.command.Next.{Next}
 use Rattle.zone_fetch_run.specs.declared.command.Next.TheVariants as next
@@ -77,21 +77,21 @@ zone_given None said = Err wrongs.Zone
 zone_given (Some zone) said = Ok (record said { zone = Some zone; next = next.Address })
 
 -- options, each by its whole name
-unfoldable pub option_rows : List (Row Choice)
+unfoldable pub option_rows : List (Row Meaning)
 option_rows =
-    (codes "--text", Whole, choices.Text)
-    ∷ (codes "--port", Whole, choices.Value next.Port)
-    ∷ (codes "--most", Whole, choices.Value next.Most)
-    ∷ (codes "--from", Whole, choices.Value next.File)
-    ∷ (codes "--output", Whole, choices.Value next.Output)
+    (codes "--text", Whole, meanings.Text)
+    ∷ (codes "--port", Whole, meanings.Value next.Port)
+    ∷ (codes "--most", Whole, meanings.Value next.Most)
+    ∷ (codes "--from", Whole, meanings.Value next.File)
+    ∷ (codes "--output", Whole, meanings.Value next.Output)
     ∷ []
 
-abbrev pub chosen : Choice → Said → Said
-chosen choices.Text said = record said { text = true }
-chosen (choices.Value value) said = record said { next = value }
+abbrev pub with_meaning : Meaning → Said → Said
+with_meaning meanings.Text said = record said { text = true }
+with_meaning (meanings.Value value) said = record said { next = value }
 
 abbrev pub optioned : List ℕ → Said → Option Said
-optioned word said = option_map (λ choice. chosen choice said) (said_in option_rows word)
+optioned word said = option_map (λ meaning. with_meaning meaning said) (said_in option_rows word)
 
 -- A word that is no option is the zone.
 abbrev pub option_or_zone : Option Said → List ℕ → Said → Result Said Wrong

@@ -51,7 +51,7 @@ pub(crate) enum Next {
 
 /// What an option says.
 #[derive(Clone, Copy)]
-pub(crate) enum Choice {
+pub(crate) enum Meaning {
     /// That the zone is written in the form that name servers load.
     Text,
     /// What the next word is, which is its value.

@@ -4,9 +4,9 @@ ghost use Rattle.std.specs.Prelude.{◌≡◌, Ok, Err};
 ghost use Rattle.dns_names.specs.Text.{name_of_text};
 ghost use Rattle.std.specs.Result.{result_ok};
 ghost use Rattle.program_words.specs.Rows.{said_in};
-ghost use Rattle.zone_fetch_run.specs.Words.{AddressGives, AllAnswer, Answers, FileGives, OutputGives, WordGives, WordsGive, any_said, chosen, fault_at, most_given, number_in, option_rows, port_given, zone_given};
+ghost use Rattle.zone_fetch_run.specs.Words.{AddressGives, AllAnswer, Answers, FileGives, OutputGives, WordGives, WordsGive, any_said, with_meaning, fault_at, most_given, number_in, option_rows, port_given, zone_given};
 
-use crate::command::{Choice, Next, Said};
+use crate::command::{Meaning, Next, Said};
 use crate::number::number_in;
 use crate::wrong::{Fault, Refusal, WordFault, Wrong};
 use dns_base::{IpAddr, Name, NameFault};
@@ -17,17 +17,17 @@ use std::alloc::Global;
 const MOST_PORT: usize = 65535;
 
 /// The options, each by its whole name.
-const OPTIONS: [Row<Choice>; 5] = [
-    ("--text", Letters::Whole, Choice::Text),
-    ("--port", Letters::Whole, Choice::Value(Next::Port)),
-    ("--most", Letters::Whole, Choice::Value(Next::Most)),
-    ("--from", Letters::Whole, Choice::Value(Next::File)),
-    ("--output", Letters::Whole, Choice::Value(Next::Output)),
+const OPTIONS: [Row<Meaning>; 5] = [
+    ("--text", Letters::Whole, Meaning::Text),
+    ("--port", Letters::Whole, Meaning::Value(Next::Port)),
+    ("--most", Letters::Whole, Meaning::Value(Next::Most)),
+    ("--from", Letters::Whole, Meaning::Value(Next::File)),
+    ("--output", Letters::Whole, Meaning::Value(Next::Output)),
 ];
 
 /// What the option of this name says.
 #[tactic(auto, unfolding(crate::specs::Words::option_rows))]
-fn choice_of(word: &str) -> Option<Choice>
+fn meaning_of(word: &str) -> Option<Meaning>
     ensures { result ≡ said_in option_rows word.now }
 {
     said_in(&OPTIONS, word.as_bytes())
@@ -119,20 +119,20 @@ impl Said {
     }
 
     /// Sets what an option says.
-    fn choose(&mut self, choice: Choice)
-        ensures { self.new ≡ chosen choice self.old }
+    fn take_meaning(&mut self, meaning: Meaning)
+        ensures { self.new ≡ with_meaning meaning self.old }
     {
-        match choice {
-            Choice::Text => self.text = true,
-            Choice::Value(next) => self.next = next,
+        match meaning {
+            Meaning::Text => self.text = true,
+            Meaning::Value(next) => self.next = next,
         }
     }
 
     fn take_any(&mut self, alloc: Global, word: &str) -> Result<(), WordFault>
         ensures { Answers (λ o. o ≡ any_said word.now self.old) result self.new }
     {
-        if let Some(choice) = choice_of(word) {
-            self.choose(choice);
+        if let Some(meaning) = meaning_of(word) {
+            self.take_meaning(meaning);
             return Ok(());
         }
         self.take_zone(alloc, word)
