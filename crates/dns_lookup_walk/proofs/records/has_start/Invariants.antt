@@ -1,0 +1,7 @@
+use Rattle.std.proofs.Common.{◌≡◌}
+use Rattle.std.specs.List.{list_any}
+use Rattle.dns_lookup_walk.specs.Records.{is_start}
+use Rattle.dns_lookup_walk.proofs.records.has_start.Given as goal
+
+abbrev pub invariant-loop-item : goal.invariant-loop-item
+invariant-loop-item l = list_any is_start l.fn.records ≡ list_any is_start l.item-iterator

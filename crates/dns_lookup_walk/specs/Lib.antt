@@ -1,0 +1,10 @@
+pub mod Names
+pub mod Records
+pub mod Verdicts
+pub mod Targets
+pub mod Deeds
+pub mod Steps
+pub mod Trying
+pub mod Walks
+pub mod Laws
+pub mod Texts
