@@ -2,6 +2,20 @@
 //!
 //! There is no table here. A request's [`Key`] says what may serve it, [`validity`] for how long a result does, and
 //! [`view`] writes a kept message anew, as another request is given it some seconds later.
+//!
+//! `Key` is seen as the key of `right_trace`: the name in lower case, type, class, what is asked of DNSSEC, CD and RD.
+//! `Key::asking` tells that of a request for a question, and `Key::of` for that of the message composed of it, or none
+//! where its results are not kept; `==` and the hash are those of what is seen, so keys differ by nothing but what is seen
+//! of them (`keys_are_told_apart`, `keys_are_of_requests`).
+//!
+//! `validity` is exactly the validity of the definitions (`kept_for`), and takes no memory. `view` and `view_under` write a
+//! kept message anew, its names compressed: the octets are a fold over its entries (`view_octets`), and they are read as
+//! its view (`says`). No TTL falls below 0, whatever the seconds. Besides want of memory there is `MessageParseError`,
+//! where the message or data of a record is not read by type. `derived_header` changes the header alone and reads nothing.
+//!
+//! A name may be read out of the octets of a header, by a pointer, so a header that is derived is kept beside its message
+//! and not written over it (`view_under` takes it). A view of a view is the view of the first message: its header, its
+//! entries, and how long it may be kept (`view_laws`).
 #![tactic(auto)]
 
 mod copying;

@@ -2,6 +2,41 @@
 //! kept.
 //!
 //! It is a transport over any other one, of which it knows nothing but that.
+//!
+//! `Connection` is a transport over any other, seen as `Cached`: the transport below, what is kept (`Kept`: settings,
+//! table, what was handed on) and whether it failed. The table is `lru`'s: the list of entries by key, the one used last
+//! first, and how many there may be. Its plain machine is `crates/client_cache/specs/Plain.antt`; what an entry gives and
+//! what is derived from it stands in `Keeping.antt`. Each call is exactly that machine's step.
+//!
+//! - A request of which no message can be made has that error as its result, and it is not kept. What has no key
+//!   (`Key::asking`) is handed on. No message is composed here: `sole_question` and `check_message` tell what it would ask,
+//!   and whether it can be made. The entry under the request's own key is found and used by one look-up.
+//! - A request takes the first entry that is there, of the request's own class and of those that have more, then of the
+//!   same with RD set (`first_kept`). It is used by that, in time or not. What is derived from an entry under another key
+//!   is stored under the request's own, from the first moment (`keeps_derived`); RD is cleared last, and before that the
+//!   entry with RD set is stored if its class was another. A message is kept as it came, and beside it the header under
+//!   which it is given (`Stored`), since names may be read out of its own. So AA, AD and RD are cleared without reading its
+//!   data; from an entry of DO it is written anew, and `MessageParseError` is the answer where it can't be, with nothing
+//!   stored.
+//! - An entry serves while its age is at most its validity (`serves`): its error, or its message at its age (`shown`). A
+//!   message is composed when it is given for the first time and patched from then on, where that may be done (`Form`): the
+//!   octets are the same (`views_are_patched`), so nothing is said of it in a clause. What is patched takes at most twice
+//!   the octets that came and 512, and four for each record; with the message as it came an entry so has at most some four
+//!   times that message and 0.7 KB.
+//! - `Connection::would_serve` tells whether a request would have its result at once at a moment (`would_serve`): just
+//!   where the way that the machine takes with it is that it is given something, so that the transport below is not called
+//!   for it. It uses no entry.
+//! - `Connection::entry_count` is how many results are kept.
+//! - A result from below is given unchanged and is kept, AA clear, for as long as `validity` says, from the moment it came
+//!   (`keeps`); not for no time. A message that has no validity is `MessageParseError`, and is not kept.
+//! - Results are taken off a board of the transport's own, in the order in which they came, after each call. One for a
+//!   ticket that nothing waits for is handed on as it is: so a request may be sent past the cache, by `upstream_mut`.
+//! - `look_ups_are_askings`, of `proof_cache`: what looking up does to the table is what an asking does in the machine of
+//!   `proof_right` (`AskDoes`): the same keys in the same order, and the same uses and stores.
+//!
+//! A client that keeps nothing, or looks nothing up, is refused by `hits` of `Client::replay` too. One that never gives a
+//! stale message is refused by `stale` of `Client::replay`, and one that gives such a message while no server failed by
+//! `right`.
 #![tactic(auto)]
 
 mod connection;

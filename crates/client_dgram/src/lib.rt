@@ -8,6 +8,11 @@
 //!
 //! There is no socket here: a place is opened, sent at and closed by outs, and events tell what became
 //! of it.
+//!
+//! `Connection` is seen as `Dgram`: server, settings, tables and whether it failed. Its plain machine is
+//! `crates/client_dgram/specs/Plain.antt`: a request waits for a slot, a try opens a place, is sent when it is open and
+//! waits for its read timer; the slot of a request that has its result is given on at once, to the one that waits longest.
+//! The code keeps the same tables by number, and who waits for a slot as an ordered set, and does no scan.
 #![tactic(auto)]
 
 mod connection;

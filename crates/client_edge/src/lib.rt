@@ -10,6 +10,22 @@
 //! let mut words = RandWords::new(rand::make_rng::<StdRng, _>(&rt)?);
 //! let mut files = FileOpener::new(rt);
 //! ```
+//!
+//! Each object is proved against its trait with exact counts; of what the system gives, of what becomes of what it is
+//! handed, and of time but that the clock does not fall, no clause speaks. The books are those of `socket_places` over the
+//! system's sockets.
+//!
+//! - `NetworkEdge`, over any network: `learn_server`, `act` and `poll` are those of the books (`learns`, `acts`, `told`);
+//!   `learn_server`, `act` and `wait` leave both counts; `poll` counts itself, and its event where that tells of a fault.
+//!   It tells no deeds and no waits.
+//! - `SocketEdge` is that over `SystemNetwork`. `new` counts nothing. What it hands to the system for a wait is the time
+//!   rounded up to whole milliseconds, at most 2^31 - 1 of them (the value of `milliseconds`).
+//! - `SystemNetwork`: what the system is to look for at a socket is exactly what the books ask (`asked_of`), and an address
+//!   is handed to it as it is (`system_address`). What it gives is handed on as it is (`count_of`), octets as the buffer's
+//!   first ones (`octets_of`).
+//! - `RealClock`: `gives` what it keeps, which `rises`. `RandWords`: its words are a function of the generator's state,
+//!   exactly.
+//! - `FileOpener`, `ConfFile`, `UdpConnect`, `TcpConnect`, `UdpDgram`: the count after each call is exact.
 #![tactic(auto)]
 
 mod address;

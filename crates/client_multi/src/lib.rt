@@ -1,5 +1,47 @@
 //! One server by several streams, one after another: a request that loses its connection is tried again
 //! on the next. And one server by datagrams, with those streams where a datagram was truncated.
+//!
+//! # One server by streams
+//!
+//! `Connection` is seen as `MultiStream`: a server's number, settings, tables, whether no more requests are taken on, and
+//! whether it failed. The tables (`Tables`) have the requests by ticket, each with how often it backed off, the timer that
+//! ends its time, and where it is; the ticket of each timer and of each ticket at a connection; those that wait for a
+//! connection to open, in order of tickets; the connections by place; and what the transport itself knows: the place that
+//! opens, how often none was opened, and the moment before which none is to be opened. Its plain machine is
+//! `crates/client_multi/specs/MultiStream.antt`. It speaks of a connection only by a record of plain functions
+//! (`OneStream`), and the code only by a trait of the same name, so the steps are proved from that trait alone; `Link`
+//! keeps it for a stream connection, and is a connection that never gave up. Reconnection is for requests that one message
+//! answers: no transfer goes by a `Link`.
+//!
+//! - A request goes to the newest connection that is open and has room. Else it waits for the place that opens; else, while
+//!   the transport backs off, it backs off itself; else `OpenStream` goes out. Whoever waited when the place opened is
+//!   handed on by the same rule, in order of tickets.
+//! - A connection's messages and `WrongReplyForQuery` are results. Each other error makes its request back off, in the
+//!   order in which the connection gave them. A result that it gives to a ticket that is in no table is nobody's.
+//! - `retry_time` is a share of a bound that a word gives: `1 + word * (bound - 1) / 2^64` microseconds, at least one and
+//!   at most the bound. A request counts its times of backing off from 1, the transport from 0 since a connection was last
+//!   opened.
+//! - A timer is looked up once: it is a request's, or that of a connection, which alone hears of it, or nobody's.
+//! - `shutdown` changes nothing but that later requests get `ConnectionClosed`. It answers `Ok` unless the connection has
+//!   failed.
+//!
+//! # Datagrams first, then a stream
+//!
+//! `Fallback` is over any two transports, bound by `SendRequest` alone, and proved from that bound. It is seen as the
+//! record of the same name: a server's number, both transports and the requests that wait for them (`Parts`), and whether
+//! it failed. The requests stand by ticket, each with the ticket under which its result comes from below: with the
+//! datagrams, and then it is kept with its number for the stream, or with the stream. Its plain machine is
+//! `crates/client_multi/specs/Fallback.antt`, over the plain machines of both transports.
+//!
+//! - Each transport has a board of its own for a call. Once both have heard, what the datagrams posted is settled in order,
+//!   and then what the stream posted: so a request that is handed over does not hear what happened before.
+//! - An untruncated message and each error of the datagrams is the result. A truncated one puts out `Start` by stream under
+//!   the request's own number, behind all that the datagrams put out in that call, and the request as it was asked goes to
+//!   the stream. What the stream gives is the result, a truncated message too.
+//! - A part that comes under a ticket that is in no table is nobody's. A request that is given up leaves the tables before
+//!   the transport that has it is told.
+//! - `dgram_stream::Connection` is `Fallback` over the connections of `client_dgram` and `multi_stream`; `with_config`
+//!   gives each its part of the settings, and the same number of the server.
 #![tactic(auto)]
 
 pub mod dgram_stream;

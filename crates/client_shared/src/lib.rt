@@ -1,4 +1,29 @@
 //! A client that several threads share: each has a pass, and what all of them did stands in one history.
+//!
+//! A function that is generic in a `ClientKey` makes a client, uses it and closes it, and is called with `Brand`: the key
+//! names the table of the history and the opening, so that a pass is of one client by its type, and no call has a condition
+//! on that.
+//!
+//! - `Pass::history_is_legal`: what a pass has seen is a legal history of its client, of callers whose numbers are below
+//!   their count.
+//! - `SharedClient::new`: the passes are numbered from 0 and have seen nothing. `NoMemory` alone.
+//! - `submit`: `Ok` is `IsSubmitted`; `Failed` is `IsBehind`; `NoMemory` and `NumbersUsed` leave the pass as it was or
+//!   refuse the call on its way (`IsRefused`); `NumbersUsed` comes only where it `IsStopped`. Where the history ends with a
+//!   loss nothing else than `Failed` comes: that is a clause of what lies under the lock (`Desk::submit`), where the
+//!   history has a name.
+//! - `meet`: both passes have seen the same, which begins with what either had; calls and losses stay. It takes no memory.
+//! - `close`: with fewer passes than callers `CloseFault` exactly, with both numbers and all that was handed in. Else the
+//!   journal, with its loss, is a legal history, every pass handed in `IsClosed` there, each entry is of a caller below
+//!   their count, and the words `AreDrawn`. It takes no memory.
+//! - `run_lanes`: `Ok` is `AreLanes`; in any case each pass was submitted the first events of its lane (`AreBegunLanes`);
+//!   `Failed` only where what a pass has seen ends with a loss, `NumbersUsed` only where a lane's next event has no number
+//!   (`IsSomeStopped`).
+//! - `UnjournaledClient`: the same `new`, `submit` and `meet`; the history exists in proofs alone. Nothing is copied, so
+//!   `NoMemory` always refuses the call on its way. `NumbersUsed` comes besides where the history has all but two of the
+//!   numbers of 64 bits (`IsFull`): the pass has then seen all of it, and nothing else is changed.
+//!
+//! `legal_histories` of `proof_shared`: the rows of a legal history are the plain trace of its events, and right and
+//! timely, and give what is kept.
 #![tactic(auto)]
 
 mod desk;

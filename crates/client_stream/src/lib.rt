@@ -1,5 +1,37 @@
 //! One connection to a server by stream, at a place that was opened: requests go out one behind the
 //! other, and answers come in any order (RFC 7766); of a transfer several messages come (RFC 5936, RFC 1995).
+//!
+//! `Connection` is seen as `Stream`: place, settings, the line, the octets that no frame has taken, and whether it failed.
+//! The line (`Line`) is the connection without those octets: who holds each id, the id of each request that waits for its
+//! answer, the requests that were not written yet, what is outstanding of the frame that is being written, where the
+//! connection is, how long it waits for a frame and while idle, and whether a request had the empty option 11. Its plain
+//! machine is `crates/client_stream/specs/Plain.antt`. The code keeps who holds each id in slots and the other tables by
+//! number.
+//!
+//! A request is one that a message answers, or a transfer (`AnyRequest`); the plain machine is a function of what is asked
+//! of requests of either kind, `one` and `several`. `Connection` is a `SendRequest` by `transport one several` and a
+//! `SendRequestMulti` by `transfers one several`: both have the same `step`. What a message is to a transfer
+//! `client_transfer` says (`checked`): its part is put on the board, and then the end, or the transfer holds its id again,
+//! at its place.
+//!
+//! An octet that comes is copied twice: into what came and no frame has taken (`Framer::feed`), and into its frame
+//! (`Framer::next_frame`), which is the message that is given. What stands behind taken frames is moved to the front once
+//! it is less than what was taken: so at most once more for each octet taken, and not at all where a piece ends with a
+//! frame. What is outstanding of a frame that is being written is shared with the out that has it, and not copied, however
+//! little of it is taken at a time.
+//!
+//! - `Framer` is seen as the list of octets that no frame has taken. `next_frame` gives the first frame, if it is whole,
+//!   and leaves what stands behind it. What was taken is kept only while it is no more than what is left.
+//! - `Queries` is seen as an `IdTable`: items by id in order of ids, and a mark. `insert` gives `next_id`, and `Full`
+//!   exactly at 32768 ids; `slots` shows as many slots as the mark, each with the item of its id. A refusal changes
+//!   nothing, and hands the item back. `insert_at` takes no memory.
+//! - `frames_law`: the frames of octets are those of their pieces, wherever they are cut. `ids_law`: from the start on, in
+//!   any run of calls, whatever else their views hold, an id that was written is not written again before a frame with it
+//!   freed it or the connection ended; a message of a transfer of which more are to come does not free it. `cutting_law`:
+//!   at one moment, a piece in two parts leaves and gives what it does in one, as also where a number would pass 64 bits.
+//!   `transfer_law`: the parts that a transfer gets are the fold of what each message with its id gives (`transferred`),
+//!   whatever other messages come between them.
+//! - Errors come in order of ids, then to the queued requests in order of tickets; both stand in `ends_with`.
 #![tactic(auto)]
 
 mod composing;

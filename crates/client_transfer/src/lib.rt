@@ -2,6 +2,19 @@
 //! to it (RFC 5936 2.2, RFC 1995 4).
 //!
 //! A transfer is watched, and not carried out: no record is kept, and no zone is made of them.
+//!
+//! `check_stream` gives `checked` (`crates/client_transfer/specs/States.antt`): whether the transfer ends with a message,
+//! the state that is left, and whether the message belongs to the transfer. It takes no memory, and no record is kept.
+//!
+//! - `next_state` is the whole table of states and records, a case for each; none where the record is wrong. What a record
+//!   is (`RecordKind`) its data says, read as `dns_base` reads it, and for an SOA whether its serial equals the kept one:
+//!   serials are compared for equality alone.
+//! - The rest is a fold: `takes_items` over the answer section up to the first record that is refused, `at_end` behind the
+//!   last one, and before the records `is_open` (only the first message must answer its request) and `by_code` (a response
+//!   code).
+//! - `transfer_law`: what messages give is the fold of what each gives (`transferred`), wherever the list of them is cut;
+//!   the records of two sections one behind the other lead where those of one do; an end is given once, last, and nothing
+//!   behind it; and after a message was refused none is taken any more.
 #![tactic(auto)]
 
 mod checking;

@@ -1,4 +1,23 @@
 //! DNS messages: read where they lie, and written (RFC 1035 4.1).
+//!
+//! - `Octets`, `Name`, `Message` are seen as lists: octets, labels, octets. Whole octets are what definitions speak of; the
+//!   code has cursors.
+//! - `Message::query` gives the message of one question: its octets, what they are read as, and the draft that they are.
+//! - A reader answers exactly where the grammar has something (`MatchResult` with both cases). The iterator of a section is
+//!   the list of its items; after the first item that can't be read there is none.
+//! - `Builder` is seen as a `Draft`. Each push is a function on drafts (`pushed_question`, `pushed_record`), and `finish`
+//!   gives the octets of the draft (`finished`). `draft_laws` says what these functions are worth: what was pushed is read
+//!   back, names up to case, whatever the header is and whatever follows. Each name that a pointer may name is read alike
+//!   under every header, with fewer pointers than labels, so the limit of 255 pointers is never met (`Holds.places`).
+//! - `Draft` is closed to the crates above: they cite `draft_laws`, `draft_steps` (counts, limits, sizes, headers,
+//!   refusals) and the clauses of the calls, and open none of its definitions.
+//! - `Count` comes exactly at a 65536th entry of a section. `Limit` only where it has fewer and the octets would pass the
+//!   limit with this item uncompressed (`question_size`, `record_size`). Ok only where the octets written don't pass it
+//!   (`fits`). Each entry is written straight into the message's octets; where memory runs out halfway the octets and the
+//!   remembered places are cut back, so a refused push leaves all as it was (`err`).
+//! - All suffixes of a name are found by one search of a table of names, sorted by their labels from the last on, so a name
+//!   costs in line with its octets whatever was written before. The table is no part of a `Draft`: `IsIndex` says that what
+//!   it finds is what a look at one place after the other finds (`found_at`), and each call of the crate keeps it so.
 #![tactic(auto)]
 
 mod alias_table;

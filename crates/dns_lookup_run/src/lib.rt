@@ -7,6 +7,53 @@
 //! let mut clock = WatchedClock::new(RealClock::new(rt));
 //! let status = run(alloc, &words, &mut conf_file, &mut sink, &mut errors, &mut edge, &mut clock, &mut random);
 //! ```
+//!
+//! `dns_lookup` is the `main` of `run`, over any source, two sinks, edge, clock and words; the edge and the clock are
+//! watched (`WatchedEdge`, `WatchedClock`), which do what the edge and the clock below do, and remember from whom octets
+//! came last, what each place brought (`news_after`) and the moments of a request.
+//!
+//! Each status, with its clauses:
+//!
+//! - **0** (`ends`, `flushed`): each request of the lookup was asked and answered with a message, none of which lacks data
+//!   where these alone were to be written, and all that the sink holds was handed on, where it tells that. Nothing but
+//!   notes was written to the sink of errors.
+//! - **9, 10, 11** (`ends`, `flushed`): as at 0, but of the answers of which data alone was to be written the first that
+//!   has none (`first_lack`) has the code NXDOMAIN; NOERROR and no record in its answer section; or another code. The
+//!   sentence of that was told.
+//! - **1** (`statuses`): never.
+//! - **2** (`ends`, `usage`, `silent`): only where the words are refused; the sentence that names the wrong one was written
+//!   whole to the sink of errors, or its first octets and that sink's count of faults rose. Nothing was written to the
+//!   other sink.
+//! - **3** (`ends`, `no_conf`, `silent`): only where reading the configuration failed, or its text has more than 16777216
+//!   octets; the sentence that says which was told. Nothing was written to the sink.
+//! - **4** (`ends`, `sink_fault`): only where the sink's count of faults rose; some first of the requests were asked, and
+//!   each answer is a message. That the sink failed was told.
+//! - **5** (`ends`): some first of the requests were asked; the last answer is an error, or there was none in a million
+//!   turns, and those before it are messages. The sentence with that error's text, or that none came, was told, with a line
+//!   behind it for each server whose last place brought no answer of use (`reports_text`), of some places.
+//! - **6**: free: memory ran out.
+//! - **7** (`ends`): some first of the requests were asked and answered with messages, and the plain client makes no rows
+//!   of the next request and some events behind it. That numbers are used up was told.
+//!
+//! At 0, 4, 5, 7 and from 9 on the lookup is that of the words (`LookupGives`), and the configuration that of the servers
+//! that they name, by their addresses with the default options, or what is found in the text that the source told,
+//! finalized; as it is asked in practice (`practical`, with the words that come), and with the words' family of addresses,
+//! port, time and streams (`IsConfOf`). The notes of it were told first. The edge learned its servers in order, and a new
+//! client with `practical_choice` was asked the requests one after another (`AreAnswered`, which is `IsAnswered` of
+//! `client_loop` for each). A sentence *was told* where it was written whole to the sink of errors, or its first octets and
+//! that sink's count of faults rose; and it was handed on, or that count rose (`line_flushed`). What is written of a
+//! message is only tested.
+//!
+//! `run_recorded` does the same and records it: the client draws words of 4096 that come first, all of the lookup
+//! (`RecordedEnd`, `AskedEnd`). At each status but 6 and 7 what was handed in as the file has the record of the first of
+//! the rows that the client put out for the requests of the lookup (`IsRecordedFor`: the rows of `AreMade`, one request
+//! after another, and `HasEnded` of them). At 8 nothing was asked, since nothing can be recorded (`IsRefused` says why),
+//! and the sentence with that cause was told; nothing was written to the sink. The sentence of any status but 0 and 6 was
+//! handed on, or that count rose (`line_flushed`). 6 comes also where less than a quarter of the words is left.
+//!
+//! The program's edge is a `PassingEdge` over sockets. Its `poll` gives what came (`gives`), but for a datagram with NOTIMP
+//! that answers what was sent at its place: that is a fault of the place (`passed`), until each server that was learned has
+//! said so.
 #![tactic(auto)]
 
 mod asking;

@@ -7,6 +7,10 @@
 //!     Err(Fault::NoMemory) => give_up(),
 //! }
 //! ```
+//!
+//! `lookup_of` of words: `IsJudged`. They are a lookup, or refused for the first word that is wrong, or for a value or a
+//! name that is missing (`LookupGives`, word by word from `nothing_said`), or memory ran out. `lookup_laws`: words are one
+//! of both, and one alone. `sentence` of a refusal is the line that names that word as it was given.
 #![tactic(auto)]
 
 mod lacking;

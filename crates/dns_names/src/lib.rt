@@ -1,4 +1,7 @@
 //! Domain names: owned, and as they stand in a message (RFC 1035 3.1 and 4.1.4).
+//!
+//! - `Name::lower` leaves the name in lower case (`lowered`), `Name::respell` the one that octets spell, or the root where
+//!   memory is wanting.
 #![tactic(auto)]
 
 mod draft;

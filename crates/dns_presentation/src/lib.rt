@@ -1,4 +1,15 @@
 //! DNS data as people read it: the presentation form of names, data, records and messages (RFC 1035 5.1).
+//!
+//! - `CharacterString`, `Absolute` (a name) and `Generic` print exactly `string_text`, `absolute_text` and `generic_text`;
+//!   what they print is read back as the same octets or labels (`presentation_laws`).
+//! - `ShownData` prints `known_text` of its record where that is some text: of A, AAAA, of each type whose data is names,
+//!   of MX, AFSDB, RT, PX, SOA and SRV, and generic data of each other type but those of `has_form`, and where data can't
+//!   be read by its type. Of TXT, SIG, NXT, NAPTR and the types of `has_form` it says nothing (of SIG and NXT that they are
+//!   generic where they have no form, the names spelled out): `tests/compare_presentation.py` holds these to kdig, and the
+//!   stored run of `tool_texts` SIG and NXT to BIND.
+//! - `presentation` lends what it is called on. A `Question` then prints exactly `question_text`, and a `Record` its owner,
+//!   seconds, class and type exactly, whatever its data is told as (`record_text`). Nothing is said of what a `Message`
+//!   prints.
 #![tactic(auto)]
 
 mod base64;

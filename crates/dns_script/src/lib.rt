@@ -10,6 +10,19 @@
 //! let printed = trace_text(alloc, &trace)?;
 //! let same = read_trace(alloc, &printed)?;
 //! ```
+//!
+//! - A script is read exactly (`ReadsScript`): `Ok` where the lines are taken one after another, `Line(n)` where the n-th
+//!   is the first that is not, or where none is left and a lane is missing. It has each event of a trace, but that a fault
+//!   is one that a socket tells (`tells_well`). Before the events it has lines of a configuration, as `parse_line` takes
+//!   them (`TakesConf`), and settings of the choice among servers and of the cache, cut into their limits (`TakesSet`).
+//! - `trace_text` prints `trace_text_of` the rows, and the text is the trace of these rows (`IsTrace`), for every trace.
+//!   `begin_trace`, `push_row` and `end_trace` write the same row by row: the first line, a row's lines behind what stands,
+//!   the last line. `read_trace` reads exactly `IsTrace` (`ReadsTrace`): what is read is printed as the same text, and what
+//!   was printed is read back as the same rows.
+//! - `text_laws`, `script_laws`: a text is a trace exactly where it is the text of rows in range (`AreRows`), and of these
+//!   alone; a text is one script at most; a trace or a script is not refused, and any other text is refused at one line.
+//! - `generate` makes exactly the script of its definition (`generated`), for 1 to 1000; `summary_text` writes exactly the
+//!   counts of a trace (`summary_text_of`).
 #![tactic(auto)]
 
 mod bounds;

@@ -1,5 +1,14 @@
 //! The caching forwarder as a program: turn by turn its front is polled, the forwarder takes what it gave, and the front does
 //! what is put out.
+//!
+//! - **The program** (`serve_as`; `serve` is the same without options): each status with its cause (`Serving.antt`). At
+//!   status 0 none of the servers is the forwarder itself, it listened once, told the front the servers that are asked as
+//!   the options say (`conf_of`), and made just the turns of its words (`IsServed`, `Turned`): each event is what a poll of
+//!   this call gave, or time alone where it gave nothing, at the clock's moment, the front acted on a row's outs in order
+//!   before the next poll, the rows are the forwarder's, and the client within made a right trace, under the settings that
+//!   the options say. Status 5 comes only where the front's count of faults rose, or where one of these servers is an
+//!   address that is listened on, at this very port. Who watches (`Watch`) is told of each turn and has no part in
+//!   anything.
 #![tactic(auto)]
 
 mod front;

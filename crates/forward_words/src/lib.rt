@@ -4,6 +4,12 @@
 //! let (options, rest) = options_of(alloc, &words)?;
 //! let asked = command_of(rest)?;
 //! ```
+//!
+//! - **The words** (`forward_words`). `options_of` reads options in order, up to the first word that is none, and gives the
+//!   words behind them (`OptionsGive`, `AreOptions`); an option is the first row of a table for whose name the word stands
+//!   (`option_rows`, by `said_in` of `program_words`). `Refused` comes exactly where a value is none that its option takes
+//!   (`ValueGives`). `option_laws`: words begin with options in one way at most, or are refused for one cause. `asked_by`
+//!   is exactly the port and the turns, or none.
 #![tactic(auto)]
 
 mod kind;

@@ -3,6 +3,22 @@
 //!
 //! All of them step one forwarder, which `front_shared` shares among them. A worker sends what its own rows answer by datagrams,
 //! whoever it is for; what else they put out is the first thread's to do, in the order of the one history, and it is woken for that.
+//!
+//! - **Several threads** (`front_shared`, `forward_workers`). `SharedForwarder::submit` steps one forwarder under one lock:
+//!   what the pass has seen then begins with what it had seen, ends with this call's row, at the place that the receipt
+//!   tells, and has just the calls of this caller that were answered (`IsSubmitted`); what a pass has seen is the rows that
+//!   one forwarder makes one behind another (`IsLegal`, by `Forwards`). Of the rows of others the first caller is told, at
+//!   its next call, all that is not an answer by a datagram, in the order of the history (`told`, `waits_after`). A call by
+//!   which memory or numbers run out ends the history (`IsEnded`), and each later one answers `Failed` (`IsBehind`). `hold`
+//!   gives the forwarder for several calls between which no other caller has one; `Held::submit` has the clauses of
+//!   `submit`. `serve_by_all` has the statuses of `serve_as`, each with its cause. At status 0 there is one history
+//!   (`IsShared`), whose rows one forwarder made one behind another, the client within a right trace: each worker took at
+//!   its door what its own rows are of, in their order and each once, and answered there with just the outs that are
+//!   answers by datagrams (a door may send them at its next `flush`); the first thread made just the turns of its words,
+//!   and did in each what the rows of workers before it had left to it and then what its own row puts out; the line says
+//!   how many answers all put out together. A worker that gives up ends the history, and its status is that of all. Not
+//!   said: at which moments, in which order workers come to the lock and that one comes to it, and what is left to the
+//!   first thread behind its last turn, which nobody does.
 #![tactic(auto)]
 
 mod crew;

@@ -5,6 +5,10 @@
 //! let mut forwarder = Forwarder::with_seed(alloc, &conf, redundant, cache, seed)?;
 //! let row = forwarder.step(&mut words, FrontEvent { moment, what })?;
 //! ```
+//!
+//! - **Over the project's client** (`front_core`) `steps` is the plain client's step on octets, and `serves` whether the
+//!   cache would give the result at once. `Forwards` is a list of steps, with the rows of the front and those of the
+//!   client; `every_forwarded_trace_is_right` says that the latter are the plain trace of their events (`IsRightTrace`).
 #![tactic(auto)]
 
 mod forwarder;

@@ -7,6 +7,10 @@
 //! ```text
 //! let mut front = SocketFront::new(rt, alloc, addresses);
 //! ```
+//!
+//! - **The front over sockets** (`front_edge`): `act` does what the books of `listener_peers` and `socket_places` do with
+//!   the out (`IsActed`), `poll` gives what they tell (`PollGives`), and `listen` opens one listener of each kind at each
+//!   address (`IsListening`) or counts a fault. What the system gives and takes no clause says.
 #![tactic(auto)]
 
 mod address;

@@ -1,5 +1,13 @@
 //! A caching forwarder over any client: each query that is taken is asked of the client, or waits for the reply to one that
 //! asks the same, and each answer is a reply of the client under the query's own id (RFC 1035 4.1.1, RFC 5452 5).
+//!
+//! - **What is done** (`Doing`): the things one behind another. A query whose key waits joins it where it may (`joins_if`,
+//!   `may_join`); another one is asked where fewer than 10,000 wait or the client within serves it at once (`DidQuery`);
+//!   else its answer is a header with SERVFAIL. A row of the client within is put out as it stands, but that each reply is,
+//!   for each query that waits for it, an answer (`puts_all`, `answers_each`).
+//! - **The client within** (`Within`) tells one relation, `steps`, and one function, `serves`; so `Forwarder::step` says
+//!   for any client what happens to it and what is put out of its rows (`TookIn`): its `rows` and `now` are those rows, and
+//!   `runs` says that they are the client's, one behind another. `Failed` comes exactly after an error.
 #![tactic(auto)]
 
 mod asked_key;

@@ -1,4 +1,9 @@
 //! What octets carry, and what messages say: whether octets carry a request, and whether a message answers it.
+//!
+//! `carries` says of octets and a request whether those carry this under an id, by datagram or by stream. The answer is a
+//! test (`carries_by`), and `carrying_is_decided` says both ways that it is `CarriesBy` of `right_trace`: the records are
+//! compared where they lie, names without case and data by its type (`Shape`, the parts of data), and nothing is copied but
+//! the options to which the empty option 11 is added. `is_answer_to` is `answers` (`answers_are_decided`).
 #![tactic(auto)]
 
 mod carrying;

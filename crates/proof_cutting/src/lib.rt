@@ -1,4 +1,10 @@
 //! Octets of a stream that come in pieces do to a client what they do in one: mathematics alone.
+//!
+//! `every_plain_trace_may_be_cut` says of every plain trace that its events may be cut (`MayBeCut`): one client is left by
+//! them with outs that are those of the rows in order, and the same client, with the same outs in order, by the events of
+//! which one that brings octets is replaced by several (`IsCut`). It stands on `IsCuttable`, what each transport owes at a
+//! place so that octets may come in pieces, which is proved of connections by stream, of reconnection, of datagrams, of the
+//! fallback, of one server, and, over any transport that owes it, of a choice and of a cache.
 #![tactic(auto)]
 
 mod laws;

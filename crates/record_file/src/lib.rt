@@ -6,6 +6,9 @@
 //! let (file, rest) = record_of(&words);
 //! let mut sink = RecordFile::new(rt, String::from_str(alloc, file)?);
 //! ```
+//!
+//! - `record_of` (`record_file`): the file that words name, `--record FILE` first, and the words behind that. What becomes
+//!   of a `RecordFile` no clause says but its count of faults.
 #![tactic(auto)]
 
 mod file;

@@ -8,6 +8,8 @@
 //! conf.parse(alloc, &mut source)?;
 //! conf.finalize(alloc)?;
 //! ```
+//!
+//! - The configuration's lines are a grammar over words; `parse` is its fold.
 #![tactic(auto)]
 
 mod conf;

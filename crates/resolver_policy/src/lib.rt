@@ -11,6 +11,14 @@
 //! let conf = practical(alloc, found.conf, &mut words)?;
 //! let client = Client::new(alloc, &conf, practical_choice(), cache::Config::new())?;
 //! ```
+//!
+//! - `Found::read` of a source: what is found in its text (`IsFoundIn`), where the source tells it, which was then read to
+//!   its end. `TooLong` only where it gives more than 16777216 octets, `Failed` only where its count of faults rose; or
+//!   memory ran out.
+//! - `practical` of a configuration and words: that configuration as a client is given it (`practical`), and the words that
+//!   are left (`words_left`): one fewer with `rotate`. Or memory ran out.
+//! - `practical_choice`: the settings by which an error of a transport, REFUSED and SERVFAIL of one server wait for the
+//!   others.
 #![tactic(auto)]
 
 mod found;

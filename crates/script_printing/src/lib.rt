@@ -7,6 +7,16 @@
 //! let text = script_text(alloc, &script)?;
 //! let same = read_script(alloc, &text, false)?;
 //! ```
+//!
+//! - `script_text` prints a script of one lane (`script_text_of`), and the text is read as that very script (`IsScript`).
+//!   It is so told where its configuration has, beside servers by their addresses, the time for a request and `use-vc`,
+//!   only defaults, its settings lie within their limits, times are whole seconds, and no event has a fault that the client
+//!   finds itself (`CanBeTold`); else the answer names the first of these that fails (`IsUntold`). What has its default is
+//!   not printed.
+//! - `head_text` is what stands before the first event, and `push_event` adds the line of a row's event. `printing_laws`:
+//!   the text of a script that can be told is read back, and one more event is one more line, so that a script may end
+//!   behind any line. Cut anywhere behind its head, the text is up to its last whole line that of the script with the first
+//!   of the events, and read as that (`IsCut`).
 #![tactic(auto)]
 
 mod events;

@@ -13,6 +13,12 @@
 //!     while let Poll::Ready(part) = transfer.next_part(&mut response) { .. }
 //! }
 //! ```
+//!
+//! - `Transfer::begin`, `Transfer::step`: what is put out, and the connection then, are those of the plain connection
+//!   (`begins`, `steps`); numbers run out only where it has none; `Failed` only after an earlier refusal.
+//! - `Transfer::next_part`: the oldest result that stands, which is then taken.
+//! - `act_all`, `turn`: the edge acts on each out in order; a turn waits until the timer is due, polls once, and steps by
+//!   what came (`IsTurn`).
 #![tactic(auto)]
 
 mod apart;

@@ -9,6 +9,40 @@
 //! let host = Name::from_text(alloc, "www.example.com")?;
 //! for address in resolver.lookup_host(alloc, &host)?.iter() { .. }
 //! ```
+//!
+//! `StubResolver` is seen as `Stub`: a plain client, the options of its configuration, its edge, clock and words, a count
+//! of the queries that got no message, and whether it failed. What is seen of it by what these tell is a scene of
+//! `client_loop` (`seen`).
+//!
+//! - `with_settings`: a new client of the configuration with these settings, whose edge learned the servers in order
+//!   (`IsNewWith`); `from_conf` is that with the default settings (`IsNew`); `new` is that with the configuration of the
+//!   system's file (`ByFile`). `NoMemory` alone.
+//! - `query`: `Gets`. The question is asked with RD set, and the reply is the client's (`IsAnswered`, a million turns at
+//!   most); where it says that the question could not be read, the same is asked once more, with a timeout of its own
+//!   (`Replies`). Any message is an answer. `NoReply` where no reply came in a million turns, `Client` with the client's
+//!   error else. After `NoMemory` or `NumbersUsed` (`Stops`) the resolver has failed: each further query is
+//!   `Client(Failed)` and changes the count alone (`failed`).
+//! - `query_both`: `AskBoth`. Where the resolver has not failed, neither question is for a whole zone and two numbers are
+//!   left (`CanWait`), both are asked side by side (`QueriesBoth`, by `AreAnswered` of `client_loop`), and then each whose
+//!   reply says that it could not be read once more, the first before the second (`SettleBoth`). Else they take turns: one
+//!   query, then the other (`MustTakeTurns`, `TakeTurns`). Where numbers or memory run out while both wait, both have that
+//!   fault.
+//! - `resolve_all`: `QueriesAll`. The questions that one message answers (`is_asked`) are asked at once (`AllReplied` of
+//!   `client_loop`, in one run of the plain client's rows), and once more, at once too, those whose replies say that they
+//!   could not be read (`unread`, `settled`). What each question gets is, in the order of the questions, what the reply to
+//!   its own request says, whatever the others get (`gots_of`); one for a whole zone is `Client(FormError)`. An error of
+//!   them all is `NumbersUsed` (`StopsAll`) or `NoMemory`, after which the resolver has failed, or `Failed` where it had.
+//! - `lookup_hosts`: `LooksUpHosts`. Of each host its A and its AAAA records are asked for, all of them at once by
+//!   `resolve_all`, and each result is `hosts_found` of what its own two questions got (`all_found`).
+//! - `Error` is made of each error of these calls, of a name that is none, and of a failed stream; it prints what they do
+//!   (`error_text`).
+//! - `Query::run`: the same with a message of one's own; `disable_edns` lets the first answer stand.
+//! - `add_connection`: the edge learns the server (`learned`), then the client has it (`added`); else `NoMemory`, and it
+//!   has failed.
+//! - The lookups are those of `resolv_lookup` over queries of this resolver (`AsksStub`, and `AsksStubBoth` for those of a
+//!   host), each with its count and faults.
+//! - `run_with_conf` and `run` call an operation with a new resolver and give what it gives; where there is no memory for
+//!   one, what its fault's type makes of that (`IsDone`).
 #![tactic(auto)]
 
 mod all;

@@ -1,4 +1,10 @@
 //! What a forward pass over a trace keeps of the timers of stream places, and when they are due.
+//!
+//! `is_read_timer_due` and `is_idle_timer_due` decide both timers of a stream place both ways (`TellsReadTimer`,
+//! `TellsIdleTimer`), the second by one walk over the row's frames, which asks for what is held only where the time has
+//! passed. `Timers` has beside what is kept of writes, quiet and idle times whether the last frame at a place left
+//! something unwritten or had an id that nothing held (`Loose`); `timers_go_on` says that all of it is what the definitions
+//! say.
 #![tactic(auto)]
 
 mod due;

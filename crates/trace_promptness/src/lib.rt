@@ -1,4 +1,10 @@
 //! Promptness: whether the first final message that comes for a request and matches it is its reply at once.
+//!
+//! `is_overdue` decides `IsOverdue`, by `are_tries_up` (six sends to one server, the last five seconds ago at a place that
+//! was live) and by the silence of a stream, for which `Heards` keeps the servers that a message came from. `is_prompt`
+//! decides `Prompt` of a row both ways (`TellsPrompt`): each message that came, matches and is final is the reply there, or
+//! the request is overdue, or the place was closed by its read timer. `TraceSettings` has what of that is set: what is
+//! deferred, and what a cache keeps.
 #![tactic(auto)]
 
 mod heard;

@@ -7,6 +7,36 @@
 //! let mut world = World { opener, edge, later, clock, random, progress: ProgressLine::new(alloc, terminal) };
 //! let status = fetch_to(alloc, &words, &mut sink, &mut errors, &mut world);
 //! ```
+//!
+//! `zone_fetch` is the `main` of `fetch_to`, over two sinks and any files, two edges, clock and words (`World`); no edge
+//! was used before. `run_fetch` has one sink, and writes lines to it at 1, 5 and 7 (`line_of`) where `fetch_to` writes a
+//! sentence to the second sink and nothing to the first (`FetchEnds` of either).
+//!
+//! Each status, with its clauses:
+//!
+//! - **0** (`ends`, `flushed`): there is a zone (`HasZone`), its lines were written whole, and all that the sink holds was
+//!   handed on, where it tells that. No sentence is written.
+//! - **1** (`ends`): the words name a file, and what it has is no zone that was printed; that is told, with the file, and
+//!   why (`flaw_text`). Where a line is named, the lines before it are records, as many as its number says (`StopsAt`).
+//! - **2** (`ends`): the words are no command (`IsCommand`), which names the first that is wrong, or what is missing; so
+//!   does the sentence (`refusal_sentence`).
+//! - **3** (`ends`, `unread`): the words name a file, and the count of faults of what opens files rose; the sentence has
+//!   that file.
+//! - **4** (`ends`): there is a zone, and the sink's count of faults rose; that is told.
+//! - **5** (`ends`): the zone was not fetched (`IsLeft`), and the sentence has the zone, the server and which fault it was
+//!   (`told_fault`).
+//! - **6**: free: memory ran out.
+//! - **7** (`ends`): numbers are used up, and that is told.
+//!
+//! A sentence *is told*: it is written whole to the second sink, or its first octets and that sink's count of faults rose;
+//! and it was handed on, or that count rose (`handed_on`).
+//!
+//! *There is a zone*: the words are a command, the zone before is none, or one with this name and its SOA's serial, which
+//! prints octet for octet what the file has (`IsPrinted`); and it was brought to what the server has (`IsBrought`): by a
+//! whole transfer where no file is named, else by changes, or it stays where the server says its own serial alone, or by a
+//! whole transfer over the later edge where the server says another. Each is `IsFetched` of `zone_transfer` behind the
+//! server's address, which the edge learned first. A line that is read is a record (`IsRecordLine`), and lines make updates
+//! (`AddsZone`).
 #![tactic(auto)]
 
 mod command;

@@ -1,4 +1,8 @@
 //! What the records of a zone transfer say: mathematics, and the step of an interpreter.
+//!
+//! - `step`: the state and the updates of the plain step (`next`); None where the record is wrong there.
+//! - `runs_are_cut`, `readings_are_run`, `runs_are_readings`, `refusals_are_due`: the laws of transfers, for any kind of
+//!   record.
 #![tactic(auto)]
 
 mod laws;

@@ -9,6 +9,11 @@
 //! match outs.task { Some(Task::AskSoa(primary)) => .., Some(Task::Fetch(primary)) => .., None => .. }
 //! sleep_until(zone.next_due());
 //! ```
+//!
+//! - `KeptZone::step`: the zone and what is put out are those of the plain step (`zone`, `outs`; `zone_after`, `outs_after`).
+//! - `KeptZone::next_due`: the moment up to which nothing is to be done. `KeptZone::has_expired`: whether EXPIRE seconds went
+//!   by since it was confirmed.
+//! - `refresh_laws`: a zone that has expired is told, and primaries that don't answer are asked in turn.
 #![tactic(auto)]
 
 mod kept;

@@ -9,6 +9,11 @@
 //! fetch(alloc, &mut zone, XfrKind::Axfr, &mut edge, &mut clock, &mut words)?;
 //! fetch(alloc, &mut zone, XfrKind::Ixfr, &mut later_edge, &mut clock, &mut words)?;
 //! ```
+//!
+//! - `fetch`, `fetch_within`, `fetch_told`: `fetched`: the zone is what the transfer that the edge gave makes of the old
+//!   one, a zone if each record before is one that it may hold, and the transfer takes no more memory than was allowed
+//!   (`IsFetched`); `cause`: each fault has its cause in what the edge gave (`IsCause`); `kept`: after a fault the zone is
+//!   as it was.
 #![tactic(auto)]
 
 mod asked;
