@@ -1,5 +1,9 @@
 //! What a cache knows of results: which requests may share one, for how long, and as what it is given later.
 //!
+//! What a cache knows of results: keys are told apart by what is asked alone; how long a result may be kept is exact, and
+//! so are the octets of a kept message as it is given later, which are read as its view; a view of a view is the view of
+//! the message that came first. By `Key`, `validity`, `view`, `view_laws`.
+//!
 //! There is no table here. A request's [`Key`] says what may serve it, [`validity`] for how long a result does, and
 //! [`view`] writes a kept message anew, as another request is given it some seconds later.
 //!

@@ -1,6 +1,10 @@
 //! A cache of results: a request that asks what was asked before is given what came then, as long as that may be
 //! kept.
 //!
+//! A cache over any transport: each call is exactly a step of its plain machine, which says which entry serves a request,
+//! as what, what is derived and stored by that, and what is kept of a result; whether a request would be served is told
+//! without using an entry. By `Connection`.
+//!
 //! It is a transport over any other one, of which it knows nothing but that.
 //!
 //! `Connection` is a transport over any other, seen as `Cached`: the transport below, what is kept (`Kept`: settings,

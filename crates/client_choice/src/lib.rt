@@ -1,6 +1,12 @@
 //! A choice among several servers: which is asked first, when the next one is asked, and whose answer
 //! is taken.
 //!
+//! Each call is the step of the plain machine of a choice among servers by estimate, over any transport: the order of
+//! starts, the words drawn, what is put off, which estimates change, who gives the request up; no server and no such server
+//! are told exactly; an estimate is at most four hours; and of a balancer: bursts, slow servers last, shorter queues first,
+//! what is answered where no server may be asked. `Client` asks by the first. By `redundant::Connection` and
+//! `load_balancer::Connection` by `SendRequest`, `add`, `send_on`, `serve_fail`, `Stats`, `stats_law`.
+//!
 //! It is a transport over any other one, of which it knows nothing but that.
 //!
 //! A choice is over any transport, bound by `SendRequest` alone, and proved from that bound. It has two parts: its servers

@@ -1,5 +1,9 @@
 //! The client: servers, deadlines, and one step for each event.
 //!
+//! Each step is the plain client's, and no timer is due behind it; the cache over the choice over the servers is told as
+//! the plain client has it; the next due moment is told, and whether a request would be served by what is kept; an edge and
+//! a clock of lists give exactly their lists. By `Client::step`, `Client::layers`, `Client::would_serve`.
+//!
 //! It does nothing at a socket itself. `Client::step` takes an event and gives what is to be done.
 //!
 //! - `Client::step`: `plain_step words event client` is the row and the client after it (`take_in` over this very

@@ -1,5 +1,8 @@
 //! One server by datagrams: each request has up to so many tries, each at a place of its own.
 //!
+//! Each call is the step of the plain machine: tries, slots, read timer, faults, giving up. By `Connection` by
+//! `SendRequest`, `Config`.
+//!
 //! ```text
 //! send_request ──► Queued ──slot──► Opening ──Opened──► Sent ──answer, fault──► result
 //!                                      ▲                  │

@@ -1,5 +1,9 @@
 //! The world outside a client: the system's sockets, its clock, its random words and its files.
 //!
+//! The books of `socket_places` over the system's sockets; its clock, random words and files, each against its trait: polls
+//! and faults are counted exactly, the clock does not fall, and each call ends. By `NetworkEdge`, `SocketEdge`,
+//! `RealClock`, `RandWords`, `FileOpener`, `UdpConnect`, `TcpConnect`.
+//!
 //! Each of these is one of the traits by which the crates below take what comes from outside. The books of the edge are those of
 //! `socket_places`, over the system's sockets. What stands here adapts: it is proved of each part that its counts are right and
 //! that its calls end; of what the system gives, and of what becomes of what it is handed, no clause speaks.

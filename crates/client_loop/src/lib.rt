@@ -1,5 +1,10 @@
 //! The turns of a client: it is told what its edge gives, and its edge does what it puts out.
 //!
+//! A turn polls the edge once, steps the client with what it gave at the clock's moment, and hands each out on before the
+//! next poll; a request is asked until its reply is there, which is the first in the plain client's rows of these events,
+//! or as many turns as there may be had none; two requests, or any number, are asked right behind one another, and turns
+//! made until all replies are there. By `turn`, `ask`, `ask_within`, `ask_both`, `ask_all`, `learn_all`.
+//!
 //! A client does nothing at a socket, and an edge decides nothing. A turn joins the two: the edge is polled, the client
 //! takes what it gave as an event at the clock's moment, and the edge acts on what the client then put out. `ask` asks one
 //! request and turns until its reply is there, `ask_both` two until both replies are, and `ask_all` as many as it is given.

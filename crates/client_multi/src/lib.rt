@@ -1,6 +1,11 @@
 //! One server by several streams, one after another: a request that loses its connection is tried again
 //! on the next. And one server by datagrams, with those streams where a datagram was truncated.
 //!
+//! Each call is the step of the plain machine of a server by streams: the newest connection with room, one that opens,
+//! backing off by words, who lost a connection tried again, giving up; how long is backed off is exact; and of that of a
+//! fallback over any two transports: a truncated datagram goes on by the stream. By `multi_stream::Connection` and
+//! `dgram_stream::Fallback` by `SendRequest`, `shutdown`, `retry_time`, `multi_stream::Config`, `dgram_stream::Config`.
+//!
 //! # One server by streams
 //!
 //! `Connection` is seen as `MultiStream`: a server's number, settings, tables, whether no more requests are taken on, and

@@ -1,5 +1,8 @@
 //! Requests, events and outs, and what every transport of the client stands on.
 //!
+//! Composing is exactly the base under what is recorded; what is composed carries its request; matching is exact; the board
+//! and the timers are lists, and the timers a heap. By `ComposeRequest`, `carrying_laws`, `Board`, `Timers`, `SendRequest`.
+//!
 //! There are no sockets and no clock here: an event carries its moment, and what is to be done at a
 //! socket is put out as data.
 //!

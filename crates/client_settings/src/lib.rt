@@ -1,5 +1,9 @@
 //! The settings of a client: of its choice among servers, of its cache, and of its transports.
 //!
+//! Each setter of the choice among servers, of the cache and of the transports cuts its value into the setting's limits and
+//! changes nothing else; each getter gives its setting. By `redundant::Config`, `cache::Config`, `dgram::Config`,
+//! `stream::Config`, `multi_stream::Config`.
+//!
 //! They are values alone: what they have an effect on, the transports and the cache, stands in crates
 //! above, and so does what reads them from a script. A setter cuts its value into the setting's limits.
 //!

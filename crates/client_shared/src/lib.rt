@@ -1,5 +1,11 @@
 //! A client that several threads share: each has a pass, and what all of them did stands in one history.
 //!
+//! Of a client that several threads share: all calls stand in one legal history, which the plain client makes of their
+//! events in that order; each call that is answered is one entry there, with its event, its outs and the words that were
+//! drawn; a refused call ends the history; when it is closed the journal is that history, and each caller's entries stand
+//! at its calls alone; lanes, each by a thread of its own, come to receipts in order. By `SharedClient::new`, `submit`,
+//! `meet`, `close`, `Pass::history_is_legal`, `run_lanes`, `UnjournaledClient`.
+//!
 //! A function that is generic in a `ClientKey` makes a client, uses it and closes it, and is called with `Brand`: the key
 //! names the table of the history and the opening, so that a pass is of one client by its type, and no call has a condition
 //! on that.

@@ -1,5 +1,8 @@
 //! The steps of a client over any transport, and the servers that it asks.
 //!
+//! What a client over any transport does with an event is the plain client's step: timers, frames one by one, replies,
+//! deadlines; one server by its transport is the plain one. By `take_in`, `Upstream` by `SendRequest`.
+//!
 //! `take_in` tells a client of an event: timers that are due fire, then it happens, and each result of the transport is put
 //! out as the reply to its request. The transport may be any `SendRequest`; that of a configuration is a cache over a choice
 //! among its servers, each an `Upstream`. The crate `client_core` makes a client of these.

@@ -1,6 +1,11 @@
 //! One connection to a server by stream, at a place that was opened: requests go out one behind the
 //! other, and answers come in any order (RFC 7766); of a transfer several messages come (RFC 5936, RFC 1995).
 //!
+//! Each call is the step of the plain machine of a stream connection: frames, ids, transfers, writing on, keepalive, read
+//! and idle timers, each end with its errors in order; an open id is never written again; octets in two pieces do what they
+//! do in one; what a transfer gets is the fold of what its messages give. By `Connection` by `SendRequest` and
+//! `SendRequestMulti`, `Queries`, `Framer`, `Config`, `frames_law`, `ids_law`, `cutting_law`, `transfer_law`.
+//!
 //! `Connection` is seen as `Stream`: place, settings, the line, the octets that no frame has taken, and whether it failed.
 //! The line (`Line`) is the connection without those octets: who holds each id, the id of each request that waits for its
 //! answer, the requests that were not written yet, what is outstanding of the frame that is being written, where the

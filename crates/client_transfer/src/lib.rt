@@ -1,6 +1,9 @@
 //! Where a zone transfer is, and what each message does to it: when it ends, and which messages belong
 //! to it (RFC 5936 2.2, RFC 1995 4).
 //!
+//! What a message does to a zone transfer is a table of states and records, folded over the answer section: when it ends,
+//! and which messages belong to it. By `check_stream`, `transfer_law`.
+//!
 //! A transfer is watched, and not carried out: no record is kept, and no zone is made of them.
 //!
 //! `check_stream` gives `checked` (`crates/client_transfer/specs/States.antt`): whether the transfer ends with a message,

@@ -1,5 +1,8 @@
 //! DNS messages: read where they lie, and written (RFC 1035 4.1).
 //!
+//! Messages are read by the grammar of RFC 1035 4.1 on whole octets, every section both ways; what a builder was pushed is
+//! read back, its names compressed; a refused push changes nothing. By `Message`, `Record::data`, `Builder`, `draft_laws`.
+//!
 //! - `Octets`, `Name`, `Message` are seen as lists: octets, labels, octets. Whole octets are what definitions speak of; the
 //!   code has cursors.
 //! - `Message::query` gives the message of one question: its octets, what they are read as, and the draft that they are.

@@ -1,5 +1,20 @@
 //! What the program `dns_lookup` does, over a source, two sinks and the rest of its world.
 //!
+//! A lookup is the requests of its words, one after another, of a new client of the servers that the words name, or of the
+//! configuration as it is found, asked as `resolver_policy` says and with the words' port, family of addresses, time and
+//! streams. Status 0, 9, 10 or 11 means that each was answered with a message in the plain client's rows of what the edge
+//! gave, turn by turn, at the clock's moments, and that what is written was handed on; 9, 10 and 11 that data alone was to
+//! be written and the first answer without any said no such name, no such data, or another code, and that the sentence of
+//! it was told; 4 that the sink failed behind a message; 5 that the last answer was an error, or none in a million turns,
+//! and those before it messages; 7 that a number would pass 64 bits in the next request; 2 that the words are refused; 3
+//! that reading the configuration failed or that its text is too long. At 2, 3, 4, 5 and 7 the sentence that says why, with
+//! the wrong word or the error's own text, is written whole and handed on unless the sink of errors failed; before anything
+//! is asked a line for each note of the configuration is, and at 0 nothing else. Behind the sentence of 5 stand lines of
+//! what servers brought, of some places: which places is proved of the edge's calls alone. What is written of a message is
+//! only tested. The edge and the clock that watch others do what those do. A lookup that is recorded is the same with the
+//! words that were written, and the sink has the record of the first of the rows that its client put out. By `run`,
+//! `run_recorded`, `WatchedEdge`, `WatchedClock`.
+//!
 //! The program itself, the crate `dns_lookup`, only makes the real ones and hands them in.
 //!
 //! ```text

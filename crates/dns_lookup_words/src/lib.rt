@@ -1,5 +1,8 @@
 //! The words of a lookup, as `dns_lookup` is given them: what they ask, or the first that is wrong.
 //!
+//! Which words are which lookup, with its requests in order, one at least, and else which is the first wrong one and why:
+//! words are one of both, and one alone; the sentence that tells it. By `lookup_of`, `sentence`, `lookup_laws`.
+//!
 //! ```text
 //! match lookup_of(alloc, &words) {
 //!     Ok(lookup) => ask(lookup),

@@ -1,5 +1,11 @@
 //! DNS data as people read it: the presentation form of names, data, records and messages (RFC 1035 5.1).
 //!
+//! Character strings with their escapes, names among other text, and generic data `\# LENGTH HEX` are printed exactly, and
+//! so that they are read back as the same octets; so are questions, and records of addresses, names and numbers; data of an
+//! unknown type, or that can't be read by its type, is generic, and generic data of a type whose names are read out has
+//! them spelled out. That the other texts (strings in data, types with forms of their own, messages) are as `kdig` prints
+//! them is only tested. By `CharacterString`, `Absolute`, `Generic`, `ShownData`, `Presentation`, `presentation_laws`.
+//!
 //! - `CharacterString`, `Absolute` (a name) and `Generic` print exactly `string_text`, `absolute_text` and `generic_text`;
 //!   what they print is read back as the same octets or labels (`presentation_laws`).
 //! - `ShownData` prints `known_text` of its record where that is some text: of A, AAAA, of each type whose data is names,

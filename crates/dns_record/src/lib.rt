@@ -1,5 +1,10 @@
 //! What a live client saw, as a script that replays.
 //!
+//! What a client saw while it was recorded stands in the sink as a script, whose replay is the first of the rows that the
+//! client put out, and all of them while the record goes on; cut anywhere, it is one up to its last whole line; a request
+//! that is asked and recorded is asked as without a record, with the words that were written. By `Recorder`,
+//! `recorded_turn`, `recorded_ask`, `record_law`.
+//!
 //! A recorder stands between a client and whoever holds it: it hands the client its words, and writes each event that the client
 //! took as a line of a script. A replay of the script gives the very rows that the client put out. The words are drawn ahead and
 //! written before the first event, where a script has them; the record ends before they run out, and from then on the client draws

@@ -1,5 +1,10 @@
 //! Scripts and traces as text.
 //!
+//! A script is read exactly by its grammar, with the first bad line (every event of a trace, but for faults that the client
+//! finds itself); a trace is read of exactly the text that is printed of it; a generated script is exactly the events,
+//! words and octets of its definition, and a summary exactly the counts of a trace. By `read_script`, `trace_text`,
+//! `read_trace`, `text_laws`, `generate`, `summary_text`.
+//!
 //! A script says what happens to a client, and a trace what the client then put out. A trace is printed
 //! as a text that is read back as that trace, and no other text is read. What replays a script is left to
 //! others.

@@ -1,5 +1,10 @@
 //! Octets and the small values of the DNS: no messages and no names.
 //!
+//! Addresses, and types, classes and codes by their names, are read exactly by their grammar and printed so that they are
+//! read back; errors print exact texts; sources and sinks tell what is left, held and handed on, a fault only where their
+//! count rose; a read or write that a signal interrupted is tried again. By `IpAddr::from_text`, `address_laws`,
+//! `Rtype::from_text`, `number_name_laws`, `Source`, `Sink`, `read_to_end`, `write_all`.
+//!
 //! - A type, class or code prints by its registered name, or by a word and its number (`TYPE123`), from one table
 //!   (`NumberNames.antt`); `from_text` reads the name or the number, in any case, and nothing else (`number_of_text`).
 //!   `number_name_laws`: what is printed is read as the same number.

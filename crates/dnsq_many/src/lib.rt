@@ -1,5 +1,11 @@
 //! What the program `dnsq` does, with the command whose lanes share one client, each by a thread of its own.
 //!
+//! `many`: status 0 means that the input was a script with lanes of at most 16777216 octets, read to its end, and that the
+//! text of a journal was written and handed on in which each lane's events stand in their order, each once, and nothing
+//! else, whose rows are the plain trace of its events under the script's settings and words, right and timely, and whose
+//! words are the script's first; each other status has its cause; used-up numbers come only where some order of the lanes'
+//! events stops for one. All else is `dnsq_run`'s, clause by clause. By `run`, `many_text`.
+//!
 //! Every other command is `dnsq_run`'s, which starts no thread.
 //!
 //! `run` does what `run_alone` does, clause by clause, but where the words are `many` alone (`is_many`). It may wait, since

@@ -1,5 +1,15 @@
 //! What the program `dnsq` does, over a source, a sink and the rest of its world.
 //!
+//! Status 0 means that the input was a script (or a configuration) of at most 16777216 octets, read to its end, and that
+//! the text of its plain trace (or its printing) was written and handed on, a trace that is right and timely; a good input
+//! is never refused; each other status has its cause and says what was written; the line of a refusal, of used-up numbers
+//! and of words that are no command is written whole and handed on unless the sink fails. `query` is one request of a new
+//! client of the configuration, whose servers the edge learned in order: what is written is the first reply in the plain
+//! client's rows, right and timely where each word has 64 bits, of what the edge gave, at the clock's moments, turn by
+//! turn, and 5 means an error or a million turns without a reply. What `gen N` writes is the summary of the plain trace of
+//! the script that is generated for N, which is right and timely; the source is left alone. What was read and written is
+//! spoken of for sources and sinks that tell it; the standard streams are trusted for that. By `run_alone`.
+//!
 //! The program itself, the crate `dnsq`, only makes the real ones and hands them in. Over a source and a
 //! sink in memory the whole program is a value that can be tried:
 //!

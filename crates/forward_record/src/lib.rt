@@ -1,6 +1,10 @@
 //! A forwarder whose client within is recorded: what its front hears of DNS clients comes to events of that client, and these are written
 //! as a script.
 //!
+//! A forwarder's program that is recorded: at status 0 it made just the turns of its words, as `forward_run`, and the sink
+//! has the record of the first of the rows of the client within; statuses 1 to 5 have the causes that they have there, and
+//! 8 that nothing can be recorded. Not said: why a record ends while it is served. By `serve_recorded`, `turn`.
+//!
 //! ```text
 //! let served = serve_recorded(alloc, &options, seed, words, &mut source, &mut sink, &mut errors, &mut front, &mut clock, &mut random, &mut watch, file);
 //! ```

@@ -1,5 +1,9 @@
 //! The words of the forwarder's command line: its options, and behind them at which port it is listened and how many turns are made.
 //!
+//! The words of the forwarder's program: each option is read by its name and its value, up to the first word that is none;
+//! a value is refused exactly where its option takes none such; words begin with options in one way at most, or are refused
+//! for one cause; the words behind are a port and a number of turns, or none. By `options_of`, `option_laws`, `asked_by`.
+//!
 //! ```text
 //! let (options, rest) = options_of(alloc, &words)?;
 //! let asked = command_of(rest)?;

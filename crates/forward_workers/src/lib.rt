@@ -1,6 +1,13 @@
 //! A forwarder that several threads turn over: workers take what DNS clients send by datagrams, and the first thread has all else, the
 //! streams, the places of the client within and its timers.
 //!
+//! The forwarder's program by several threads: at status 0 there is one history, whose rows one forwarder makes one behind
+//! another, and the client within made a right trace; each worker took what its own rows are of, in their order and each
+//! once, and sent of each just the answers by datagrams; all else the first thread did, which made just the turns of its
+//! words, in the order of the history; the line says how many answers all put out. Statuses 1 to 5 have their causes. Not
+//! said: in which order threads come to the lock, and that one does; at which moments the events stand, that a worker
+//! polls, answers at once or wakes the first thread; why it ends with 6 or 7. By `serve_by_all`.
+//!
 //! All of them step one forwarder, which `front_shared` shares among them. A worker sends what its own rows answer by datagrams,
 //! whoever it is for; what else they put out is the first thread's to do, in the order of the one history, and it is woken for that.
 //!

@@ -1,5 +1,11 @@
 //! What comes of DNS clients, and what it comes to: queries that are asked or refused, and streams that are dropped.
 //!
+//! What an event of a front comes to, exactly, as the step of a machine (`takes`): datagrams and whole frames of streams
+//! that are queries, are refused or drop their stream; where 100 streams are open, one more takes the place of the one that
+//! was quiet longest; a number that isn't above the last accepted one is ignored, and what names one of the other kind is
+//! time alone. No clause speaks of a run of events: that 100 streams stay the most, and that it is the same wherever octets
+//! are cut, can be read off the step. By `Peers::take`, `answer_by`, `close`.
+//!
 //! Nothing is asked here, and no answer is made of a reply.
 //!
 //! - **What an event comes to** (`takes`): a list of things, each of which asks a query, refuses one, drops a stream, or

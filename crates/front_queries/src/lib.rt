@@ -1,6 +1,11 @@
 //! Queries of DNS clients: which are taken, how the others are refused, the request that is made of one, and
 //! how it is answered.
 //!
+//! Of octets that came of a DNS client: whether they are a query that is taken, and if not the exact refusal by its first
+//! cause; the request that is made of one, which has no record and no option of it; and the exact octets of its answer,
+//! under its id and spelling, with or without an OPT record, cut for a datagram or behind a length. By `sort`,
+//! `request_of`, `answer_to`, `turned_away`.
+//!
 //! Nothing is asked and nothing is kept here. A query that is taken is kept as its header, its question, and what its
 //! OPT record says: no other record and no option of it goes on to a server, and so none decides what a cache keeps for
 //! others (RFC 6891 6.1.1).

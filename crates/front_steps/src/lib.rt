@@ -1,6 +1,12 @@
 //! A caching forwarder over any client: each query that is taken is asked of the client, or waits for the reply to one that
 //! asks the same, and each answer is a reply of the client under the query's own id (RFC 1035 4.1.1, RFC 5452 5).
 //!
+//! A forwarder over any client: each query that is taken is asked, or waits for the reply to one that waits and asks the
+//! same, and where 10,000 wait it is turned away unless the client serves it at once, as is one by a stream where 250 by
+//! streams wait for the same reply beside the first; how many wait is the length of the list of those that do; a reply goes
+//! to each that waits for it, under that one's own id, and to no stream that is gone; all else that the client puts out is
+//! handed on in order; and where nothing happens to the client, time goes on for it. By `Forwarder::new`, `step`.
+//!
 //! - **What is done** (`Doing`): the things one behind another. A query whose key waits joins it where it may (`joins_if`,
 //!   `may_join`); another one is asked where fewer than 10,000 wait or the client within serves it at once (`DidQuery`);
 //!   else its answer is a header with SERVFAIL. A row of the client within is put out as it stands, but that each reply is,

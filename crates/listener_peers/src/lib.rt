@@ -1,6 +1,13 @@
 //! The books of a server's listeners: which peer a stream is of, what each peer has not taken yet, where a datagram is answered, and
 //! at which of them something was found.
 //!
+//! The books of a server's listeners, over any listeners and sockets: a peer's socket takes the octets of its answers in
+//! order and each once, nothing is read of a peer while octets for it are unsent, a datagram is answered once, to its
+//! sender and from the listener at which it came, a peer is told of only until it is closed or gone, and no listener, peer
+//! or place starves; a socket that is asked for many datagrams at a time gives each once, in order, and has sent what it
+//! was handed, in order, when it says that there are no more. By `ServerBooks`, `PeerBooks`, `octets_go_once`,
+//! `BatchDgrams`.
+//!
 //! They stand on small traits of listeners and sockets, and are the same over the system's and over lists in memory. `ServerBooks` has
 //! one wait over them and the places of a client.
 //!

@@ -1,6 +1,10 @@
 //! A message that was composed once, and is patched for each request: its header, the spelling of its question's name,
 //! and its TTLs are written over a copy of its octets.
 //!
+//! What is patched is exactly what composing anew gives: for every header, for the question's name in each of its
+//! spellings, and with every TTL; a template's places are those of its TTLs and of no OPT record's; a template that is made
+//! of a message gives its views, and is not long beside it. By `views_are_patched`, `Template`.
+//!
 //! A [`Template`] is made of a view of a kept message. [`Template::patch`] gives the octets that composing the view anew
 //! would give ([`views_are_patched`]).
 //!

@@ -1,5 +1,9 @@
 //! Tables whose keys are numbers that are drawn in rising order.
 //!
+//! A table by number is a list of entries in rising order of keys, and each call is exact: what is put in, taken out, found
+//! and first, and what a loop goes through; an insertion for which there is no memory gives its pair back and changes
+//! nothing. By `NumberTable`.
+//!
 //! Plain machines keep tables by number (`Numbered`): ordered lists of pairs, with `puts`, `frees` and `entry_at`. The code
 //! keeps them as `NumberTable` (`number_table`). A `NumberTable` is seen as such a list, and `Entries` has the same three
 //! functions:

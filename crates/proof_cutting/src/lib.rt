@@ -1,5 +1,9 @@
 //! Octets of a stream that come in pieces do to a client what they do in one: mathematics alone.
 //!
+//! Mathematics alone: where one event that brings octets to a stream is replaced by several for the same place and moment,
+//! one behind another with the same octets in all, the same is put out in the same order, and the same client with the same
+//! words is left, whatever the client had been told before. By `every_plain_trace_may_be_cut`.
+//!
 //! `every_plain_trace_may_be_cut` says of every plain trace that its events may be cut (`MayBeCut`): one client is left by
 //! them with outs that are those of the rows in order, and the same client, with the same outs in order, by the events of
 //! which one that brings octets is replaced by several (`IsCut`). It stands on `IsCuttable`, what each transport owes at a

@@ -1,4 +1,10 @@
 //! That every run of a client of small moves is right, for any number of servers, by datagrams and streams: mathematics alone.
+//!
+//! Mathematics alone: every run of a client of small moves, of any number of servers, is right and timely, however it
+//! composes and in whatever order timers that are due fire, and where its cache is exact it hits, and serves what has
+//! expired where servers fail; a client of one server by datagrams makes only such runs; wrong traces are refused. By
+//! `every_run_is_right`, `every_cached_run_hits`, `every_cached_run_serves_stale`, `runs_of_one_server_are_runs`,
+//! `composing_composes`, `worked_traces_are_runs`, and the refusals.
 #![tactic(auto)]
 
 mod examples;

@@ -1,5 +1,7 @@
 //! The file of a record: the words that name it, and how it is made.
 //!
+//! Which words name a record's file, and which are behind them; a file's faults are counted. By `record_of`, `RecordFile`.
+//!
 //! A record may hold what people asked, so its file is made for its owner alone, and never over another file.
 //!
 //! ```text

@@ -1,5 +1,9 @@
 //! The configuration of a resolver, as `resolv.conf` has it (resolver(5)).
 //!
+//! The configuration is the fold of its lines' grammar; `finalize` twice is once; printing is exact; files in memory give
+//! exactly their octets; the system's configuration is dropped only at a fault. By `ResolvConf::parse`, `parse_line`,
+//! `finalize`, `Display`.
+//!
 //! It is read from a `Source` or through an `OpenFile`, line by line, and printed. What asks the
 //! servers, and what searches names, is left to others.
 //!

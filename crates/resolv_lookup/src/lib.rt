@@ -1,6 +1,10 @@
 //! Lookups over any resolver: the names of an address, the addresses of a host, and the servers of a
 //! service.
 //!
+//! Lookups over any resolver: which questions are asked, in which order, and exactly what is made of what they got, each
+//! fault by its cause: names of an address, addresses of a host, also by the search list, servers of a service in an order
+//! of RFC 2782 with the drawn words. By `lookup_addr`, `lookup_host`, `search_host`, `lookup_srv`, `order_laws`.
+//!
 //! A lookup is a function of the answers that it gets: its contract says which questions it asks, in
 //! which order, and what it makes of what they got.
 //!

@@ -1,5 +1,11 @@
 //! What a resolver does in practice: configurations as they are found, and settings with which a dead server is passed by.
 //!
+//! Of a file as it is found each line is read without its comment, each option for itself and an address without its zone
+//! identifier, by the grammar of `resolv_conf`; each line that this refuses is told, by its number and why, and no other; a
+//! client is given each server `attempts` times in rounds, from a drawn one on where they take turns, a deadline as long as
+//! all rounds, and settings by which errors of a transport, REFUSED and SERVFAIL wait for the other servers. By
+//! `Found::read`, `practical`, `practical_choice`.
+//!
 //! `resolv_conf` reads a file exactly and refuses it at the first line that is outside the grammar. Here what is understood of
 //! each line is taken, and what isn't is told. Of the configuration and of chance the one is made that a client is given: each
 //! server is named as often as it may be asked, so that a lost datagram is asked again by the client's own choice among servers.

@@ -1,5 +1,9 @@
 //! The text of a script.
 //!
+//! A script is printed so that it is read as the very script, where it can be told; one more event is one more line, and a
+//! text that is cut anywhere is read up to its last whole line; else the answer names what can't be told. By `script_text`,
+//! `head_text`, `push_event`, `printing_laws`.
+//!
 //! `dns_script` reads scripts, and here one is written: its text is read as the very script. The text of one more event is one
 //! more line, so that a script can be written event by event, and may end behind any line.
 //!

@@ -1,6 +1,10 @@
 //! The books of an edge: which server a number is, which place a socket is at, what each socket has not taken yet, and at which of
 //! them something was found.
 //!
+//! The books of an edge, over any sockets: a server's number is its address's position, an out touches its own place alone,
+//! a socket is handed the outs' octets in order and each once, a client is told what the place's socket gave and only until
+//! it is closed, and no socket starves. By `Books`, `octets_go_once`.
+//!
 //! They stand on small traits of sockets, and are the same over the system's and over lists in memory. What a socket, a network or
 //! a wait does is told as one list, where it is known; by these lists it is proved what becomes of each out.
 //!

@@ -1,5 +1,13 @@
 //! A stub resolver: lookups over a client of the servers of a configuration.
 //!
+//! A resolver with a client, an edge, a clock and words of its own: a query is one request of the client, asked once more
+//! where its reply says that it could not be read, tied to the edge's polls and acts and the clock's moments as `ask` is;
+//! two questions of a name wait at once, so that both deadlines pass together, and so do as many questions as `resolve_all`
+//! is given, each of which gets what the reply to its own request says; the lookups over it are those of `resolv_lookup`;
+//! the edge learns each server before the client has it; what fails, why, and what that leaves. By `StubResolver::query`,
+//! `query_both`, `resolve_all`, `lookup_hosts`, `with_settings`, `from_conf`, `new`, `add_connection`, `run`,
+//! `run_with_conf`, the lookups, `Query::run`.
+//!
 //! `StubResolver` asks those servers, and each lookup can be made over it. It is in no hurry of its own: what happens at
 //! sockets comes from its edge, the time from its clock, and the words of chance from its words, so that it runs in memory as
 //! well as over the system's sockets.

@@ -1,5 +1,13 @@
 //! What the program `trace_audit` does, over two sources and two sinks.
 //!
+//! What `trace_audit` writes, and with which status it ends: `right` where the texts are a script and a trace that is
+//! judged right (and timely where that is asked), the clause and the row where it is judged wrong, the row where it is not
+//! timely, behind these what is missing there, if that is asked; the row where a right one misses a hit or an expired
+//! answer, where that is asked; the line that is refused. On each status but 0 and 6 the sentence that says why, with the
+//! file and what is wrong with it, or the names that are missing or too many, is written whole to the sink of errors and
+//! handed on unless that failed; at 0 none is. Not said: that a sentence stands at 6, and what is written before. By
+//! `run_audit`, `audit_to`, `audit_timely`, `audit_hits`.
+//!
 //! The program itself, the crate `trace_audit`, only makes the real ones and hands them in. Over sources and a sink in memory the whole
 //! program is a value that can be tried:
 //!

@@ -1,5 +1,9 @@
 //! Causes of errors in a trace: why a request gets each error, in a row or in one before, and what a forward pass keeps for that.
 //!
+//! Whether an error of a request has a cause that is no kept error, in a row or, where it is deferred, in a row before, is
+//! decided both ways for every error; what is kept for that of rows that are right is what the definitions say. By
+//! `direct_cause`, `server_cause`, `Earlier`, `earlier_goes_on`.
+//!
 //! `Earlier` has what is kept of rows that are done for deferred errors: `Openings` which openings failed at a server, and
 //! in which row, and in which row it got each request by datagrams; `Noted` the other errors that servers gave a request,
 //! where their cause may be gone later; `Arrivals` for whom a message came that may not be passed over, and for whom one

@@ -1,5 +1,9 @@
 //! Exchanges of a trace: what was sent and waits for its answer, and the messages that come for requests in a row.
 //!
+//! All messages that come for requests in a row are found, and only those, for one request or for all; in rows that are
+//! right nobody is sent or handed on who was not asked. By `find_coming`, `meet_open`, `put_open`, `right_rows_ask`,
+//! `open_sends_go_on`.
+//!
 //! `Open` keeps by place what was sent by datagrams and not answered: a datagram takes away what it answers, so a place
 //! with many datagrams costs no more each. `open_sends_go_on` says of each request that was asked that this is `unanswered`
 //! of `right_trace`. Here, and for the servers that got invalid requests (`Invalid`), what is kept is right behind rows

@@ -1,5 +1,8 @@
 //! What a forward pass over a trace keeps of what came at its places, datagrams and frames of streams, and of what was written
 //! to streams and waits for a frame.
+//!
+//! So is what it keeps of frames, and of writes that wait for one. By `Frames`, `Waiting`, `frames_go_on`,
+//! `waiting_goes_on`.
 #![tactic(auto)]
 
 mod frames;

@@ -1,6 +1,9 @@
 //! What replies gave: whether a message came for its request in a row, and the earlier replies that a later request may share,
 //! by what they answer.
 //!
+//! Whether a message came for its request in a row is decided both ways; earlier replies are kept by question, newest
+//! first. By `came_for`, `Earliers`.
+//!
 //! `Earliers` keeps of fresh replies and of errors by their own cause those whose requests may share them, by question:
 //! under the key without AD, DO and RD. `earlier_replies_go_on` says that it has just these; that a reply is fresh, or an
 //! error's cause its own, is told where it is put (`IsTold`). It goes on over the event of a row where what was given was

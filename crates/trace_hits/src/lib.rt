@@ -1,6 +1,11 @@
 //! What the cache of a right trace owes: whether each request is answered from the cache that must be, and whether what has expired
 //! serves where servers fail.
 //!
+//! Of a right trace a row is named exactly where a request should have been answered from the cache, and was not: the first
+//! such row; and the first whose request failed, in it or later, where what has expired should have served it. Both are
+//! exact, of every configuration and of all settings with that cache; nothing is said of a trace that is not right. By
+//! `first_missed_hit`, `first_missed_stale`.
+//!
 //! A pass over the rows keeps for each question at most one reply: the last fresh one, while each reply to the same question since
 //! then was its view, or stale. Of no other reply does a row owe anything: a fresh reply is never a view that is given in the row of
 //! its own asking. How many requests and replies came since is told by what was counted up to it. All of this is asked of right

@@ -1,5 +1,8 @@
 //! Whether a trace is right, decided in one pass over its rows.
 //!
+//! A trace is judged right exactly where its events are its script's and it is right; else the least row that is not is
+//! named, and the first clause that fails there. By `audit`.
+//!
 //! What is known before a row (`Past`) and what is known at a point within it (`Course`) are kept apart: a row's event and its outs go
 //! through the latter one by one, and each out is judged where it is put, by both. When the row is done, it is asked what requests,
 //! servers and places owe then, and which messages should have been replies. Then the row goes through what was known before it,

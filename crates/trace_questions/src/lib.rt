@@ -1,6 +1,10 @@
 //! Questions that a judge of traces asks: whether what a row puts out is right, from what was known before the row and what is
 //! known up to there.
 //!
+//! Whether a reply is the first, whether what is sent may be, and whether a datagram place may be opened are decided both
+//! ways; the least row with a reply that is not the first; marks and faults of a row. By `may_send`, `may_write`,
+//! `may_open`, `first_replied_again`, `marks_stand`, `has_one_fault_at_most`.
+//!
 //! Of an out it is asked, from the books before the row (`past`) and those up to the out, whether a reply is the first
 //! (`is_first`), whether what is sent may be (`may_send`: at most six times, at a place that is alive, opened for its
 //! server and had no send, to a request that was handed there, had no reply in an earlier row, and is carried), and whether

@@ -2,6 +2,9 @@
 //! requests, places and servers may be wrong, and what each clause asks of them. It is told of the trace's rows and of the clause alone,
 //! and judges nothing anew.
 //!
+//! What is said to be missing at a row is exactly that text of the clause, the row's number and the rows. By
+//! `push_missing`, `push_late`.
+//!
 //! `push_missing` and `push_late` (`trace_sentences`) add exactly the line that the definitions make of the clause, the
 //! row's number and the trace's rows (`missing`, `late`). What the clauses ask is told there, not decided: the line is of
 //! use behind a verdict of `audit` or a row of `audit_timely`.

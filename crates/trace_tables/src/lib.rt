@@ -1,6 +1,9 @@
 //! What a forward pass over a trace keeps, by number: its places, its requests, and what was sent. It is what the definitions
 //! of a right trace say of the history so far.
 //!
+//! What a pass over a trace keeps of places, requests and sends is, after each event and out, what the definitions of a
+//! right trace say. By `Books`, `books_go_on`, `deadlines_are_decided`.
+//!
 //! A pass goes forward over events and outs. `Books` keeps of places their kind, server and how they stand, of requests
 //! what was asked and when, where they were handed to and whether they have a reply, and what was sent by datagrams;
 //! `Frames` what is read of the next frame at a place and what the newest row's event brought; `Waiting` what was written

@@ -1,6 +1,10 @@
 //! Whether a trace is timely: whether each request has its reply by the first row at or past its timeout. It is asked of any trace,
 //! right or not, in one pass over its rows that keeps which requests wait.
 //!
+//! A row is named exactly where a trace is not timely: the first at whose end a request waits at or past its timeout; right
+//! or not, each trace can be asked so; the request that waits longest is found, and where a row is not timely its timeout
+//! has passed. By `first_untimely`, `longest_waiting`, `late_requests_are_named`.
+//!
 //! `audit_timely` names the first row at whose end a request waits at or past its timeout (`IsUntimely`), and none exactly
 //! where the trace is `Timely` (`timely`). It needs no right trace, and goes over the rows by itself: it keeps which
 //! requests were asked and have no reply, and looks at the one of them that was asked first, since none was asked later

@@ -1,4 +1,6 @@
 //! What a forward pass over a trace keeps of the last write at each stream place.
+//!
+//! So is how much of the last write at a place was not taken. By `Writing`, `writing_goes_on`.
 #![tactic(auto)]
 
 mod laws;

@@ -1,5 +1,15 @@
 //! What the program `zone_fetch` does, over files, two sinks and the rest of its world.
 //!
+//! Which words are which command; a zone's lines; status 0 means that the zone is what its transfer, as the edge gave it,
+//! makes of no zone, or of that in the file that prints octet for octet what the file has, and that its lines were written
+//! whole and handed on; statuses 2, 3 and 5 have their causes: the words, the file's source, the transfer (`IsCause`). On
+//! each status but 0 and 6 the sentence that says why, with the wrong word, the file and its line, or the zone, the server
+//! and the fault, is written whole to the sink of errors and handed on unless that failed; at 0 none is. Changes are asked
+//! for where a file has the zone, and the whole zone over the later edge only where the transfer of changes was one SOA
+//! with another serial. Not said: that a file with status 1 is no printed zone but where a line is named, that the whole
+//! zone is asked for whenever the server has no changes, and what was written before statuses 4 and 6. By `run_fetch`,
+//! `fetch_to`.
+//!
 //! The program itself, the crate `zone_fetch`, only makes the real ones and hands them in.
 //!
 //! ```text
