@@ -20,6 +20,17 @@
 //! A name may be read out of the octets of a header, by a pointer, so a header that is derived is kept beside its message
 //! and not written over it (`view_under` takes it). A view of a view is the view of the first message: its header, its
 //! entries, and how long it may be kept (`view_laws`).
+//!
+//! # Why it is so
+//!
+//! - **A key holds its name in lower case**, made once with the key, so that keys are compared and hashed by the octets of
+//!   their names as they stand. The counts of labels are no letters, so names are the same but for case just where these
+//!   octets are. **The name of a request is read where the request has it** (`Asked`); another is made only where something
+//!   is given or spared.
+//! - **An age counts up to 2^32 - 1 seconds**, which no TTL passes. A view takes any number of seconds: a TTL stops at 0,
+//!   and no condition is asked of a caller.
+//! - **Copies by what becomes of a TTL**: what copies the records of a kept message says of them what they are with TTLs
+//!   that are less by seconds (`Lessened`) or as those of an expired message (`Stale`).
 #![tactic(auto)]
 
 mod copying;

@@ -41,6 +41,37 @@
 //! A client that keeps nothing, or looks nothing up, is refused by `hits` of `Client::replay` too. One that never gives a
 //! stale message is refused by `stale` of `Client::replay`, and one that gives such a message while no server failed by
 //! `right`.
+//!
+//! # Why it is so
+//!
+//! - **The table takes memory as it fills, and is hashed from a seed**, so that who does not know it can't pick names of
+//!   equal hash. `with_seed` takes one; `new`, `with_config` and `Client::new`, which is handed no word, have the seed 0.
+//!   The seed is in no clause: what the table does is the same.
+//! - **A key is hashed by SipHash, in two writes**: eight octets of type, class and flags, and the name in lower case. The
+//!   standard library's cheaper hasher (`FoldHasher`) has one seed for all, and begun with one of ours it would have names
+//!   that collide under each seed: of a name whose second eight octets are its multiplier, but for one bit, the state is
+//!   turned and not mixed.
+//! - **Results are taken off the board below after each of the three calls**, so none waits there for a later event. Where
+//!   a request is handed on its response holds that of the transport below, and the job is found by that one's ticket: an
+//!   event that is no result costs the cache nothing.
+//! - **Results without validity.** A message that has none is an error for a request that the cache keeps; the machine may
+//!   also give it as it is, as a client without a cache does. Both are right.
+//! - **A derived header is kept beside its message.** A pointer may name any place before its own, in the header too, so
+//!   octets in which AA is cleared may have other names. `Stored` has the message as it came and the header as it is given:
+//!   so every view is one of the first message.
+//! - **What a request has to spare is taken when it is asked**, behind deriving: the entry under its own key, with the
+//!   class and the name of that request. What others do to the table meanwhile is nothing to it. It is given also where
+//!   another entry became fresher while the request waited, and where a newer answer that may not be kept came before. A
+//!   response code other than NOERROR and NXDOMAIN that is kept takes the place of the expired message, so that none serves
+//!   then. It stands on the heap (`Spared`): few requests have any, and one that waits is moved several times.
+//! - **A kept message is composed when it is given for the first time** to a request with the flags of its key, and patched
+//!   from then on. What is never asked for again costs nothing more; where memory is wanting the hit is composed, and the
+//!   next one tries again. What can't be patched, or is long, is composed each time. A copy of an entry, as one for other
+//!   flags, has a template of its own once it is given.
+//! - **What is long is not kept.** Written out, a message may be many times what came: an SRV record of 20 octets whose
+//!   target is a pointer becomes 273. A template of more than twice the octets that came and 512 is not kept.
+//! - **The kit's `lru` keeps the entries**, as a library that is proved and kept well, though a table of our own, whose
+//!   places hold hash, name and octets, would read half as many lines of memory at a hit among 100,000 (docs/PROFILE.md).
 #![tactic(auto)]
 
 mod connection;

@@ -58,6 +58,21 @@
 //!   burst or estimate.
 //! - `Config` and `ConnConfig` are records of their settings; a setter cuts its value into the limits and changes nothing
 //!   else.
+//!
+//! # Why it is so
+//!
+//! - **What a server posts for other requests, while one is started or given up there,** stands on that server's own board
+//!   until it hears the next signal: settled at once it could start and end requests without a bound that a definition
+//!   could say. What comes for the very request that is started is taken at once. Datagrams, streams and the fallback post
+//!   nothing else in those two calls; that is read in their code and not proved.
+//! - **A request of a choice keeps one result that was put off**, the one to give: a message takes the place of an error,
+//!   and nothing that of a message.
+//! - **What a server posts under a ticket that it does not have** is handed on under that ticket, since it is that of a
+//!   `send_on`.
+//! - **Servers are sorted, and told as if they were put in their places one by one.** A stable sort gives the same
+//!   (`crates/client_choice/proofs/Ordered.antt`, by any order), since what compares alike keeps its places.
+//! - **A client without servers has no choice**, and `add_server` makes one. More than 2^32 servers count as want of
+//!   memory, since a server's number has 32 bits.
 #![tactic(auto)]
 
 mod candidates;

@@ -30,6 +30,11 @@
 //! - `Edge::wait` has a body that does nothing, so that an edge need not sleep. It changes no deed, poll or fault. An edge
 //!   may keep what it was told in a list (`waits`): after a call that wait is the last of the list, or the list is as it
 //!   was (`Waited`), and no other call changes it. `ListEdge` keeps each wait for which it has the memory.
+//!
+//! # Why it is so
+//!
+//! - **`ListEdge` keeps a queue** of the list that it is handed, and takes its memory before it changes, so that want of
+//!   memory leaves it as it was.
 #![tactic(auto)]
 
 mod client;

@@ -30,6 +30,23 @@
 //! - `RealClock`: `gives` what it keeps, which `rises`. `RandWords`: its words are a function of the generator's state,
 //!   exactly.
 //! - `FileOpener`, `ConfFile`, `UdpConnect`, `TcpConnect`, `UdpDgram`: the count after each call is exact.
+//!
+//! # Why it is so
+//!
+//! - **A socket is made unconnected, and connects without waiting**: the standard library makes no such stream, and a
+//!   listener that is shut down can't be connected any more (Linux 6.18 answers EINVAL). So `client_edge::unconnected`
+//!   calls the C library's `socket` with the flags by which no call waits and no program inherits it; it is the one
+//!   function with `unsafe`. `connect` then picks the local port, for datagrams too. The call is that of `UdpSocket`, which
+//!   takes a descriptor of any kind: `TcpConnect` may give a stream that is still connecting.
+//! - **One wait tells which places are ready.** `SocketEdge::poll` gives an event that is queued; else it looks at the next
+//!   place that the last wait found ready, and asks the system first, without waiting, where none is left. So none starves
+//!   another, and idle sockets cost no call of their own. A poll looks at one place: where that has nothing to tell it
+//!   gives nothing, and the next wait doesn't last.
+//! - **An address that is not available is `Unreachable`.** A call that would wait is `Expired` at `UdpDgram` alone, whose
+//!   trait has no other answer; at a place it is no event. A datagram that can't be sent for now is kept and goes on later,
+//!   like a write.
+//! - **Want of memory at the edge.** An act has then done nothing; a poll may lose what came at one place, and of a stream
+//!   nothing more is read then, since there is a gap.
 #![tactic(auto)]
 
 mod address;

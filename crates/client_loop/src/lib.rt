@@ -45,6 +45,13 @@
 //!   plain client's, and before each turn one was missing. Of no request nothing is asked and nothing happens. `StopAll`: a
 //!   number would pass 64 bits at one of them, or in a turn.
 //! - `learn_all`: where the edge tells its deeds, those of the call are the servers, in order; no poll is made.
+//!
+//! # Why it is so
+//!
+//! - **Turns are a crate of their own**, `client_loop`. A request is asked from a client in any state, so that a second one
+//!   can follow the first, and its number is handed in, since the client does not tell the number of its next one. The
+//!   bound on turns is a parameter of `ask_within`, and `ask` gives a million: the proof of the loop never sees the
+//!   numeral, and a test needs no million turns.
 #![tactic(auto)]
 
 mod all;

@@ -47,6 +47,29 @@
 //!   the transport that has it is told.
 //! - `dgram_stream::Connection` is `Fallback` over the connections of `client_dgram` and `multi_stream`; `with_config`
 //!   gives each its part of the settings, and the same number of the server.
+//!
+//! # Why it is so
+//!
+//! - **A connection below reconnection is a trait of three calls** (`OneStream`), taken by value: a call that gives up
+//!   drops the connection, so a server by streams holds only ones that never did. Its plain machine speaks of a connection
+//!   by a record of functions, so a connection of another kind needs no other proof.
+//! - **`multi_stream::Config` and `dgram_stream::Config` are not `Copy`**, since they lend the settings of what is below
+//!   (`stream_mut`, `dgram_mut`), and the toolchain proves no loan out of a `Copy` type. They have `try_clone`, which takes
+//!   no memory.
+//! - **No transfer goes by reconnection**, as in the crate: the type of transfers of its connections is
+//!   `RequestMessageMulti`, and none is handed to them.
+//! - **The timer of each connection is kept with its place**, so a due timer is found by one look-up. **A connection that
+//!   ended leaves the table at once**, so that what is in the table is open; what it posted as it ended is taken after
+//!   that.
+//! - **The transport backs off by a moment**, not by a timer: none is opened before it. The counts of times stand still at
+//!   their last value.
+//! - **`Fallback` is over any two transports.** `dgram_stream::Connection` is that type over the connections of
+//!   `client_dgram` and of `multi_stream`. What is told goes to both, each of which finds it by one look-up or ignores it.
+//!   What the datagrams posted is settled before what the stream posted, and after both have heard. The datagrams get a
+//!   copy of the request, so that what goes to the stream has neither their id nor their payload size.
+//! - **Where a slot is given on.** A truncated datagram gives its slot on before its request goes on by stream, so the
+//!   plain client puts `OpenDgram` before `Start .. stream` where another request waits for the slot. In `proof_right`'s
+//!   machine both orders are runs.
 #![tactic(auto)]
 
 pub mod dgram_stream;

@@ -68,6 +68,22 @@
 //!
 //! Composing is a function of the request, `composed`, and so plain steps are functions. How names are compressed is free
 //! all the same: nothing above `dns_base` looks into those octets.
+//!
+//! # Why it is so
+//!
+//! - **Limits that tie.** Cutting a value into limits twice is cutting it once where limits that compare as equal are the
+//!   same value (`limit_laws`). For an order that ties different values it is false: the second cut may give the other
+//!   limit.
+//! - **A request that may be asked** is one by its type: `RequestMessage` keeps that its base is not misformed. So the text
+//!   of every trace is read back.
+//! - **What both kinds of requests share** stands in the trait `Compose`. Who calls a method on a request of a known type
+//!   imports it; under a bound of `ComposeRequest` or `ComposeRequestMulti` nothing more is imported.
+//! - **`sole_question` tells the very question of the message that would be composed**, spelled as there. Where no message
+//!   can be made it says nothing; `check_message` tells that. So a cache composes no message, and who hands a request on
+//!   composes it once.
+//! - **Timers that were cancelled** stay in the heap until they come to its top, or are more than half of more than 16
+//!   entries: then all are taken out, in place. So they are at most as many as are set, and 16, and each call pays for a
+//!   constant number of them. The view of `Timers` is the list of those that are set.
 #![tactic(auto)]
 
 mod append;

@@ -30,6 +30,24 @@
 //!
 //! `legal_histories` of `proof_shared`: the rows of a legal history are the plain trace of its events, and right and
 //! timely, and give what is kept.
+//!
+//! # Why it is so
+//!
+//! - **A client that threads share is a crate of its own**, `client_shared`, above `client_core`, which knows of no thread.
+//!   Its key has two ghost members: the table of its history and the opening, which has the count of callers in it. A
+//!   pass's history is legal by its type; `history_is_legal` hands the fact out.
+//! - **An entry puts itself.** The caller's own seat does the atomic step, while it holds the part that keeps the history;
+//!   so whose an item is, and that no other came from its caller in between, is read off what a seat has seen.
+//! - **Room, then a copy, then the step.** Whatever can be refused without a loss is asked for before the client is
+//!   stepped; the loss of an earlier call is looked at before all. `submit` copies what was put out, once for the journal
+//!   and once for the receipt.
+//! - **No clause of `submit` says `Failed` from what the pass had seen**: a loss that a pass has seen lies under the lock
+//!   too, but what lies there has no name in that clause; `Desk::submit` says it. **`UnjournaledClient` counts its calls in
+//!   64 bits** and answers `NumbersUsed` before the last ones.
+//! - **`run_lanes` has a thread for each lane**, by joins of two; where a thread can't be had, its lane runs after the
+//!   others. What a lane needs stands in one value behind a trait (`Lanes`): with each part borrowed by itself, the borrow
+//!   checker does not cover them. Of several lanes' errors the first is answered, by lane, that is not `Failed`, so that
+//!   want of memory or of a number is not hidden by the lanes behind it.
 #![tactic(auto)]
 
 mod desk;

@@ -37,6 +37,21 @@
 //!   `transfer_law`: the parts that a transfer gets are the fold of what each message with its id gives (`transferred`),
 //!   whatever other messages come between them.
 //! - Errors come in order of ids, then to the queued requests in order of tickets; both stand in `ends_with`.
+//!
+//! # Why it is so
+//!
+//! - **What frees an id leaves an empty list** under it: a place has at most 65536 ids, and no table has to be known to
+//!   hold a key once.
+//! - **Requests by stream are composed without a limit**, and a message of more than 65535 octets is then refused: with
+//!   names compressed, only what can't be sent is refused.
+//! - **The id before the item.** `Queries::next_id` tells the id that `insert` gives next, so that a request is composed
+//!   under it before it is kept. Where the message is too long an empty holder takes the id and leaves it again: the mark
+//!   rises as if it had been held.
+//! - **The error of a connection that ends while idle** reaches nobody who holds an id, since nobody does; it is that of
+//!   the queued requests.
+//! - **Two timeouts, two kinds of requests.** An active connection keeps the moment from which it waits, and the time that
+//!   is in force. A connection to which nobody has asked a request has the time of single ones in force.
+//! - **`LineStage`, `Holder`, `QueuedRequest` and `AnyRequest` are public**, since definitions speak of them.
 #![tactic(auto)]
 
 mod composing;

@@ -18,6 +18,19 @@
 //! - `transfer_law`: what messages give is the fold of what each gives (`transferred`), wherever the list of them is cut;
 //!   the records of two sections one behind the other lead where those of one do; an end is given once, last, and nothing
 //!   behind it; and after a message was refused none is taken any more.
+//!
+//! # Why it is so
+//!
+//! - **What a transfer asks for is read from its message**, as it is composed, and not from its base: so a request of any
+//!   type can be a transfer. `RequestMessageMulti` takes no base of another type, so `FormError` never comes of one.
+//! - **The states of a transfer are a crate**, `client_transfer`: what a message does to a transfer has to do with no id,
+//!   frame or timer. There are two kinds of SOA, each with its serial; before the first record none is kept, so the first
+//!   SOA is `OtherSoa`. `Error` has no row of records, since no message gets so far there.
+//! - **A first SOA that stands alone** in its message ends a transfer of changes, as the server may have none. So a server
+//!   that sends changes with the first SOA in a message of its own is cut short, and what it sends later is refused.
+//! - **A later message of a transfer** is asked neither for its id nor for QR or the question, as long as its response code
+//!   is 0: a connection hands on only messages with the transfer's id. The response code that ends a transfer is that of
+//!   the header alone, without the bits of an OPT record.
 #![tactic(auto)]
 
 mod checking;

@@ -21,6 +21,20 @@
 //! - All suffixes of a name are found by one search of a table of names, sorted by their labels from the last on, so a name
 //!   costs in line with its octets whatever was written before. The table is no part of a `Draft`: `IsIndex` says that what
 //!   it finds is what a look at one place after the other finds (`found_at`), and each call of the crate keeps it so.
+//!
+//! # Why it is so
+//!
+//! - **Names are compressed by a sorted table of names.** Up to sixteen places are looked at one after the other, which
+//!   costs less than a table. Beyond that a table has the names of the entries before, and a second one those of the entry
+//!   that is being written, since the length of its data is still to be written. The key of a name is its labels from the
+//!   last to the first, each behind its length, in lower case, so names that share a suffix stand together, and a name
+//!   takes a few searches however many labels it has. Names that a server chooses make no search long; a hash would need a
+//!   secret. A header that is set anew drops the table, since a pointer might lead into the header.
+//! - **Aliases are followed by a table that takes no memory**, so `Message::canonical_name` has no error, and the getters
+//!   of lookups that call it have none. The table is an array of places on the stack, 12 KB, in the order of the owners'
+//!   names: no peer can make names collide in it. It has room for all records of a message of 65,535 octets, which no frame
+//!   or datagram passes; a longer one, which a program may make by itself, is walked once a step.
+//! - **The texts of `CopyRecordsError`** are chosen here.
 #![tactic(auto)]
 
 mod alias_table;

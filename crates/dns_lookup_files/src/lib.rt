@@ -9,6 +9,11 @@
 //! let words = with_files(alloc, &mut opener, &words)?;
 //! let lookup = lookup_of(alloc, &words)?;
 //! ```
+//!
+//! # Why it is so
+//!
+//! - **Words of a lookup's files are words of UTF-8** (`dns_lookup_files`): one that isn't makes its file one that could
+//!   not be read; in a comment line anything may stand. White space is that of ASCII.
 #![tactic(auto)]
 
 mod filed;

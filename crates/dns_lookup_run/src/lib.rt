@@ -69,6 +69,24 @@
 //! The program's edge is a `PassingEdge` over sockets. Its `poll` gives what came (`gives`), but for a datagram with NOTIMP
 //! that answers what was sent at its place: that is a fault of the place (`passed`), until each server that was learned has
 //! said so.
+//!
+//! # Why it is so
+//!
+//! - **Of a record that ended, `run_recorded` tells by its value alone**: no public clause says that `ended` and `lost` are
+//!   the recorder's, so that they are shown by tests (`tests/record_live.py`, faults), as is the line of `tell_ended`.
+//! - **How a lookup ends.** Status 1 is never given. The first request without an answer ends it, and the pages before it
+//!   stand; it asks for A, then for AAAA records, so that a silent server costs one deadline. That an answer has no data is
+//!   told by a status only where data alone is written, since a page says it itself. `+time` is the client's time for a
+//!   request, all rounds together.
+//! - **Which server answered, and which failed how, is told by the sockets' side.** The server that is told is the one from
+//!   which octets came last before the reply, by an edge that watches another one, since no clause of a client says whose
+//!   message a reply was. Of each server it is the last place that was opened for the request, where it brought nothing, a
+//!   fault, or a datagram with another code than NOERROR and NXDOMAIN; a datagram under another id counts as one that came.
+//!   Of the lines behind a sentence it is proved that they are of this form, for some places.
+//! - **NOTIMP is put off by an edge**, since no setting of a choice puts it off: `PassingEdge` of `dns_lookup_run` gives a
+//!   datagram by which a server says it as a fault of the place. So the next server is asked, as glibc does and dig and
+//!   kdig do not. Once every server has said it, the datagram is given as it came. Where some say it and none of the others
+//!   answers, the lookup ends without an answer; a stream's message is given as it came.
 #![tactic(auto)]
 
 mod asking;

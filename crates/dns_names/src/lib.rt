@@ -6,6 +6,11 @@
 //!
 //! - `Name::lower` leaves the name in lower case (`lowered`), `Name::respell` the one that octets spell, or the root where
 //!   memory is wanting.
+//!
+//! # Why it is so
+//!
+//! - **An owned name has room for 32 octets at first.** Most names have fewer, and so take memory once, in place of once
+//!   more each time that they double.
 #![tactic(auto)]
 
 mod draft;

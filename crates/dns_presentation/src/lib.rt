@@ -16,6 +16,17 @@
 //! - `presentation` lends what it is called on. A `Question` then prints exactly `question_text`, and a `Record` its owner,
 //!   seconds, class and type exactly, whatever its data is told as (`record_text`). Nothing is said of what a `Message`
 //!   prints.
+//!
+//! # Why it is so
+//!
+//! - **Presentation form is kdig's.** Where RFCs leave a choice, what is printed is what `kdig` prints of it, up to blanks,
+//!   so that one can be held to the other: each printable character but letters, digits, `-`, `_`, `*` and `/` stands
+//!   behind a backslash in a name; digits of hashes are upper case, those of base 32 lower case; base 64 has no blanks; a
+//!   parameter of SVCB whose form is not known stands between quotes; an OPT record is a section of its own. A label that
+//!   begins with `#` is `\035`, since `\#` begins generic data. Codes and types print by their IANA names, where kdig has
+//!   some of its own.
+//! - **What can't be read is still printed**: data that its type doesn't fit as generic data, and a message up to the first
+//!   entry that can't be read, with a line that says so.
 #![tactic(auto)]
 
 mod base64;

@@ -38,6 +38,12 @@
 //! - `recorded_ask` asks a request as `client_loop::ask` does (`IsAnswered`, with the words that were written), also behind
 //!   the record's end, and records the rows of its asking and its turns (`IsAnsweredAnd`); each of its steps finds as many
 //!   words as was said.
+//!
+//! # Why it is so
+//!
+//! - **The recorder owns the words for one step**, since a step does not say that it gives back what it borrowed; between
+//!   calls they lie in an `Option`. The words that are drawn ahead have a name in contracts (`words_ahead`), which no proof
+//!   but that of the record's beginning opens.
 #![tactic(auto)]
 
 mod asking;

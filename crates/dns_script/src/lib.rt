@@ -28,6 +28,15 @@
 //!   alone; a text is one script at most; a trace or a script is not refused, and any other text is refused at one line.
 //! - `generate` makes exactly the script of its definition (`generated`), for 1 to 1000; `summary_text` writes exactly the
 //!   counts of a trace (`summary_text_of`).
+//!
+//! # Why it is so
+//!
+//! - **`conf` lines of a script** are lines of a configuration as they stand behind `conf `, so a comment and a line
+//!   without words set nothing, and blanks are those of the configuration's own grammar. A `set` line has single blanks.
+//! - **Fault words.** `recv-failed 1 expired` is read in a trace and refused in a script, and so are `short-send`,
+//!   `nothing-taken` and `end-of-data`: a script tells what a socket tells, and these the client finds itself. The line of
+//!   a reply is what a trace tells of it behind `> `: `push_reply` of `dns_script` writes both.
+//! - **A summary counts with 64 bits**; a count that would pass them is want of memory, since no memory holds such a trace.
 #![tactic(auto)]
 
 mod bounds;

@@ -20,6 +20,12 @@
 //! - Objects in memory (`MemSource`, `MemSink`, `MemFiles`, `ListDgram`, `ListConnect`, `ListEdge`, `ListClock`) have exact
 //!   clauses on each call, beside those of their trait: what the call answers by its number, what it leaves, and that want
 //!   of memory leaves an edge as it was.
+//!
+//! # Why it is so
+//!
+//! - **What a sink handed on** is a ghost member with a default (nothing is told), so that a sink that can't know needs no
+//!   word on it. `StdSink` tells nothing of it: the standard library says of `flush` only that known octets stay.
+//! - **`MemFiles` takes no memory**: it keeps where the open file stands among its files, and no copy.
 #![tactic(auto)]
 
 mod address;

@@ -26,6 +26,13 @@
 //!   (`Stops`). The line was said.
 //!
 //! 2 and 5 never come. `many_text` of a journal is exactly `many_text_of`.
+//!
+//! # Why it is so
+//!
+//! - **The command `many` is a crate of its own**, `dnsq_many`, above `dnsq_run`: what starts no thread takes no leave to
+//!   wait. It stops for numbers where some order of its lanes does, since which is let through is not known beforehand. The
+//!   journal is let go entry by entry while it is printed. Its first line is `many 2` exactly where a line `> stale`
+//!   stands, as `trace 2`, so that a reader of before is not misled.
 #![tactic(auto)]
 
 mod input;

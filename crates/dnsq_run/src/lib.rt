@@ -59,6 +59,18 @@
 //! `statuses`: there is no other. So a good input and no fault of source or sink give 0, or 6 or 7. `input_laws` says that
 //! an input has one output at most, and is not both taken and refused. `refusal` gives 7 and its line only for
 //! `NumbersUsed`, and never 1 or 3. The order is words, source fault, size, first bad line, the run, the sink.
+//!
+//! # Why it is so
+//!
+//! - **Words that are not UTF-8** are no command: the usage line and status 2. **The first bad line** is named only of an
+//!   input that is short enough.
+//! - **`dnsq replay` writes each row as it comes**, so that no trace stands in memory beside its text: its text is a
+//!   `TakeRow`, to which `Client::replay_into` hands each row, and is proved to be that of the plain trace, right and
+//!   timely (`IsTold`). It is written out only where the whole replay was well, so it stands in memory whole: in the memory
+//!   that the script's text had, and in what it grows by. `gen` sums up the rows of `Client::replay`, which are kept.
+//! - **A query's source fails at its first read** where `/etc/resolv.conf` can't be opened. Without random words nothing is
+//!   asked: `dnsq query` ends with status 6 where the system gives no seed, since ids that can be guessed are worse than no
+//!   answer.
 #![tactic(auto)]
 
 mod configure;

@@ -17,6 +17,12 @@
 //!   the first of them (`IsServed`, `HasEnded`). At 8 nothing was served, since nothing can be recorded (`IsRefused` says
 //!   why), and the line with that cause was told. Not said, since behind a record's end the client draws from its own
 //!   source: that the rows are one plain trace, as `serve_as` says; of those that are recorded it is.
+//!
+//! # Why it is so
+//!
+//! - **`forward_record` has turns and an end of its own**, as those of `forward_run`: one function over both would speak of
+//!   what a forwarder is made of by relations of its caller's, so that the clauses of `serve_as` would no longer name a
+//!   right trace, nor these a record.
 #![tactic(auto)]
 
 mod recorded_core;

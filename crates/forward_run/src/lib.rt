@@ -19,6 +19,11 @@
 //!   the options say. Status 5 comes only where the front's count of faults rose, or where one of these servers is an
 //!   address that is listened on, at this very port. Who watches (`Watch`) is told of each turn and has no part in
 //!   anything.
+//!
+//! # Why it is so
+//!
+//! - **Who watches a forwarder is told how many queries wait and how many results are kept**, and not handed the forwarder,
+//!   so that one that is recorded may be watched too.
 #![tactic(auto)]
 
 mod front;

@@ -26,6 +26,18 @@
 //!   how many answers all put out together. A worker that gives up ends the history, and its status is that of all. Not
 //!   said: at which moments, in which order workers come to the lock and that one comes to it, and what is left to the
 //!   first thread behind its last turn, which nobody does.
+//!
+//! # Why it is so
+//!
+//! - **A worker does of its row what anyone may do**, answers by datagrams, whoever they are for. It wakes the first thread
+//!   only where something begins to wait for it, by a datagram to a socket of loopback; what comes there is thrown away. It
+//!   holds the forwarder for all that has come at its door, up to 32 datagrams (`SharedForwarder::hold`), and sends its
+//!   answers once it lets go: with a lock for each datagram two workers answered fewer hits than one thread.
+//! - **Workers of one address share one socket that does not wait**: each sleeps for a second at most until something comes
+//!   at it, and sees within a second that the others have ended. What threads have of their own is handed to them by value
+//!   and given back (`map_vec`), so that nothing borrowed lies in a thread.
+//! - **How many workers there may be is a premise of `serve_by_all`** (fewer than 2^32 - 1), since callers of a shared
+//!   forwarder are numbered by 32 bits; `dns_forward` has 16,384 at most.
 #![tactic(auto)]
 
 mod crew;

@@ -15,6 +15,12 @@
 //! - **A stream** is open from its `Accepted` until it is gone or dropped, and is dropped where the `Drops` stands among
 //!   the things: so what was asked before it in the same octets may still be answered at once. `quietest` is the least
 //!   moment of `Accepted`, `Bytes` or an answer, and of equal ones the least number.
+//!
+//! # Why it is so
+//!
+//! - **A stream is dropped where its frame stands among an event's things**, not before them: what was asked before it in
+//!   the same octets, and is served at once, still goes out. So `Peers` says what is to be dropped, and who puts the drop
+//!   out closes the stream.
 #![tactic(auto)]
 
 mod event;

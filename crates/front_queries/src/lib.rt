@@ -27,6 +27,23 @@
 //! which no name is written anew, but for an OPT record without options in the last place, is not composed anew
 //! (`simple_of`): its own octets stand between a header, counts and this host's OPT record. That this is what would be
 //! composed is a law (`is_answered`).
+//!
+//! # Why it is so
+//!
+//! - **What is kept of a query is what its answer needs.** A `Query` has a header, a name, a type, a class and two facts of
+//!   its OPT record, and not the octets that came: then no call can hand a record or an option of it on, and 10,000 that
+//!   wait are small. Its key is octets (`Query::key`): a table that is ordered by them needs no hash, and no seed.
+//! - **Causes of a refusal have an order**: the opcode first, then a zone, then the form, then the version of EDNS, then
+//!   the type. A query for a change of a zone has a record in its authority section (RFC 1995 3) and is refused as one for
+//!   a zone; one of a later version whose options can't be read is refused for its form, as BIND does. BADVERS tells DO as
+//!   the query has it (RFC 3225 3).
+//! - **An answer to no question has none.** Where a server tells an error by a header alone, the client gets a header
+//!   alone, with an OPT record where it sent one. SERVFAIL keeps the flags of the query but for QR and AD, as that of a
+//!   choice without a server does.
+//! - **A datagram that answers by a reply of more than 4,096 octets is cut by definition**, before its records are read:
+//!   its header with TC, the question and the OPT record. Composing it only to throw it away took 1.8 ms for a query of 40
+//!   octets, so 600 such queries a second held all others up. That so long a reply would have fitted once its names are
+//!   compressed anew is lost: the client asks by a stream, as TC says (RFC 2181 9).
 #![tactic(auto)]
 
 mod answering;

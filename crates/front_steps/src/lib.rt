@@ -14,6 +14,19 @@
 //! - **The client within** (`Within`) tells one relation, `steps`, and one function, `serves`; so `Forwarder::step` says
 //!   for any client what happens to it and what is put out of its rows (`TookIn`): its `rows` and `now` are those rows, and
 //!   `runs` says that they are the client's, one behind another. `Failed` comes exactly after an error.
+//!
+//! # Why it is so
+//!
+//! - **Queries that wait lie under their request's number**, and the numbers under what is asked: a reply finds all who
+//!   wait for it, and a query whether one asks the same, each in logarithmic time. A query that has its reply at once
+//!   stands in no table; the definitions let it wait and be answered in one step, and what is put out and left is the same
+//!   (`passed`, `replied`).
+//! - **A query that asks the same as one that waits is turned away where 10,000 wait**, though the cache might serve it by
+//!   then: equal questions at once are asked once, and letting it wait would let a flood of one question take memory
+//!   without an end. A question begins to wait only where nothing serves it.
+//! - **At most 250 queries that came by streams wait for another one's answer.** Else 10,000 that ask for one name of 57 KB
+//!   each get it at once, in 669 MB. Datagrams are not counted, since each gets 1,232 octets at most: so a herd of them
+//!   keeps no stream away.
 #![tactic(auto)]
 
 mod asked_key;

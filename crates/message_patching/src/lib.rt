@@ -24,6 +24,13 @@
 //! leave no record out (`gives`). It answers none also where what it composed has more than twice the message's octets and
 //! 512 (`short`): names that pointers led to may be many times what came. Of each message whose views a template gives,
 //! what is patched is that view (`views`). The cache's entries have such templates.
+//!
+//! # Why it is so
+//!
+//! - **A message that is patched is found, not told.** The places of its TTLs are found by walking it once, by the ends of
+//!   its names, and not told by the builder: so a template is made of any composed message. Its name is compared at place
+//!   12, octet by octet without case. It has at most one question, and without one it serves every name. It has octets of
+//!   its own, which need no count of owners, and up to four places of TTLs in itself.
 #![tactic(auto)]
 
 mod laws;

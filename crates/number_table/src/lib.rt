@@ -15,6 +15,12 @@
 //! - The entries stand in slots in rising order of keys. A key above all others goes to the end, an entry that is taken out
 //!   leaves its slot empty, and empty slots go once they are more than half of more than 16. So it is quick where keys
 //!   mostly rise and the least leave first. No bound on steps or on slots is claimed.
+//!
+//! # Why it is so
+//!
+//! - **Tables by number** are slots in rising order of keys and no ordered maps: tickets, places and timers rise, and
+//!   mostly the least leave first. A search looks where the key is if it is the least, and where it is if each number
+//!   behind it has a slot, before it halves the slots. Sets of tickets are ordered sets.
 #![tactic(auto)]
 
 mod entries;

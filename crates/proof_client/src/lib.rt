@@ -10,6 +10,13 @@
 //! `every_plain_trace_is_right` (each plain trace of a configuration). What they say is read aloud in docs/DEFINITIONS.md.
 //! `Client::replay` has the last in its clauses. Of a choice among servers (`proof_choice`): `silent_choices_move`,
 //! `silent_choices_are_whole`, `silent_choices_refuse`.
+//!
+//! # Why it is so
+//!
+//! - **A tie is a record over a given relation**, and no type that holds one, so that the contract of a law can state it. A
+//!   transport is tied to the machine once, and the client above any: the relation of each transport is to the part of one
+//!   server, so a fallback is tied where its two halves are. A server's kind is fitted in as a layer that puts out `Start`
+//!   first, and servers that are not asked only have to rest.
 #![tactic(auto)]
 
 mod laws;

@@ -9,6 +9,13 @@
 //! which one that brings octets is replaced by several (`IsCut`). It stands on `IsCuttable`, what each transport owes at a
 //! place so that octets may come in pieces, which is proved of connections by stream, of reconnection, of datagrams, of the
 //! fallback, of one server, and, over any transport that owes it, of a choice and of a cache.
+//!
+//! # Why it is so
+//!
+//! - **Pieces.** The cutting law speaks of the client of a configuration from its beginning, whatever it was told, and so
+//!   of every client that can be reached. Of any value of the plain client it would be false: of two servers that have one
+//!   place, or where a result still waits on a server's board, the outs of two pieces come in another order. `IsFitLayer`
+//!   (`crates/proof_cutting/specs/Layers.antt`) keeps that away, and the ties give it.
 #![tactic(auto)]
 
 mod laws;

@@ -11,6 +11,12 @@
 //!
 //! - `record_of` (`record_file`): the file that words name, `--record FILE` first, and the words behind that. What becomes
 //!   of a `RecordFile` no clause says but its count of faults.
+//!
+//! # Why it is so
+//!
+//! - **A record's file is made at the first octet**, so that words that are refused leave none, and so that no file is
+//!   written over, no link followed and no device filled. `--record FILE` stands first, before the words that were proved
+//!   to be read as they are. Status 8 is of records alone.
 #![tactic(auto)]
 
 mod file;

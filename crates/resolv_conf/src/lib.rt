@@ -14,6 +14,13 @@
 //! ```
 //!
 //! - The configuration's lines are a grammar over words; `parse` is its fold.
+//!
+//! # Why it is so
+//!
+//! - **`SearchList`** has calls of its own (`from_suffix`, `push_root`) and a vector of its own where `Seq` would serve
+//!   below them.
+//! - **A default without its file.** A file that could not be read is dropped only where the count of faults rose
+//!   (`IsDefaultOf`). Where an opener tells nothing of its files, `default` promises nothing of the result.
 #![tactic(auto)]
 
 mod conf;

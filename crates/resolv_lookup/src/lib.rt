@@ -35,6 +35,17 @@
 //! - A fault of a question comes only with a rise of the resolver's count (`HostIsCounted`, `SrvIsCounted`); `NoMemory` is
 //!   free.
 //! - The iterators give their lists item by item, and end.
+//!
+//! # Why it is so
+//!
+//! - **Lookups take `alloc`**, and a resolver's `query` too, since it makes a message. A question that found no memory is
+//!   told or not: a resolver in memory that can't keep the question does not ask it. `ListResolver` keeps its questions, so
+//!   that it can tell them; `with_search` gives it suffixes.
+//! - **`search_host` makes all names first**, so that want of memory comes before the first question, and the suffixes that
+//!   the resolver lends are given back before it is asked. `SearchIter` stands in `resolv_lookup`, beside the trait that
+//!   hands it out.
+//! - **The word of a draw** is bounded by the sum of the weights in the definition, which changes nothing for words of 64
+//!   bits; so the laws of the order hold for any words.
 #![tactic(auto)]
 
 mod addr;

@@ -25,6 +25,17 @@
 //!   are left (`words_left`): one fewer with `rotate`. Or memory ran out.
 //! - `practical_choice`: the settings by which an error of a transport, REFUSED and SERVFAIL of one server wait for the
 //!   others.
+//!
+//! # Why it is so
+//!
+//! - **`attempts` counts from 1 to 5, and `timeout` from 1 to 30 seconds**, as resolver(5) says of the C library's; 0
+//!   counts as 1 there too. The options stay as they were read, but for `timeout`, which is the client's deadline and
+//!   becomes as long as all rounds.
+//! - **A file as it is found** is read by the exact grammar of `resolv_conf`, line by line: a comment may stand behind
+//!   words, where a blank stands before its sign; each option is a line of its own; a server's line ends at a percent sign,
+//!   since an address here has no zone. The address without its zone is asked all the same: a global one is reached, a
+//!   link-local one fails at once. What is refused is told and leaves what the exact reader leaves. Short addresses
+//!   (`10.1`), which the C library takes, are none here, and all servers are asked, of which it takes three.
 #![tactic(auto)]
 
 mod found;

@@ -42,6 +42,14 @@
 //! - A wait sleeps only where nothing is known of which nobody was told (`Sleeps`).
 //!
 //! After `NoMemory` nothing is said of the books but what each call's documentation says.
+//!
+//! # Why it is so
+//!
+//! - **One trait opens sockets and waits for them** (`Network`), since a wait that could open sockets, or an opening that
+//!   could change what was found, would leave the books' clauses less to say.
+//! - **Octets wait as whole outs**, and a socket that took a part of an out is handed no more of it: the client is told how
+//!   many were taken, and puts out the rest itself. A closed place's events stay queued and are dropped when their turn
+//!   comes, so that closing costs no walk. Places lie in a map by number.
 #![tactic(auto)]
 
 mod any_socket;

@@ -51,6 +51,20 @@
 //!   host), each with its count and faults.
 //! - `run_with_conf` and `run` call an operation with a new resolver and give what it gives; where there is no memory for
 //!   one, what its fault's type makes of that (`IsDone`).
+//!
+//! # Why it is so
+//!
+//! - **Many questions at once are one call with one list of results.** `resolve_all` asks them by `client_loop::ask_all`,
+//!   which gives all replies when the last is there; a call that gives each as it comes would need one that hands on what
+//!   each turn brings. A question for a whole zone is left out, and has its own fault. Those that could not be read are
+//!   asked again together, of the cache where it keeps such a reply. Want of memory or numbers is an error of them all.
+//! - **A resolver's calls keep their own faults**, since their clauses speak of them; `stub_resolver::Error` is for
+//!   programs, which `?` makes of any of them.
+//! - **A lookup of a host asks for A and AAAA side by side, and tells A, then AAAA.** `Resolver::query_both` is a call of
+//!   its own, whose default asks one after the other; what a resolver says of asking two at once (`together`) is no fact
+//!   where it can't. `StubResolver` waits for both but where it has failed, where one of the types is AXFR, or where no two
+//!   numbers are left. A question that could not be read is asked once more when both have their replies, since its server
+//!   is there. Where memory or numbers run out, both questions have that fault, also one that had its reply.
 #![tactic(auto)]
 
 mod all;

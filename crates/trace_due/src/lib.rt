@@ -8,6 +8,12 @@
 //! passed. `Timers` has beside what is kept of writes, quiet and idle times whether the last frame at a place left
 //! something unwritten or had an id that nothing held (`Loose`); `timers_go_on` says that all of it is what the definitions
 //! say.
+//!
+//! # Why it is so
+//!
+//! - **Whether ids are held is asked of an idle timer only where its time has passed**, behind each frame of the row anew.
+//!   A walk with a count would be shorter where many frames each tell an idle time of 0; none but a server that is about to
+//!   lose its connection sends them.
 #![tactic(auto)]
 
 mod due;

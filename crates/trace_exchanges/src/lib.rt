@@ -14,6 +14,15 @@
 //! by `Comes`, and each that comes is in it, with whether it answers. It looks at the one place that the row's event names:
 //! by datagram at what is open there, by stream at the first frame of each id, up to a bad one, and what waits under that
 //! id.
+//!
+//! # Why it is so
+//!
+//! - **Two tables count behind rows that are right alone**: what was sent by datagrams and not answered, and which servers
+//!   got invalid requests. Both ask what a request is when it is sent or handed on; the definitions ask it later, and the
+//!   two agree where nobody is sent or handed on who was not asked, which each row that is right owes. All other tables
+//!   count for every trace. `sends` is counted to seven, since no definition asks for more than six.
+//! - **Messages that come in a row are a list**, made once for the end of a row, or for one request where it is asked in
+//!   mid-row. Of frames the first of each id counts.
 #![tactic(auto)]
 
 mod coming;

@@ -3,6 +3,12 @@
 //!
 //! So is what it keeps of frames, and of writes that wait for one. By `Frames`, `Waiting`, `frames_go_on`,
 //! `waiting_goes_on`.
+//!
+//! # Why it is so
+//!
+//! - **Frames of the newest row are counted when they are asked for.** What they change of what waits, and of since when a
+//!   place is quiet, is taken when the next row begins. A datagram takes away the sends that it answers, so the cost of a
+//!   row doesn't grow with the datagrams that came at its place.
 #![tactic(auto)]
 
 mod frames;

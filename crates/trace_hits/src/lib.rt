@@ -19,6 +19,13 @@
 //! owes nothing, since a fresh reply is not given in the row of its own asking. What came between is told by what was
 //! counted up to that reply. A missed expired answer is named by the row of its asking, though the request may fail in a
 //! later row: so when requests fail first is found in a pass before.
+//!
+//! # Why it is so
+//!
+//! - **Hits are asked of right traces alone**: in a right one a message without a mark is fresh exactly where it is not
+//!   given in the row of its own asking. So `trace_hits` stands on what requests ask and on views, and on none of the
+//!   judge's tables. A missed expired answer is named by the row of its asking, as `AllServeStale` is indexed: the later
+//!   row in which the request fails may be known only when the trace has ended.
 #![tactic(auto)]
 
 mod course;

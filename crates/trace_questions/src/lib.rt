@@ -15,6 +15,12 @@
 //! the least row of a whole trace at which a reply is not the first to a request that was asked: None exactly where there
 //! is none (`IsVerdict`). Each call that takes memory answers `NoMemory`, and what it was to change is then as it happens
 //! to be; nothing is asked of it again.
+//!
+//! # Why it is so
+//!
+//! - **Whether octets carry a request is noted where they are put**, of a request that was asked, since it waits for many
+//!   rows and each asked it anew. It is looked up by the octets themselves; where nothing was noted they are looked at as
+//!   they stand.
 #![tactic(auto)]
 
 mod causes;

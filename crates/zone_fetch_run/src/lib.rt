@@ -47,6 +47,20 @@
 //! whole transfer over the later edge where the server says another. Each is `IsFetched` of `zone_transfer` behind the
 //! server's address, which the edge learned first. A line that is read is a record (`IsRecordLine`), and lines make updates
 //! (`AddsZone`).
+//!
+//! # Why it is so
+//!
+//! - **An edge serves one fetch**: place 0 is opened once. `zone_fetch` takes two edges, and the later one only where
+//!   changes were asked for and the server has none to another serial.
+//! - **A zone is read from a file by printing it again**: what is read of the lines is applied to an empty zone, and taken
+//!   only where its print is the file, octet for octet. Of a text that is refused a clause says which line it is, where one
+//!   is named: the lines before it are records. What is told of that line, and the number of a line in another order or
+//!   spelling, are code alone.
+//! - **How far a transfer is** is told between its turns to a value of a trait without clauses (`Progress`), which has no
+//!   part in what becomes of the zone. Whether standard error is a terminal is seen from what `/proc/self/fd/2` links to, a
+//!   device below `/dev/pts`; elsewhere nothing is told.
+//! - **A line of `zone_fetch` is written octet by octet** behind those before, and no text is formatted for it; that with
+//!   `--text` is. Its stored run reads a zone from a file and asks at port 1 of this host, where nothing listens.
 #![tactic(auto)]
 
 mod command;

@@ -26,6 +26,16 @@
 //!   transfers over messages; zones with the same records are the same.
 //! - `held_law`: what a transfer makes is a zone (`IsZone`): one SOA, of the apex, and records of one class and of no meta
 //!   type at the apex or below it.
+//!
+//! # Why it is so
+//!
+//! - **A record of a zone has its owner and its data as octets** in lower case and without compression (`OctetList`), since
+//!   records are sorted by octets. Names in data are in lower case where the type is one whose data is read (RFC 4034 6.2):
+//!   servers send them as they were spelled, and a zone that was fetched from one and changed by another would keep old
+//!   records for ever. Beside a record stand the first eight octets of its owner as one number (`Keyed`), by which nearly
+//!   all comparisons are decided; the order is the same (`less_from`).
+//! - **`Zone::apply` takes the updates by value**: records move into the zone, which halves the memory. It tells how many
+//!   deletions met no record, by which a wrong base is seen; as RFC 1995 has it such a deletion changes nothing.
 #![tactic(auto)]
 
 mod folding;

@@ -17,6 +17,12 @@
 //! - `KeptZone::next_due`: the moment up to which nothing is to be done. `KeptZone::has_expired`: whether EXPIRE seconds went
 //!   by since it was confirmed.
 //! - `refresh_laws`: a zone that has expired is told, and primaries that don't answer are asked in turn.
+//!
+//! # Why it is so
+//!
+//! - **A zone that is kept** (`zone_refresh`): a primary whose serial is less goes unheeded, and the next is asked; a pause
+//!   lasts a second at least, also where REFRESH or RETRY is 0; without a zone primaries are asked again each minute. That
+//!   it has expired is told once.
 #![tactic(auto)]
 
 mod kept;
