@@ -50,6 +50,18 @@ impl Lent {
         }
     }
 
+    /// What is lent to a transport whose next free place has this number. Words are 0.
+    pub fn at(alloc: Global, place: u64) -> Lent {
+        let mut lent = Lent::new(alloc, WordList::new(alloc));
+        lent.place = place;
+        lent
+    }
+
+    /// Behind these words come zeros.
+    pub fn draw_from(&mut self, words: WordList) {
+        self.words = ListWords::new(words);
+    }
+
     /// Forgets what was put out and given by now.
     pub fn forget(&mut self, alloc: Global) {
         self.outs = Outs::new(alloc);

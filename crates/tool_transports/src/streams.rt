@@ -6,8 +6,6 @@
 //! Of a line that is of none of the forms it is printed `refused`.
 
 mod fault;
-mod lent;
-mod lets;
 mod multi;
 mod reading;
 mod saying;
@@ -15,8 +13,8 @@ mod stream;
 mod telling;
 mod transfer;
 
+use crate::lets::Lets;
 use fault::Fault;
-use lets::Lets;
 use reading::first_word;
 use std::alloc::{AllocError, Global};
 use stream::Walked;
@@ -56,8 +54,8 @@ impl Families {
             "multi" => multi::shown(alloc, rest),
             "transfer" => self.watched.shown(alloc, rest),
             "let" => match self.lets.put(rest) {
-                Ok(()) => Ok(Vec::new(alloc)),
-                Err(fault) => Err(fault),
+                Some(()) => Ok(Vec::new(alloc)),
+                None => Err(Fault::Refused),
             },
             _ => Err(Fault::Refused),
         }
@@ -65,7 +63,9 @@ impl Families {
 
     /// What a line prints.
     pub fn text_of(&mut self, alloc: Global, line: &str) -> Result<Vec<u8>, AllocError> {
-        let spelled = self.lets.spelled(line)?;
+        let Some(spelled) = self.lets.spelled(line) else {
+            return Err(AllocError);
+        };
         match self.shown(alloc, spelled.as_str()) {
             Ok(text) => Ok(text),
             Err(fault) => Ok(format!(in alloc; "{fault}\n")?.into_bytes()),

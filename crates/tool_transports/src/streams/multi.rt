@@ -9,7 +9,7 @@
 mod server;
 
 use crate::streams::fault::Fault;
-use crate::streams::lent::Lent;
+use crate::lent::Lent;
 use crate::streams::reading::{first_word, number};
 use crate::streams::saying::say_time;
 use crate::streams::telling::line_of;
@@ -19,7 +19,7 @@ use std::alloc::Global;
 
 fn gone(alloc: Global, line: &str) -> Result<Vec<u8>, Fault> {
     let mut server = Server::new(alloc)?;
-    let mut lent = Lent::new(alloc, 0);
+    let mut lent = Lent::at(alloc, 0);
     line_of(alloc, &mut server, &mut lent, line)
 }
 

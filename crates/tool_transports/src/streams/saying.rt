@@ -1,7 +1,7 @@
 //! What is said of what a transport puts out and gives: things between commas.
 
 use crate::streams::fault::Fault;
-use crate::streams::lent::Lent;
+use crate::lent::Lent;
 use client_request::{Out, Part, Posted};
 use dns_base::Duration;
 use std::alloc::AllocError;

@@ -24,7 +24,7 @@ mod transfers;
 mod walk;
 
 use crate::streams::fault::Fault;
-use crate::streams::lent::Lent;
+use crate::lent::Lent;
 use crate::streams::reading::{first_word, number};
 use crate::streams::telling::line_of;
 use line::Line;
@@ -44,7 +44,7 @@ impl Drop for Walked {
 
 fn gone(alloc: Global, line: &str) -> Result<Vec<u8>, Fault> {
     let mut connection = Line::new(alloc)?;
-    let mut lent = Lent::new(alloc, 1);
+    let mut lent = Lent::at(alloc, 1);
     line_of(alloc, &mut connection, &mut lent, line)
 }
 

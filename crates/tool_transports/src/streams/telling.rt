@@ -10,7 +10,7 @@
 //! them is shown between two bars.
 
 use crate::streams::fault::Fault;
-use crate::streams::lent::Lent;
+use crate::lent::Lent;
 use crate::streams::reading::{first_word, number, request_of, what_of};
 use crate::streams::saying::{say, say_all, say_fault, say_octets, say_polled};
 use client_request::{

@@ -1,7 +1,7 @@
 //! A server that is asked by streams, and what stands for the results of its requests.
 
 use crate::streams::fault::Fault;
-use crate::streams::lent::Lent;
+use crate::lent::Lent;
 use crate::streams::reading::{first_word, number, word_list};
 use crate::streams::saying::{say_bool, say_number, say_time};
 use crate::streams::telling::{Told, single_part};
@@ -96,7 +96,7 @@ impl Told for Server {
         lent.ticket = ticket;
         lent.place = place;
         let response = sent?;
-        lent.count(response.ticket())?;
+        lent.keep(response.ticket(), None)?;
         self.keep(response)
     }
 

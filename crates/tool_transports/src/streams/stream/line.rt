@@ -1,7 +1,7 @@
 //! A connection, and what stands for the results of its requests.
 
 use crate::streams::fault::Fault;
-use crate::streams::lent::Lent;
+use crate::lent::Lent;
 use crate::streams::reading::{first_word, message_of};
 use crate::streams::saying::{say_bool, say_time};
 use crate::streams::stream::transfers::{cancel_transfer, send_transfer, step_transfers};
@@ -79,7 +79,7 @@ impl Line {
         let ticket = cx.ticket;
         lent.ticket = ticket;
         let response = sent?;
-        lent.count(response.ticket())?;
+        lent.keep(response.ticket(), None)?;
         self.keep(Response::Transfer(response))
     }
 
@@ -136,7 +136,7 @@ impl Told for Line {
         let ticket = cx.ticket;
         lent.ticket = ticket;
         let response = sent?;
-        lent.count(response.ticket())?;
+        lent.keep(response.ticket(), None)?;
         self.keep(Response::Single(response))
     }
 

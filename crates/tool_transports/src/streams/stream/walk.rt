@@ -1,7 +1,7 @@
 //! A walk of a connection: what each line does, and what is printed of it.
 
 use crate::streams::fault::Fault;
-use crate::streams::lent::Lent;
+use crate::lent::Lent;
 use crate::streams::reading::{event_of, message_of, number};
 use crate::streams::stream::line::Line;
 use crate::streams::telling::{Told, fire, hear};
@@ -89,7 +89,7 @@ impl Walk {
         let line = Line::with_config(alloc, config)?;
         Ok(Walk {
             line,
-            lent: Lent::new(alloc, 1),
+            lent: Lent::at(alloc, 1),
         })
     }
 
