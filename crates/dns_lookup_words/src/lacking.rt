@@ -14,19 +14,19 @@ pub enum Lack {
     Subnet,
     /// Another OPT record, or none (RFC 6891).
     Extension,
-    /// Another header.
+    /// Another id or opcode, or no question.
     Header,
     /// How often a server is asked.
     Tries,
     /// What is done with an answer that is truncated or broken, or with a stream.
     Transport,
-    /// Suffixes behind a name.
+    /// What is answered while suffixes are tried.
     Suffixes,
     /// A walk from the servers of the root, or to all servers of a zone.
     Walk,
     /// Another text of an answer.
     Text,
-    /// Names in letters past ASCII (RFC 5891).
+    /// Names that are written in letters past ASCII (RFC 5891).
     Letters,
     /// The address of this host from which requests go.
     Source,
@@ -48,7 +48,7 @@ pub(crate) fn lack_text(lack: Lack) -> &'static str
             "asks for another OPT record than EDNS version 0 with the size that is always said"
         }
         Lack::Header => {
-            "asks for a header of which more is set than recursion, +adflag and +cdflag say"
+            "asks for another id or opcode, or for no question, and each request is a query with one"
         }
         Lack::Tries => {
             "asks for a number of tries, which attempts in the configuration alone says"
@@ -56,11 +56,13 @@ pub(crate) fn lack_text(lack: Lack) -> &'static str
         Lack::Transport => {
             "asks for another way with truncated or broken answers or with streams than the usual"
         }
-        Lack::Suffixes => "asks for suffixes, and a name is asked for as it stands",
+        Lack::Suffixes => {
+            "asks for what is answered on the way of a search, and one answer is written for a name"
+        }
         Lack::Walk => "asks for a walk from server to server, and one answer is asked for",
         Lack::Text => "asks for a text of records that is not written",
         Lack::Letters => {
-            "asks for names in letters past ASCII, which are asked for and written as xn-- has them"
+            "asks for names to be written in letters past ASCII, which are written as xn-- has them"
         }
         Lack::Source => { "asks for an address of this host to ask from, which the system chooses" }
         Lack::Signature => "asks for a signed request (TSIG), and none is signed",

@@ -1,9 +1,12 @@
 //! Words that are taken, one after another.
 
-ghost use Rattle.std.specs.Prelude.{◌≡◌, ◌==◌, length, option_map, OnOk};
+ghost use Rattle.std.specs.Prelude.{◌≡◌, ◌==◌, length, option_map, OnOk, IfOk};
 ghost use Rattle.std.specs.Result.{result_ok};
-ghost use Rattle.dns_lookup_words.specs.Words.{AddressGives, AllAnswer, Answers, DashGives, GluedGives, ServerAt, ServerGives, ServerIn, ServerOf, SignGives, ValueGives, WordGives, WordsGive, begun, behind, class_given, class_set, dash_said, fault_at, is_localhost, is_other, lack_of, lacking, name_alone, name_given, name_said, open_type, plain_said, plus_said, port_said, type_said, type_set, wrong_name, wrong_server};
+ghost use Rattle.dns_lookup_words.specs.Words.{AddressGives, AllAnswer, Answers, DashGives, GluedGives, ServerAt, ServerGives, ServerIn, ServerOf, SignGives, ValueGives, WordGives, WordsGive, begun, behind, class_given, class_set, dash_said, fault_at, is_localhost, is_other, is_past_ascii, is_rooted, lack_of, lacking, name_alone, name_given, name_in, name_said, open_type, plain_said, plus_said, port_said, type_said, type_set, wrong_name, wrong_server};
 ghost use Rattle.dns_names.specs.Text.{name_of_text};
+ghost use Rattle.idna.specs.Errors.{Gives};
+ghost use Rattle.idna.specs.Uts46.{domain_to_ascii};
+ghost use Rattle.std.specs.String.{string_bytes};
 ghost use Rattle.dns_values.specs.NumberNames.{class_of_text};
 ghost use Rattle.dns_lookup_words.specs.Types.{type_number};
 
@@ -18,8 +21,9 @@ use crate::said::{Next, Said, push_asks};
 use crate::short_address::short_address;
 use crate::types::{class_in, type_in};
 use crate::wrong::{Fault, Refusal, Value, WordFault, Wrong};
-use dns_names::{Name, NameFault};
+use dns_names::{Name, NameFault, RelativeName};
 use dns_values::{Class, IpAddr, NoMemory, Rtype};
+use idna::{AsciiDenyList, Errors, domain_to_ascii_cow};
 use std::alloc::Global;
 
 /// The greatest port.
@@ -54,6 +58,26 @@ fn wrong_name(word: &str) -> Wrong
         Wrong::Idn
     } else {
         Wrong::Name
+    }
+}
+
+/// The name that a word with letters past ASCII writes, as it is written in ASCII (UTS 46).
+fn ascii_of(alloc: Global, word: &str) -> Result<String, Errors>
+    ensures { Gives string_bytes result (domain_to_ascii AsciiDenyList.URL word.now) }
+{
+    let text = domain_to_ascii_cow(alloc, word.as_bytes(), AsciiDenyList::URL)?;
+    Ok(text.into_owned(alloc)?)
+}
+
+/// Whether a text has a final dot, which no relative name has.
+fn is_rooted(alloc: Global, word: &str) -> Result<bool, NoMemory>
+    ensures { IfOk result (λ rooted. rooted ≡ is_rooted word.now) }
+{
+    match RelativeName::from_text(alloc, word) {
+        Ok(_) => Ok(false),
+        Err(NameFault::NoMemory) => Err(NoMemory),
+        Err(NameFault::Parse) => Ok(true),
+        Err(NameFault::Long) => Ok(true),
     }
 }
 
@@ -169,23 +193,38 @@ impl Said {
         };
         let name = short.name(alloc)?;
         self.begin(alloc, name)?;
+        self.asking.rooted = true;
         if self.asking.rtype.is_none() {
             self.asking.rtype = Some(Rtype::PTR);
         }
         Ok(())
     }
 
-    fn set_name(&mut self, alloc: Global, word: &str) -> Result<(), WordFault>
-        ensures { Answers (λ o. o ≡ name_given (result_ok (name_of_text word.now)) word.now self.old) result self.new }
+    /// Takes the name that a text writes for a word.
+    fn set_name(&mut self, alloc: Global, text: &str, word: &str) -> Result<(), WordFault>
+        ensures { Answers (λ o. o ≡ name_given (result_ok (name_of_text text.now)) text.now word.now self.old) result self.new }
     {
-        match Name::from_text(alloc, word) {
+        match Name::from_text(alloc, text) {
             Ok(name) => {
+                let rooted = is_rooted(alloc, text)?;
                 self.begin(alloc, name)?;
+                self.asking.rooted = rooted;
                 Ok(())
             }
             Err(NameFault::NoMemory) => Err(WordFault::NoMemory),
             Err(NameFault::Parse) => Err(WordFault::Wrong(wrong_name(word))),
             Err(NameFault::Long) => Err(WordFault::Wrong(wrong_name(word))),
+        }
+    }
+
+    /// Takes a name with letters past ASCII, as it is written in ASCII.
+    fn set_international(&mut self, alloc: Global, word: &str) -> Result<(), WordFault>
+        ensures { Answers (λ o. o ≡ name_in (domain_to_ascii AsciiDenyList.URL word.now) word.now self.old) result self.new }
+    {
+        match ascii_of(alloc, word) {
+            Ok(text) => self.set_name(alloc, text.as_str(), word),
+            Err(Errors::OutOfMemory) => Err(WordFault::NoMemory),
+            Err(Errors::Invalid) => Err(WordFault::Wrong(wrong_name(word))),
         }
     }
 
@@ -195,7 +234,10 @@ impl Said {
         if self.late {
             return Err(WordFault::Wrong(Wrong::Parted));
         }
-        self.set_name(alloc, word)
+        if self.international && is_past_ascii(word.as_bytes()) {
+            return self.set_international(alloc, word);
+        }
+        self.set_name(alloc, word, word)
     }
 
     fn set_type(&mut self, rtype: Rtype) -> Result<(), WordFault>
@@ -331,7 +373,7 @@ impl Said {
     }
 
     /// Takes what stands behind a plus.
-    fn take_plus(&mut self, text: &str) -> Result<(), WordFault>
+    fn take_plus(&mut self, alloc: Global, text: &str) -> Result<(), WordFault>
         ensures { Answers (λ o. o ≡ plus_said text.now self.old) result self.new }
     {
         let name = name_text(text).as_bytes();
@@ -341,7 +383,7 @@ impl Said {
         let on = !is_off(name);
         match value_text(text) {
             None => self.set_bare(sets, on),
-            Some(value) => self.set_valued(sets, on, value),
+            Some(value) => self.set_valued(alloc, sets, on, value),
         }
     }
 
@@ -352,7 +394,7 @@ impl Said {
             return self.take_server(text);
         }
         if let Some(text) = behind('+', word) {
-            return self.take_plus(text);
+            return self.take_plus(alloc, text);
         }
         if let Some(text) = behind('-', word) {
             return self.take_dash(alloc, text);

@@ -25,7 +25,7 @@ fn wrong_text(wrong: Wrong) -> &'static str
         Wrong::Address => "is no address",
         Wrong::Name => "is no name",
         Wrong::Idn => {
-            "is no name, since it has letters past ASCII; its form that begins with xn-- is"
+            "is no name: it has letters past ASCII, and no form of it that begins with xn-- is one"
         }
         Wrong::Late => "names a server behind two names, and servers are asked for all names",
         Wrong::Parted => {
@@ -35,7 +35,9 @@ fn wrong_text(wrong: Wrong) -> &'static str
         Wrong::Transfer => "is no type that one message answers",
         Wrong::Class => "is no class",
         Wrong::OtherClass => "is another class than IN, CH and HS",
-        Wrong::Time => "gives no seconds from 1 to 600",
+        Wrong::Time => "gives no seconds from 0 to 600",
+        Wrong::Suffix => "gives no suffix by +domain=NAME",
+        Wrong::Dots => "gives no count of dots from 0 to 65535",
         Wrong::Option => "is no option",
         Wrong::Lacking(lack) => lack_text(lack),
         Wrong::Valued => "has a value, and its option takes none",

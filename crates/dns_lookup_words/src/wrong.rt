@@ -22,7 +22,8 @@ pub enum Wrong {
     Address,
     /// It stands where the name must, and is none: outside the grammar of names, or too long.
     Name,
-    /// It stands where the name must, and has octets past ASCII, as names of people's languages do (RFC 5890 2.3.2.1).
+    /// It stands where the name must, and has octets past ASCII, as names of people's languages do (RFC 5890 2.3.2.1), of which no name in
+    /// ASCII is made: they are not to be, they can't be (UTS 46), or what is made is none.
     Idn,
     /// It names a server, and several names stand before it.
     Late,
@@ -36,8 +37,12 @@ pub enum Wrong {
     Class,
     /// It is a class, and not IN, CH or HS.
     OtherClass,
-    /// What stands behind its `+time=` is no number from 1 to 600.
+    /// What stands behind its `+time=` is no number from 0 to 600.
     Time,
+    /// No name stands behind its `+domain=`.
+    Suffix,
+    /// What stands behind its `+ndots=` is no number from 0 to 65535.
+    Dots,
     /// It begins as an option does, and is none.
     Option,
     /// It is an option that dig has, and that is not to be had here.
