@@ -2,7 +2,7 @@
 
 ghost use Rattle.std.specs.Prelude.{◌≡◌, ◌≢◌, IfOk, IfErr, IsErrOf};
 ghost use Rattle.client_request.specs.declared.error.Error.TheVariants.{NumbersUsed};
-ghost use Rattle.dns_lookup_run.specs.Asking.{Gave, Stopped, dnssec_asked, nsid_asked, request_for};
+ghost use Rattle.dns_lookup_run.specs.Asking.{Gave, Stopped, dnssec_asked, option_asked, request_for};
 ghost use Rattle.dns_lookup_run.specs.Making.{GaveIf};
 ghost use Rattle.dns_lookup_run.specs.Watched.{on};
 
@@ -29,6 +29,9 @@ pub(crate) struct Outcome {
 /// The code of the option by which a server is asked for its name (RFC 5001 2.1).
 const NSID: u16 = 3;
 
+/// The code of the option by which it is asked when its copy of a zone expires (RFC 7314 2).
+const EXPIRE: u16 = 9;
+
 /// A request, with DO set where that is asked for.
 fn dnssec_asked(is_asked: bool, mut request: RequestMessage) -> RequestMessage
     ensures { result ≡ dnssec_asked is_asked request }
@@ -39,15 +42,19 @@ fn dnssec_asked(is_asked: bool, mut request: RequestMessage) -> RequestMessage
     request
 }
 
-/// A request, with an empty option NSID where that is asked for.
-fn nsid_asked(is_asked: bool, mut request: RequestMessage) -> Result<RequestMessage, Error>
-    ensures made { IfOk result (λ r. r ≡ nsid_asked is_asked request) }
+/// A request, with an empty option of this code where that is asked for.
+fn option_asked(
+    code: u16,
+    is_asked: bool,
+    mut request: RequestMessage,
+) -> Result<RequestMessage, Error>
+    ensures made { IfOk result (λ r. r ≡ option_asked code is_asked request) }
     ensures refused { IfErr result (λ e. e ≢ Error.NumbersUsed) }
 {
     if !is_asked {
         return Ok(request);
     }
-    request.add_opt(NSID, &[])?;
+    request.add_opt(code, &[])?;
     Ok(request)
 }
 
@@ -59,7 +66,8 @@ fn request_for(alloc: Global, ask: &Ask) -> Result<RequestMessage, Error>
     let flags = ask.manner.flags;
     let message = query_of(alloc, ask)?;
     let request = RequestMessage::new(alloc, message)?;
-    nsid_asked(flags.nsid, dnssec_asked(flags.dnssec, request))
+    let request = option_asked(NSID, flags.nsid, dnssec_asked(flags.dnssec, request))?;
+    option_asked(EXPIRE, flags.expire, request)
 }
 
 /// Asks a client the request of an ask, under the number of its next request.

@@ -18,14 +18,16 @@ mod passing_edge;
 mod program;
 mod recorded;
 mod reports;
+mod search;
 mod telling;
 mod watched_clock;
 mod watched_edge;
 
+pub use conf::conf_of;
 pub use help::{page_of, tell_page};
 pub use passing_edge::{Asked, PassingEdge};
 pub use program::run;
 pub use recorded::{Recorded, run_recorded};
-pub use telling::{tell_no_memory, tell_no_random};
+pub use telling::{tell_conf, tell_no_memory, tell_no_random, tell_notes};
 pub use watched_clock::WatchedClock;
 pub use watched_edge::{Heard, News, Opened, Tidings, WatchedEdge};

@@ -5,9 +5,11 @@ use crate::reports::reports;
 use crate::watched_edge::{Heard, Opened};
 use client_request::Via;
 use dns_base::{Message, NoMemory};
-use dns_lookup_pages::{Lacking, json_text, lacking_in, message_text, query_of, short_text};
+use dns_lookup_pages::{
+    Lacking, json_text, lacking_in, message_text, query_of, short_text, yaml_text,
+};
 use dns_lookup_words::{Ask, Layout};
-use dns_values::SocketAddr;
+use dns_values::{IpAddr, SocketAddr};
 use resolv_conf::ServerConf;
 use std::alloc::Global;
 use std::fmt::{self, Display};
@@ -119,6 +121,46 @@ fn identity(
     Ok(format!(in alloc; " from server {answerer} in {millis} ms.")?)
 }
 
+/// Who answered, and by which transport, line by line; none where it was answered from what is kept.
+fn source_text(alloc: Global, answerer: Answerer<'_>) -> Result<String, NoMemory> {
+    let Some((address, via)) = answerer.address() else {
+        return Ok(String::new(alloc));
+    };
+    let SocketAddr { ip, port } = address;
+    let family = match ip {
+        IpAddr::V4(_) => "INET",
+        IpAddr::V6(_) => "INET6",
+    };
+    let protocol = match via {
+        Via::Dgram => "UDP",
+        Via::Stream => "TCP",
+    };
+    Ok(format!(in alloc;
+        "    socket_family: {family}\n    socket_protocol: {protocol}\n    response_address: \"{ip}\"\n    response_port: {port}\n"
+    )?)
+}
+
+/// A message as a document of YAML, as `dig` has it, but for the moments and this host's address, which are not known.
+fn document(
+    alloc: Global,
+    layout: Layout,
+    message: &Message,
+    answerer: Answerer<'_>,
+) -> Result<String, NoMemory> {
+    let header = message.header();
+    let kind = if header.rd() && header.ra() {
+        "RECURSIVE"
+    } else {
+        "AUTH"
+    };
+    let size = message.as_slice().len();
+    let source = source_text(alloc, answerer)?;
+    let data = yaml_text(alloc, layout, message)?;
+    Ok(format!(in alloc;
+        "-\n  type: MESSAGE\n  message:\n    type: {kind}_RESPONSE\n    message_size: {size}b\n{source}    response_message_data:\n{data}"
+    )?)
+}
+
 /// What is written of a message.
 pub(crate) fn page(
     alloc: Global,
@@ -132,9 +174,16 @@ pub(crate) fn page(
     if layout.json {
         return json_text(alloc, message);
     }
+    if layout.yaml {
+        let answerer = Answerer {
+            heard: outcome.heard,
+            servers,
+        };
+        return document(alloc, layout, message, answerer);
+    }
     if layout.short {
         let behind = identity(alloc, layout, outcome, servers)?;
-        return short_text(alloc, message, &behind);
+        return short_text(alloc, layout, message, &behind);
     }
     whole_page(alloc, ask, message, outcome, servers, opened)
 }

@@ -67,9 +67,9 @@ pub fn tell_no_random<L: Sink>(errors: &mut L) -> Status
     )
 }
 
-/// What is told where there is no configuration and no server is named.
+/// What is told where there is no configuration, and it is needed.
 const UNREAD_CONF: &[u8] =
-    b"dns_lookup: /etc/resolv.conf could not be read, and no server is named by @ADDRESS\n";
+    b"dns_lookup: /etc/resolv.conf could not be read, which has the servers where no @SERVER is named, and the suffixes of +search\n";
 
 /// Why a configuration was refused, as a sentence.
 fn refused_conf(alloc: Global, line: &[u8]) -> Result<Vec<u8>, NoMemory>
@@ -81,7 +81,7 @@ fn refused_conf(alloc: Global, line: &[u8]) -> Result<Vec<u8>, NoMemory>
 }
 
 /// Tells why no configuration was read.
-pub(crate) fn tell_conf<L: Sink>(alloc: Global, ending: Ending, errors: &mut L) -> Status
+pub fn tell_conf<L: Sink>(alloc: Global, ending: Ending, errors: &mut L) -> Status
     requires early { IsEarly ending }
     requires no_numbers { status_of ending ≢ 7 }
     ensures status { (result.0 ≡ 3) ⊎ (result.0 ≡ 6) }
@@ -225,11 +225,7 @@ fn note_lines(alloc: Global, notes: &[Note]) -> Result<String, NoMemory>
 }
 
 /// Tells of lines of the configuration, as far as the sink takes it.
-pub(crate) fn tell_notes<L: Sink>(
-    alloc: Global,
-    notes: &[Note],
-    errors: &mut L,
-) -> Result<(), NoMemory>
+pub fn tell_notes<L: Sink>(alloc: Global, notes: &[Note], errors: &mut L) -> Result<(), NoMemory>
     ensures said { OnOk result (IsSaid (notes_text notes.now) (L.held errors.old) (L.held errors.new) (L.faults errors.old) (L.faults errors.new)) }
     ensures count { L.faults errors.old ≤ L.faults errors.new }
 {

@@ -164,11 +164,121 @@ example.com.\t100\tIN\tA\t192.0.2.1
 
 const UNANSWERED: &str =
     "dns_lookup: no answer: dgram error: connecting failed: connection refused; another @SERVER, +tcp or a longer +time= may help
-dns_lookup: 192.0.2.53:53 (UDP): connection refused
-dns_lookup: 192.0.2.53:53 (UDP): connection refused
+dns_lookup: 192.0.2.53:53 (UDP), asked 2 times: connection refused
 ";
 
-const RUNS: [Run; 28] = [
+const PAGE_WITH_A_NOTE: &str =
+    "dns_lookup: /etc/resolv.conf: line 1 skipped, since its first word is not known\n";
+
+const DOCUMENT: &str = "-
+  type: MESSAGE
+  message:
+    type: RECURSIVE_RESPONSE
+    message_size: 45b
+    socket_family: INET
+    socket_protocol: UDP
+    response_address: \"192.0.2.53\"
+    response_port: 53
+    response_message_data:
+      opcode: QUERY
+      status: NOERROR
+      id: 0
+      flags: qr rd ra
+      QUESTION: 1
+      ANSWER: 1
+      AUTHORITY: 0
+      ADDITIONAL: 0
+      QUESTION_SECTION:
+        - 'example.com. IN A'
+      ANSWER_SECTION:
+        - 'example.com. 100 IN A 192.0.2.1'
+";
+
+const RUNS: [Run; 40] = [
+    Run {
+        words: "@192.0.2.53 +domain=com +ndots=2 example A",
+        answers: true,
+        status: 0,
+        written: PAGE,
+        said: "",
+    },
+    Run {
+        words: "@192.0.2.53 example A +domain=com",
+        answers: true,
+        status: 0,
+        written: PAGE,
+        said: PAGE_WITH_A_NOTE,
+    },
+    Run {
+        words: "@192.0.2.53 +search example.com A",
+        answers: true,
+        status: 0,
+        written: PAGE,
+        said: PAGE_WITH_A_NOTE,
+    },
+    Run {
+        words: "@192.0.2.53 +domain=net +ndots=9 example.com. A",
+        answers: true,
+        status: 0,
+        written: PAGE,
+        said: "",
+    },
+    Run {
+        words: "example.com +domain",
+        answers: true,
+        status: 2,
+        written: "",
+        said: "dns_lookup: +domain gives no suffix by +domain=NAME; see dns_lookup --help\n",
+    },
+    Run {
+        words: "example.com +ndots=65536",
+        answers: true,
+        status: 2,
+        written: "",
+        said: "dns_lookup: +ndots=65536 gives no count of dots from 0 to 65535; see dns_lookup --help\n",
+    },
+    Run {
+        words: "@192.0.2.53 example.com A +noall +answer +nottlid +noclass",
+        answers: true,
+        status: 0,
+        written: "example.com.\tA\t192.0.2.1\n",
+        said: "",
+    },
+    Run {
+        words: "@192.0.2.53 example.com A +noall +answer +nottlid +ttlunits",
+        answers: true,
+        status: 0,
+        written: "example.com.\t1m40s\tIN\tA\t192.0.2.1\n",
+        said: "",
+    },
+    Run {
+        words: "@192.0.2.53 example.com A +yaml +short",
+        answers: true,
+        status: 0,
+        written: DOCUMENT,
+        said: "",
+    },
+    Run {
+        words: "@192.0.2.53 +time=0 ｅｘａｍｐｌｅ.com A",
+        answers: true,
+        status: 0,
+        written: PAGE,
+        said: "",
+    },
+    Run {
+        words: "@192.0.2.53 +noidnin ｅｘａｍｐｌｅ.com A",
+        answers: true,
+        status: 2,
+        written: "",
+        said: "dns_lookup: ｅｘａｍｐｌｅ.com is no name: it has letters past ASCII, and no form of it that begins with xn-- is one; see dns_lookup --help\n",
+    },
+    Run {
+        words: "example.com -b 192.0.2.1",
+        answers: true,
+        status: 2,
+        written: "",
+        said: "dns_lookup: -b asks for an address of this host to ask from, which the system chooses; see dns_lookup --help\n",
+    },
     Run {
         words: "@192.0.2.53 example.com A",
         answers: true,
@@ -356,7 +466,7 @@ const RUNS: [Run; 28] = [
         answers: true,
         status: 2,
         written: "",
-        said: "dns_lookup: +time=601 gives no seconds from 1 to 600; see dns_lookup --help\n",
+        said: "dns_lookup: +time=601 gives no seconds from 0 to 600; see dns_lookup --help\n",
     },
     Run {
         words: "example.com +trace",
@@ -372,6 +482,63 @@ fn a_lookup_ends_by_a_page_or_a_sentence(rt: HostRuntime) -> Result<(), Fail> {
     for run in RUNS.iter() {
         assert!(rt; ends(rt.alloc(), run)?, "{}", run.words);
     }
+    Ok(())
+}
+
+/// There is no such name, under the id 0: example.com, and example.
+const NO_NAME: [u8; 29] = [
+    0, 0, 0x81, 0x83, 0, 1, 0, 0, 0, 0, 0, 0, 7, 101, 120, 97, 109, 112, 108, 101, 3, 99, 111, 109,
+    0, 0, 1, 0, 1,
+];
+
+const NO_SHORT_NAME: [u8; 25] = [
+    0, 0, 0x81, 0x83, 0, 1, 0, 0, 0, 0, 0, 0, 7, 101, 120, 97, 109, 112, 108, 101, 0, 0, 1, 0, 1,
+];
+
+/// One datagram after another, each at a socket of its own.
+fn in_turn(alloc: Global, answers: [&'static [u8]; 2]) -> Result<ListEdge, Fail> {
+    let mut events = Vec::new(alloc);
+    let mut place = 0u64;
+    for answer in answers.iter() {
+        let octets = Octets::from_slice(alloc, answer)?;
+        events.push(Some(What::Opened { place }))?;
+        events.push(Some(What::Datagram { place, octets }))?;
+        place += 1;
+    }
+    Ok(ListEdge::new(alloc, events))
+}
+
+/// Whether a search of two names ends by this status with this written.
+fn searches(
+    alloc: Global,
+    line: &str,
+    answers: [&'static [u8]; 2],
+    ends: u8,
+    text: &str,
+) -> Result<bool, Fail> {
+    let words = words(alloc, line)?;
+    let mut conf = source(alloc, "nonsense\n", 9)?;
+    let mut said = MemSink::new(alloc, Vec::new(alloc), Vec::new(alloc));
+    let mut written = MemSink::new(alloc, Vec::new(alloc), Vec::new(alloc));
+    let edge = in_turn(alloc, answers)?;
+    let status = status(alloc, &words, &mut conf, &mut written, &mut said, edge);
+    Ok(status == ends && written.as_slice() == text.as_bytes())
+}
+
+#[test]
+fn a_search_passes_by_that_there_is_no_such_name(rt: HostRuntime) -> Result<(), Fail> {
+    let first = "@192.0.2.53 +domain=com +ndots=0 example A +short";
+    let found = searches(
+        rt.alloc(),
+        first,
+        [&NO_SHORT_NAME, &ANSWER],
+        0,
+        "192.0.2.1\n",
+    );
+    assert!(rt; found?);
+    let last = "@192.0.2.53 +domain=com +ndots=1 example A +short";
+    let none = searches(rt.alloc(), last, [&NO_NAME, &NO_SHORT_NAME], 9, "");
+    assert!(rt; none?);
     Ok(())
 }
 
