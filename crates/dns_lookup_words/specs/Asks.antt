@@ -92,6 +92,13 @@ abbrev pub types_of : Option Rtype → List Rtype
 types_of (Some rtype) = rtype ∷ []
 types_of None = record { 0 = 1 } ∷ record { 0 = 28 } ∷ []
 
+-- what a walk from the root asks for, and writes of each answer: as dig has it, the records that lead on, and who gave them
+abbrev pub walking : Manner → Manner
+walking m = record m {
+  flags = record m.flags { recursion = true; dnssec = true };
+  layout = record m.layout { identify = true; comments = false; stats = false; question = false; additional = false; authority = true };
+}
+
 -- the requests of a name
 abbrev pub asks_of : Labels → Asking → List Ask
 asks_of name asking = map (λ rtype. record { name = name; rtype = rtype; rooted = asking.rooted; manner = asking.manner }) (types_of asking.rtype)

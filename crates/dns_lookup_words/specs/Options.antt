@@ -7,7 +7,7 @@ use Rattle.dns_lookup_words.specs.declared.lacking.Lack.TheVariants as lacks
 use Rattle.dns_lookup_words.specs.declared.options.Flag.TheVariants as flags
 use Rattle.dns_lookup_words.specs.declared.options.Part.TheVariants as parts
 use Rattle.dns_lookup_words.specs.declared.options.Sets.{Sets}
-use Rattle.dns_lookup_words.specs.declared.options.Sets.TheVariants.{Absent, All, Already, Domain, Dots, Edns, Flag, International, Never, Part, Search, Tcp, Time}
+use Rattle.dns_lookup_words.specs.declared.options.Sets.TheVariants.{Absent, All, Already, Domain, Dots, Edns, Flag, International, Never, Part, Search, Tcp, Time, Walk}
 
 -- dig's options, of which the first that a word is short for counts
 unfoldable pub plus_options : List (Row Sets)
@@ -76,7 +76,7 @@ plus_options =
     ∷ (codes "time", First 2, Time)
     ∷ (codes "timeout", First 5, Time)
     ∷ (codes "tls", First 2, Never lacks.Encryption)
-    ∷ (codes "trace", First 3, Never lacks.Walk)
+    ∷ (codes "trace", First 3, Walk)
     ∷ (codes "tries", First 3, Absent lacks.Tries)
     ∷ (codes "ttlid", First 4, Part parts.Ttl)
     ∷ (codes "ttlunits", First 4, Part parts.Units)

@@ -15,7 +15,7 @@ use Rattle.dns_values.specs.declared.numbers.Rtype.{Rtype}
 use Rattle.idna.specs.Uts46.{domain_to_ascii}
 use Rattle.idna.specs.declared.deny_list.TheConstants.AsciiDenyList.{URL}
 use Rattle.resolv_conf.specs.Number.{number_of}
-use Rattle.dns_lookup_words.specs.Asks.{all_set, asks_of, flag_set, part_set, usual_asking}
+use Rattle.dns_lookup_words.specs.Asks.{all_set, asks_of, flag_set, part_set, usual_asking, walking}
 use Rattle.program_words.specs.Rows.{said_in}
 use Rattle.dns_lookup_words.specs.Options.{is_off, plus_options, without_no}
 use Rattle.dns_lookup_words.specs.ShortAddress.{IsNoAddress, IsShortAddress, short_labels}
@@ -54,6 +54,7 @@ nothing_said = record {
   search = false;
   domain = None;
   dots = None;
+  walk = false;
   international = true;
   asks = [];
   name = None;
@@ -344,6 +345,11 @@ with_flags flags said = record said { asking = record said.asking { manner = rec
 abbrev pub with_layout : Layout → Said → Said
 with_layout layout said = record said { asking = record said.asking { manner = record said.asking.manner { layout = layout } } }
 
+-- `+[no]trace`: each name as it stands is asked for from the root on
+abbrev pub with_walk : Bool → Said → Said
+with_walk true said = record said { walk = true; search = false; asking = record said.asking { manner = walking said.asking.manner } }
+with_walk false said = record said { walk = false }
+
 -- an option without a value
 abbrev pub set_bare : Sets → Bool → Said → Result Said Wrong
 set_bare sets.Tcp on said = Ok (record said { tcp = on })
@@ -353,6 +359,7 @@ set_bare (sets.Part part) on said = Ok (with_layout (part_set part on said.askin
 set_bare sets.Search on said = Ok (record said { search = on })
 set_bare sets.Domain on said = Err wrongs.Suffix
 set_bare sets.Dots on said = Err wrongs.Dots
+set_bare sets.Walk on said = Ok (with_walk on said)
 set_bare sets.International on said = Ok (record said { international = on })
 set_bare sets.All on said = Ok (with_layout (all_set on said.asking.manner.layout) said)
 set_bare sets.Edns on said = only_on lacks.Extension on said
@@ -381,6 +388,7 @@ set_valued (sets.Part part) on text said = Err wrongs.Valued
 set_valued sets.Search on text said = Err wrongs.Valued
 set_valued sets.Domain on text said = domain_valued on text said
 set_valued sets.Dots on text said = dots_valued on text said
+set_valued sets.Walk on text said = Err wrongs.Valued
 set_valued sets.International on text said = Err wrongs.Valued
 set_valued sets.All on text said = Err wrongs.Valued
 set_valued sets.Edns on text said = version_said text on said
@@ -455,6 +463,7 @@ named (Some name) said = Ok (record {
   search = said.search;
   domain = said.domain;
   dots = said.dots;
+  walk = said.walk;
   asks = said.asks ++ asks_of name said.asking;
 })
 

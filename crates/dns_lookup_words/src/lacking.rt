@@ -22,7 +22,7 @@ pub enum Lack {
     Transport,
     /// What is answered while suffixes are tried.
     Suffixes,
-    /// A walk from the servers of the root, or to all servers of a zone.
+    /// A walk to all servers of a zone.
     Walk,
     /// Another text of an answer.
     Text,
@@ -59,7 +59,9 @@ pub(crate) fn lack_text(lack: Lack) -> &'static str
         Lack::Suffixes => {
             "asks for what is answered on the way of a search, and one answer is written for a name"
         }
-        Lack::Walk => "asks for a walk from server to server, and one answer is asked for",
+        Lack::Walk => {
+            "asks for the start of a zone at each of its servers, and one answer is asked for"
+        }
         Lack::Text => "asks for a text of records that is not written",
         Lack::Letters => {
             "asks for names to be written in letters past ASCII, which are written as xn-- has them"

@@ -29,6 +29,8 @@ pub struct Lookup {
     pub domain: Option<Name>,
     /// How many dots a name has that is asked for as it stands first, in place of what the configuration says.
     pub dots: Option<usize>,
+    /// Whether each name is asked for from the root on, zone by zone, at the servers of each zone.
+    pub walk: bool,
     /// The requests, in order, one at least: of a name without a type one for A, and then one for AAAA.
     pub asks: Seq<Ask>,
 }
@@ -48,6 +50,7 @@ fn named(alloc: Global, said: Said) -> Result<Lookup, Fault>
         search,
         domain,
         dots,
+        walk,
         international: _,
         mut asks,
         name,
@@ -68,6 +71,7 @@ fn named(alloc: Global, said: Said) -> Result<Lookup, Fault>
             search,
             domain,
             dots,
+            walk,
             asks,
         }),
         Err(_) => Err(Fault::NoMemory),
@@ -105,8 +109,8 @@ fn said_by(alloc: Global, words: &[String]) -> Result<Said, Fault>
 /// is the type or the class, where it names one, and else a name. Of several ports, types, classes or times the last counts.
 ///
 /// What is said before the first name is said of all names, and what is said behind one of that name alone; but servers, the port,
-/// `-4` and `-6`, `+tcp`, `+time`, `+search`, `+domain` and `+ndots` are of all names wherever they stand, and servers behind a name are
-/// refused where another name stands behind that. A name with letters past ASCII is asked for as UTS 46 writes it in ASCII,
+/// `-4` and `-6`, `+tcp`, `+time`, `+search`, `+domain`, `+ndots` and `+trace` are of all names wherever they stand, and servers behind a
+/// name are refused where another name stands behind that. A name with letters past ASCII is asked for as UTS 46 writes it in ASCII,
 /// unless `+noidnin` stands before it. `Refused` names the first word that is wrong, or says which value or that a name is missing.
 pub fn lookup_of(alloc: Global, words: &[String]) -> Result<Lookup, Fault>
     ensures judged { IsJudged words.now result }

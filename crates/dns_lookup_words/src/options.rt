@@ -70,6 +70,8 @@ pub(crate) enum Sets {
     Domain,
     /// How many dots a name has that is asked for as it stands first.
     Dots,
+    /// Whether names are asked for from the root on.
+    Walk,
     /// Whether names may have letters past ASCII.
     International,
     /// Whether sections, comments and statistics are written.
@@ -174,7 +176,7 @@ const PLUS_OPTIONS: [Row<Sets>; 72] = [
     ("time", Letters::First(2), Sets::Time),
     ("timeout", Letters::First(5), Sets::Time),
     ("tls", Letters::First(2), Sets::Never(Lack::Encryption)),
-    ("trace", Letters::First(3), Sets::Never(Lack::Walk)),
+    ("trace", Letters::First(3), Sets::Walk),
     ("tries", Letters::First(3), Sets::Absent(Lack::Tries)),
     ("ttlid", Letters::First(4), Sets::Part(Part::Ttl)),
     ("ttlunits", Letters::First(4), Sets::Part(Part::Units)),

@@ -47,6 +47,7 @@ pub(crate) struct Said {
     pub(crate) domain: Option<Name>,
     /// How many dots a name has that is asked for as it stands first, in place of what the configuration says.
     pub(crate) dots: Option<usize>,
+    pub(crate) walk: bool,
     /// Whether names may have letters past ASCII.
     pub(crate) international: bool,
     /// The requests of the names that stand before the last.
@@ -162,6 +163,7 @@ impl Said {
             search: false,
             domain: None,
             dots: None,
+            walk: false,
             international: true,
             asks: Seq::new(alloc),
             name: None,

@@ -1,8 +1,8 @@
 //! What options set that begin with a plus.
 
 ghost use Rattle.std.specs.Prelude.{◌≡◌};
-ghost use Rattle.dns_lookup_words.specs.Asks.{all_set, flag_set, part_set};
-ghost use Rattle.dns_lookup_words.specs.Words.{Answers, domain_said, dots_said, only_off, only_on, set_bare, set_valued, time_said, version_said};
+ghost use Rattle.dns_lookup_words.specs.Asks.{all_set, flag_set, part_set, walking};
+ghost use Rattle.dns_lookup_words.specs.Words.{Answers, domain_said, dots_said, only_off, only_on, set_bare, set_valued, time_said, version_said, with_walk};
 
 use crate::lacking::Lack;
 use crate::manner::{Flags, Layout, Manner};
@@ -81,6 +81,24 @@ fn all_set(on: bool, layout: Layout) -> Layout
     }
 }
 
+/// How a walk from the root is asked, and what is written of its answers.
+fn walking(mut manner: Manner) -> Manner
+    ensures { result ≡ walking manner }
+{
+    manner.flags.recursion = true;
+    manner.flags.dnssec = true;
+    manner.layout = Layout {
+        identify: true,
+        comments: false,
+        stats: false,
+        question: false,
+        additional: false,
+        authority: true,
+        ..manner.layout
+    };
+    manner
+}
+
 impl Said {
     fn take_time(&mut self, text: &str) -> Result<(), WordFault>
         ensures { Answers (λ o. o ≡ time_said text.now self.old) result self.new }
@@ -126,6 +144,17 @@ impl Said {
         }
     }
 
+    /// Asks from the root on, or not.
+    fn set_walk(&mut self, on: bool)
+        ensures { self.new ≡ with_walk on self.old }
+    {
+        self.walk = on;
+        if on {
+            self.search = false;
+            self.asking.manner = walking(self.asking.manner);
+        }
+    }
+
     /// Asks for what is always done.
     fn keep_on(&mut self, lack: Lack, on: bool) -> Result<(), WordFault>
         ensures { Answers (λ o. o ≡ only_on lack on self.old) result self.new }
@@ -161,6 +190,7 @@ impl Said {
             Sets::Search => self.search = on,
             Sets::Domain => return Err(WordFault::Wrong(Wrong::Suffix)),
             Sets::Dots => return Err(WordFault::Wrong(Wrong::Dots)),
+            Sets::Walk => self.set_walk(on),
             Sets::International => self.international = on,
             Sets::All => self.asking.manner.layout = all_set(on, layout),
             Sets::Edns => return self.keep_on(Lack::Extension, on),
@@ -203,6 +233,7 @@ impl Said {
             (Sets::Flag(_), _) => Err(WordFault::Wrong(Wrong::Valued)),
             (Sets::Part(_), _) => Err(WordFault::Wrong(Wrong::Valued)),
             (Sets::Search, _) => Err(WordFault::Wrong(Wrong::Valued)),
+            (Sets::Walk, _) => Err(WordFault::Wrong(Wrong::Valued)),
             (Sets::International, _) => Err(WordFault::Wrong(Wrong::Valued)),
             (Sets::All, _) => Err(WordFault::Wrong(Wrong::Valued)),
             (Sets::Already(_), _) => Err(WordFault::Wrong(Wrong::Valued)),
