@@ -77,7 +77,7 @@ ASKED = [["www.example", "A"], ["www.example", "aaaa"], ["alias.example", "A"], 
          ["missing.example", "MX", "+dnssec"], ["A", "IN", "www.example"], ["www.example", "IN", "A"], ["-t", "MX", "example"], ["-tMX", "-qexample", "+nodnssec"]]
 WRONG = [(["@192.0.2.1:53", "example"], "@192.0.2.1:53"), (["-p", "0", "example"], "0"), (["example", "-t", "NOTYPE"], "NOTYPE"),
          (["a..b"], "a..b"), (["example", "@192.0.2.1", "elsewhere"], "elsewhere"), (["example", "NONE"], "NONE"),
-         (["example", "+trace"], "walk from server to server"), (["@::1%lo", "example"], "@::1%lo"), (["example", "+fast"], "+fast"),
+         (["example", "+nssearch"], "walk from server to server"), (["@::1%lo", "example"], "@::1%lo"), (["example", "+fast"], "+fast"),
          (["-x", "one"], "one"), (["example", "+tls"], "TLS"), (["-b", "192.0.2.1", "example"], "-b"), (["example", "IXFR=7"], "IXFR=7"),
          (["example", "+time=0"], "+time=0"), (["example", "AXFR"], "AXFR"), ([], "name"), (["-p"], "-p")]
 # Words by which other flags are set, and parts of a message written.

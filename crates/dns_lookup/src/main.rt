@@ -2,6 +2,8 @@
 #![tactic(auto)]
 
 mod named_servers;
+mod root_walk;
+mod walked_world;
 
 use client_edge::{ConfFile, FileOpener, RandWords, RealClock, SocketEdge, command_words};
 use command_parts::{end_by, statuses};
@@ -10,10 +12,12 @@ use dns_lookup_run::{
     PassingEdge, WatchedClock, WatchedEdge, page_of, run, run_recorded, tell_no_memory,
     tell_no_random, tell_page,
 };
+use dns_lookup_words::lookup_of;
 use dns_values::{NoMemory, Status, StdSink};
 use named_servers::with_addresses;
 use rand::rngs::StdRng;
 use record_file::{RecordFile, record_of};
+use root_walk::{tell_unrecorded, walk_all};
 use std::alloc::Global;
 use std::io::Stderr;
 use std::process::ExitCode;
@@ -64,6 +68,14 @@ fn ask(
         return tell_no_random(errors);
     };
     let (file, words) = record_of(words);
+    if let Ok(lookup) = lookup_of(rt.alloc(), words) {
+        if lookup.walk && file.is_some() {
+            return tell_unrecorded(errors);
+        }
+        if lookup.walk {
+            return walk_all(rt, &lookup, errors, random);
+        }
+    }
     if let Some(file) = file {
         return match String::from_str(rt.alloc(), file) {
             Ok(file) => ask_recorded(rt, file, words, errors, edge, clock, &mut random),

@@ -69,3 +69,9 @@ pub record IsConfOf (lookup : Lookup) (told : Option (List ℕ)) (words : ℕ �
   pub conf : asked.conf ≡ conf_asked lookup (practical words base.conf)
   pub notes : asked.notes ≡ base.notes
   pub left_is : left ≡ words_left words base.conf
+
+-- It is the configuration that is asked, whatever is told of it.
+pub record IsAskedBy (lookup : Lookup) (told : Option (List ℕ)) (words left : ℕ → ℕ) (conf : ResolvConf) : Type 0 where
+  pub found : Found
+  pub is_found : IsConfOf lookup told words found left
+  pub conf_is : conf ≡ found.conf

@@ -47,6 +47,8 @@ What is asked:
   +cdflag, +cd    set CD, so that what was not validated comes too
   +adflag, +ad    set AD, so that the server says if an answer is authentic
   +nsid           ask the server for its name
+  +trace          ask for each name from the root down, at the servers of each zone, and write what each says; the servers are asked for
+                  those of the root, and for the addresses of those that have none beside them
 
 What is written:
   +short          the data of the answer section alone, a line for each record; where there is none the status says why

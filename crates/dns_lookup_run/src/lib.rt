@@ -9,6 +9,7 @@
 //! ```
 #![tactic(auto)]
 
+mod asked_conf;
 mod asking;
 mod asks;
 mod conf;
@@ -22,6 +23,7 @@ mod telling;
 mod watched_clock;
 mod watched_edge;
 
+pub use asked_conf::told_conf;
 pub use help::{page_of, tell_page};
 pub use passing_edge::{Asked, PassingEdge};
 pub use program::run;

@@ -57,6 +57,13 @@ part_set parts.Additional on l = record l { additional = on }
 part_set parts.Comments on l = record l { comments = on }
 part_set parts.Stats on l = record l { stats = on }
 
+-- how a name is asked for in a walk, and how each step is written
+abbrev pub walked : Manner → Manner
+walked m = record m {
+  flags = record m.flags { recursion = true; dnssec = true };
+  layout = record m.layout { identify = true; question = false; authority = true; additional = false; comments = false; stats = false };
+}
+
 -- all sections, comments and statistics
 abbrev pub all_set : Bool → Layout → Layout
 all_set on l = record l { question = on; answer = on; authority = on; additional = on; comments = on; stats = on }

@@ -13,7 +13,7 @@ use Rattle.dns_values.specs.declared.address.IpAddr.{IpAddr}
 use Rattle.dns_values.specs.declared.address.IpAddr.TheVariants.{V4}
 use Rattle.dns_values.specs.declared.numbers.Rtype.{Rtype}
 use Rattle.resolv_conf.specs.Number.{number_of}
-use Rattle.dns_lookup_words.specs.Asks.{all_set, asks_of, flag_set, part_set, usual_asking}
+use Rattle.dns_lookup_words.specs.Asks.{all_set, asks_of, flag_set, part_set, usual_asking, walked}
 use Rattle.dns_lookup_words.specs.Options.{is_off, plus_options, sets_of, without_no}
 use Rattle.dns_lookup_words.specs.ShortAddress.{IsNoAddress, IsShortAddress, short_labels}
 use Rattle.dns_lookup_words.specs.Types.{type_number}
@@ -47,6 +47,7 @@ nothing_said = record {
   port = None;
   family = None;
   tcp = false;
+  walk = false;
   seconds = None;
   asks = [];
   name = None;
@@ -295,10 +296,16 @@ with_flags flags said = record said { asking = record said.asking { manner = rec
 abbrev pub with_layout : Layout → Said → Said
 with_layout layout said = record said { asking = record said.asking { manner = record said.asking.manner { layout = layout } } }
 
+-- a walk, which says of what is said then how each step is asked for and written
+abbrev pub walk_said : Bool → Said → Said
+walk_said true said = record said { walk = true; asking = record said.asking { manner = walked said.asking.manner } }
+walk_said false said = record said { walk = false }
+
 -- an option without a value
 abbrev pub set_bare : Sets → Bool → Said → Result Said Wrong
 set_bare sets.Tcp on said = Ok (record said { tcp = on })
 set_bare sets.Time on said = Err wrongs.Time
+set_bare sets.Walk on said = Ok (walk_said on said)
 set_bare (sets.Flag flag) on said = Ok (with_flags (flag_set flag on said.asking.manner.flags) said)
 set_bare (sets.Part part) on said = Ok (with_layout (part_set part on said.asking.manner.layout) said)
 set_bare sets.All on said = Ok (with_layout (all_set on said.asking.manner.layout) said)
@@ -317,6 +324,7 @@ version_said text on said = only_on lacks.Extension (on && bytes_eq text (codes 
 abbrev pub set_valued : Sets → Bool → List ℕ → Said → Result Said Wrong
 set_valued sets.Tcp on text said = Err wrongs.Valued
 set_valued sets.Time on text said = time_valued on text said
+set_valued sets.Walk on text said = Err wrongs.Valued
 set_valued (sets.Flag flag) on text said = Err wrongs.Valued
 set_valued (sets.Part part) on text said = Err wrongs.Valued
 set_valued sets.All on text said = Err wrongs.Valued
@@ -388,6 +396,7 @@ named (Some name) said = Ok (record {
   port = said.port;
   family = said.family;
   tcp = said.tcp;
+  walk = said.walk;
   seconds = said.seconds;
   asks = said.asks ++ asks_of name said.asking;
 })

@@ -20,6 +20,8 @@ pub struct Lookup {
     pub family: Option<Family>,
     /// Whether servers are asked by streams alone.
     pub tcp: bool,
+    /// Whether each name is asked for from the root down, at the servers of each zone.
+    pub walk: bool,
     /// How long a request may take, in seconds, in place of what the configuration says.
     pub seconds: Option<u64>,
     /// The requests, in order, one at least: of a name without a type one for A, and then one for AAAA.
@@ -37,6 +39,7 @@ fn named(alloc: Global, said: Said) -> Result<Lookup, Fault>
         port,
         family,
         tcp,
+        walk,
         seconds,
         mut asks,
         name,
@@ -53,6 +56,7 @@ fn named(alloc: Global, said: Said) -> Result<Lookup, Fault>
             port,
             family,
             tcp,
+            walk,
             seconds,
             asks,
         }),
@@ -91,7 +95,7 @@ fn said_by(alloc: Global, words: &[String]) -> Result<Said, Fault>
 /// is the type or the class, where it names one, and else a name. Of several ports, types, classes or times the last counts.
 ///
 /// What is said before the first name is said of all names, and what is said behind one of that name alone; but servers, the port,
-/// `-4` and `-6`, `+tcp` and `+time` are of all names wherever they stand, and servers behind a name are refused where another name
+/// `-4` and `-6`, `+tcp`, `+time` and `+trace` are of all names wherever they stand, and servers behind a name are refused where another name
 /// stands behind that. `Refused` names the first word that is wrong, or says which value or that a name is missing.
 pub fn lookup_of(alloc: Global, words: &[String]) -> Result<Lookup, Fault>
     ensures judged { IsJudged words.now result }

@@ -43,6 +43,8 @@ pub(crate) enum Sets {
     Tcp,
     /// How long a request may take.
     Time,
+    /// Whether names are asked for from the root down.
+    Walk,
     /// What a request says.
     Flag(Flag),
     /// What is written of an answer.
@@ -128,7 +130,7 @@ const PLUS_OPTIONS: [Entry; 72] = [
     ("time", 2, Sets::Time),
     ("timeout", 5, Sets::Time),
     ("tls", 2, Sets::Never(Lack::Encryption)),
-    ("trace", 3, Sets::Never(Lack::Walk)),
+    ("trace", 3, Sets::Walk),
     ("tries", 3, Sets::Absent(Lack::Tries)),
     ("ttlid", 4, Sets::Already(Lack::Text)),
     ("ttlunits", 4, Sets::Never(Lack::Text)),

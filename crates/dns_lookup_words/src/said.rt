@@ -39,6 +39,7 @@ pub(crate) struct Said {
     pub(crate) port: Option<u16>,
     pub(crate) family: Option<Family>,
     pub(crate) tcp: bool,
+    pub(crate) walk: bool,
     pub(crate) seconds: Option<u64>,
     /// The requests of the names that stand before the last.
     pub(crate) asks: Seq<Ask>,
@@ -135,6 +136,7 @@ impl Said {
             port: None,
             family: None,
             tcp: false,
+            walk: false,
             seconds: None,
             asks: Seq::new(alloc),
             name: None,

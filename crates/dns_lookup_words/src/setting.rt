@@ -1,11 +1,11 @@
 //! What options set that begin with a plus.
 
 ghost use Rattle.std.specs.Prelude.{◌≡◌};
-ghost use Rattle.dns_lookup_words.specs.Asks.{all_set, flag_set, part_set};
-ghost use Rattle.dns_lookup_words.specs.Words.{Answers, only_off, only_on, set_bare, set_valued, time_said, version_said};
+ghost use Rattle.dns_lookup_words.specs.Asks.{all_set, flag_set, part_set, walked};
+ghost use Rattle.dns_lookup_words.specs.Words.{Answers, only_off, only_on, set_bare, set_valued, time_said, version_said, walk_said};
 
 use crate::lacking::Lack;
-use crate::manner::{Flags, Layout};
+use crate::manner::{Flags, Layout, Manner};
 use crate::number::number_in;
 use crate::options::{Flag, Part, Sets};
 use crate::said::Said;
@@ -63,6 +63,24 @@ fn all_set(on: bool, layout: Layout) -> Layout
     }
 }
 
+/// How a name is asked for in a walk, and how each step is written, as dig has it.
+fn walked(mut manner: Manner) -> Manner
+    ensures { result ≡ walked manner }
+{
+    manner.flags.recursion = true;
+    manner.flags.dnssec = true;
+    let layout = Layout {
+        identify: true,
+        question: false,
+        authority: true,
+        additional: false,
+        comments: false,
+        stats: false,
+        ..manner.layout
+    };
+    Manner { layout, ..manner }
+}
+
 impl Said {
     fn take_time(&mut self, text: &str) -> Result<(), WordFault>
         ensures { Answers (λ o. o ≡ time_said text.now self.old) result self.new }
@@ -98,6 +116,16 @@ impl Said {
         }
     }
 
+    /// Asks for a walk, of whose steps the records and where they came from are written, or leaves it.
+    fn set_walk(&mut self, on: bool)
+        ensures { self.new ≡ walk_said on self.old }
+    {
+        self.walk = on;
+        if on {
+            self.asking.manner = walked(self.asking.manner);
+        }
+    }
+
     /// Takes an option without a value.
     pub(crate) fn set_bare(&mut self, sets: Sets, on: bool) -> Result<(), WordFault>
         ensures { Answers (λ o. o ≡ set_bare sets on self.old) result self.new }
@@ -106,6 +134,7 @@ impl Said {
         match sets {
             Sets::Tcp => self.tcp = on,
             Sets::Time => return Err(WordFault::Wrong(Wrong::Time)),
+            Sets::Walk => self.set_walk(on),
             Sets::Flag(flag) => manner.flags = flag_set(flag, on, manner.flags),
             Sets::Part(part) => manner.layout = part_set(part, on, manner.layout),
             Sets::All => manner.layout = all_set(on, manner.layout),
@@ -135,6 +164,7 @@ impl Said {
             (Sets::Edns, _) => self.take_version(text, on),
             (Sets::Never(lack), _) => Err(WordFault::Wrong(Wrong::Lacking(lack))),
             (Sets::Absent(lack), _) => Err(WordFault::Wrong(Wrong::Lacking(lack))),
+            (Sets::Walk, _) => Err(WordFault::Wrong(Wrong::Valued)),
             (Sets::Tcp, _) => Err(WordFault::Wrong(Wrong::Valued)),
             (Sets::Flag(_), _) => Err(WordFault::Wrong(Wrong::Valued)),
             (Sets::Part(_), _) => Err(WordFault::Wrong(Wrong::Valued)),

@@ -359,11 +359,11 @@ const RUNS: [Run; 28] = [
         said: "dns_lookup: +time=601 gives no seconds from 1 to 600; see dns_lookup --help\n",
     },
     Run {
-        words: "example.com +trace",
+        words: "example.com +nssearch",
         answers: true,
         status: 2,
         written: "",
-        said: "dns_lookup: +trace asks for a walk from server to server, and one answer is asked for; see dns_lookup --help\n",
+        said: "dns_lookup: +nssearch asks for a walk from server to server, and one answer is asked for; see dns_lookup --help\n",
     },
 ];
 
