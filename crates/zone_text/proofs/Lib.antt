@@ -1,0 +1,12 @@
+pub mod Cuts
+pub mod Spelled
+pub mod Lacking
+pub mod Printing
+pub mod Written
+pub mod Said
+pub mod Zones
+pub mod Above
+pub mod ReadBack
+pub mod OnlyDigits
+pub mod NumbersBack
+pub mod Worked

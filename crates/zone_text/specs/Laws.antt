@@ -1,0 +1,27 @@
+-- What was printed is read.
+use Rattle.std.specs.Prelude.{◌≡◌, ◌<◌, ◌^◌, ℕ, List, map, Ok}
+use Rattle.std.specs.Char.{to_ascii_lowercase}
+use Rattle.std.specs.List.{AllByRecursion}
+use Rattle.dns_names.specs.Name.{AreOctets, IsLegal, Labels, spelling}
+use Rattle.zone_records.specs.declared.record.ZoneRecord.{ZoneRecord}
+use Rattle.zone_text.specs.Lines.{IsText}
+use Rattle.zone_text.specs.Numbers.{numbers_text}
+use Rattle.zone_text.specs.Saying.{text_says}
+
+-- A record whose owner is a name in lower case, as each is that comes of a message, and whose numbers and octets are such.
+pub record IsWritable (item : ZoneRecord) : Type 0 where
+  pub owner : Labels
+  pub legal : IsLegal owner
+  pub octets : AreOctets owner
+  pub owner_is : item.owner ≡ spelling owner
+  pub lower : map to_ascii_lowercase item.owner ≡ item.owner
+  pub ttl : item.ttl.0 < 2 ^ 32
+  pub class : item.class.0 < 2 ^ 16
+  pub rtype : item.rtype.0 < 2 ^ 16
+  pub content : AllByRecursion (λ n. n < 2 ^ 8) item.rdata
+
+abbrev pub ReadBackLaw : Type 0
+ReadBackLaw = (records : List ZoneRecord) (text : List ℕ) → AllByRecursion IsWritable records → IsText records text → text_says text ≡ Ok records
+
+abbrev pub NumbersBackLaw : Type 0
+NumbersBackLaw = (records : List ZoneRecord) → AllByRecursion IsWritable records → text_says (numbers_text records) ≡ Ok records

@@ -1,0 +1,82 @@
+//! Octets as hexadecimal digits.
+
+ghost use Rattle.std.specs.Prelude.{◌≡◌, ◌++◌, ◌∷◌, ◌<◌, length, None, Some, IfOk, IfSome, MatchOption, OnOk};
+ghost use Rattle.dns_presentation.specs.Octets.{hex_digit, hex_text, hex_value, octets_of_hex};
+ghost use Rattle.zone_text.specs.Saying.{TellsOctets, octet_says};
+
+use dns_base::NoMemory;
+use std::alloc::Global;
+
+/// The digit of a number below 16.
+fn hex_digit(number: u8) -> u8
+    requires { number < 16 }
+    ensures { result ≡ hex_digit number }
+{
+    if number < 10 {
+        b'0' + number
+    } else {
+        b'A' - 10 + number
+    }
+}
+
+/// Adds two digits for each octet.
+pub(crate) fn push_digits(text: &mut Vec<u8>, octets: &[u8]) -> Result<(), NoMemory>
+    ensures { OnOk result (text.new.items ≡ text.old.items ++ hex_text octets.now) }
+{
+    for octet in octets {
+        text.push(hex_digit(*octet / 16))?;
+        text.push(hex_digit(*octet % 16))?;
+    }
+    Ok(())
+}
+
+/// The number that a digit of either case writes.
+fn hex_value(digit: u8) -> Option<u8>
+    ensures value { result ≡ hex_value digit }
+    ensures range { IfSome result (λ n. n < 16) }
+{
+    match digit {
+        b'0'..=b'9' => Some(digit - b'0'),
+        b'A'..=b'F' => Some(digit - b'A' + 10),
+        b'a'..=b'f' => Some(digit - b'a' + 10),
+        _ => None,
+    }
+}
+
+/// The octet that two digits write.
+fn octet_of(high: u8, low: u8) -> Option<u8>
+    ensures { MatchOption result (octet_says high low ≡ None) (λ n. octet_says high low ≡ Some n) }
+{
+    Some(16 * hex_value(high)? + hex_value(low)?)
+}
+
+/// The first two octets, and what stands behind them.
+fn first_two(text: &[u8]) -> Option<(u8, u8, &[u8])>
+    ensures { MatchOption result (length text.now < 2) (λ x. text.now ≡ x.0 ∷ x.1 ∷ x.2.now) }
+{
+    match text {
+        [first, second, behind @ ..] => Some((*first, *second, behind)),
+        _ => None,
+    }
+}
+
+/// The octets that digits write, two for each.
+#[tactic(auto, using(crate::proofs::Spelled::nothing_before, crate::proofs::Spelled::two_digits, crate::proofs::Spelled::not_two, crate::proofs::Spelled::whole_read, crate::proofs::Spelled::one_digit))]
+pub(crate) fn octets_of(alloc: Global, digits: &[u8]) -> Result<Option<Vec<u8>>, NoMemory>
+    ensures { IfOk result (TellsOctets (octets_of_hex digits.now)) }
+{
+    let mut octets = Vec::with_capacity(alloc, digits.len() / 2)?;
+    let mut rest = digits;
+    while let Some((high, low, behind)) = first_two(rest) {
+        let Some(octet) = octet_of(high, low) else {
+            return Ok(None);
+        };
+        octets.push(octet)?;
+        rest = behind;
+    }
+    if rest.is_empty() {
+        Ok(Some(octets))
+    } else {
+        Ok(None)
+    }
+}

@@ -1,0 +1,13 @@
+//! What holds of texts.
+
+ghost use Rattle.zone_text.specs.Laws.{NumbersBackLaw, ReadBackLaw};
+
+/// The text of records says these records, in their order.
+pub fn read_back_law()
+    ensures { ReadBackLaw }
+{}
+
+/// Lines of records in numbers and hexadecimal digits say these records, in their order.
+pub fn numbers_back_law()
+    ensures { NumbersBackLaw }
+{}
