@@ -8,8 +8,11 @@ messages anywhere, most of them then mangled: records dropped, doubled, swapped,
 types, SOAs in the middle or behind the end, messages dropped, refused, or cut off. A list of records is a transfer where it has one
 of the two forms (RFC 5936 2.2, RFC 1995 4), each record is of the class IN and of a type that a zone may hold, and a whole zone ends
 with the SOA it began with; then the zone is to be the set that the form says without what is outside it, in order, and else nothing
-of it is to be printed and the status to be 5. Behind these comes a transfer that never ends, which `--most` is to end. Prints how many
-were taken and how many refused, or the first that differs.
+of it is to be printed and the status to be 5. Where changes were asked for and the server answers FORMERR, NOTIMP or REFUSED, has none
+but a greater serial, or sends such that delete what is not there or add what is, the whole zone is to be asked for, and a sentence to
+say so. Nothing is to be printed of a zone with the serial of the one before (9), or one that is not greater (5). Behind these comes a
+transfer that never ends, which `--most` is to end. Prints how many ended with which status, how many of them behind a second
+request, or the first that differs.
 """
 
 import random
@@ -24,6 +27,7 @@ from pathlib import Path
 
 ZONE = "example.com"
 AXFR, IXFR, SOA = 252, 251, 6
+UNWILLING = (1, 4, 5)
 
 
 def wire_name(text):
@@ -95,32 +99,61 @@ def batches_in(records):
     return batches
 
 
+def is_greater(serial, than):
+    """RFC 1982 3.2."""
+    return 0 < (serial - than) % 2**32 < 2**31
+
+
 def zone_after(before, kind, messages):
-    """The zone, or None where a transfer is refused; `again` where the whole zone is to be asked for."""
+    """The zone, or None where a transfer is refused; a number where a server says a serial alone, and `again` where the whole zone is to be asked for."""
     records = []
     for at, (code, message) in enumerate(messages):
         if code != 0 or not message:
-            return None
+            return "again" if kind == IXFR and code in UNWILLING else None
         records = records + message
         if not all(is_held(r) for r in records) or any(r.serial is not None and r.owner.lower() != ZONE for r in records):
             return None
         if kind == IXFR and at == 0 and len(records) == 1 and records[0].serial is not None:
-            return before if before is not None and records[0].serial == serial_of(before) else "again"
+            return records[0].serial
         body = whole_in(records)
         if body is not None:
             return {r.kept() for r in body} | {records[-1].kept()}
         batches = batches_in(records) if kind == IXFR else None
         if batches is None:
             continue
-        zone, have = {k for k in before if k[1] != SOA}, serial_of(before)
+        zone, have, fit = {k for k in before if k[1] != SOA}, serial_of(before), True
         for gone, new in batches:
             if gone[0].serial != have:
                 return None
-            zone -= {r.kept() for r in gone[1:]}
-            zone |= {r.kept() for r in new[1:] if is_inside(r)}
+            for item in (r.kept() for r in gone[1:] if is_inside(r)):
+                fit = fit and item in zone
+                zone.discard(item)
+            for item in (r.kept() for r in new[1:] if is_inside(r)):
+                fit = fit and item not in zone
+                zone.add(item)
             have = new[0].serial
-        return zone | {records[-1].kept()}
+        return zone | {records[-1].kept()} if fit or not is_greater(have, serial_of(before)) else "again"
     return None
+
+
+def judged(before, zone):
+    """The status of a zone that came, and the zone if it is printed."""
+    if zone is None:
+        return 5, None
+    serial = zone if isinstance(zone, int) else serial_of(zone)
+    if before is None or is_greater(serial, serial_of(before)):
+        return 0, zone
+    return (9 if serial == serial_of(before) else 5), None
+
+
+def expected(before, sent):
+    """The status, the zone that is printed, and whether the whole zone is asked for behind its changes."""
+    if before is None:
+        return *judged(None, zone_after(None, AXFR, sent[AXFR])), False
+    zone = zone_after(before, IXFR, sent[IXFR])
+    if zone == "again" or (isinstance(zone, int) and is_greater(zone, serial_of(before))):
+        return *judged(before, zone_after(None, AXFR, sent[AXFR])), True
+    return *judged(before, zone), False
 
 
 def serial_of(zone):
@@ -173,19 +206,25 @@ def mangled(rng, records):
 def case(rng):
     """The zone before, and the messages of each kind of transfer."""
     numbers = rng.sample(range(40), rng.randrange(0, 12))
-    before = {plain(n).kept() for n in numbers} | {soa(1).kept()}
-    records, serial, left = [], 1, list(numbers)
+    base, step = rng.choice([1, 1, 1, 2**32 - 1]), rng.choice([1] * 8 + [2**31 - 1, 2**31, 2**32 - 1, 0])
+    before = {plain(n).kept() for n in numbers} | {soa(base).kept()}
+    records, serial, left = [], base, list(numbers)
     for _ in range(rng.choice([1, 1, 2, 3])):
         gone, new = rng.sample(left, min(len(left), rng.randrange(3))), rng.sample(range(40, 60), rng.randrange(3))
-        records += [soa(serial)] + [plain(n) for n in gone] + [soa(serial + 1)] + [plain(n) for n in new]
-        serial, left = serial + 1, [n for n in left if n not in gone] + new
+        if rng.random() < 0.1:
+            gone = gone + [rng.randrange(60)]
+        if rng.random() < 0.1:
+            new = new + [rng.randrange(60)]
+        after = (serial + step) % 2**32
+        records += [soa(serial)] + [plain(n) for n in gone] + [soa(after)] + [plain(n) for n in new]
+        serial, left = after, [n for n in left if n not in gone] + new
     whole = [soa(serial)] + [plain(n) for n in left] + [soa(serial)]
-    changes = rng.choice([[soa(serial)] + records + [soa(serial)]] * 3 + [whole, [soa(1)], [soa(5)]])
+    changes = rng.choice([[soa(serial)] + records + [soa(serial)]] * 3 + [whole, [soa(base)], [soa(serial)], [soa((base - 1) % 2**32)]])
     sent = {}
     for kind, list_ in ((AXFR, whole), (IXFR, changes)):
         messages = cut(rng, mangled(rng, list_) if rng.random() < 0.8 else list_)
         if rng.random() < 0.1:
-            messages[rng.randrange(len(messages))] = rng.choice([(5, []), (0, []), (2, [plain(1)])])
+            messages[rng.randrange(len(messages))] = rng.choice([(1, []), (4, []), (5, []), (9, []), (0, []), (2, [plain(1)])])
         if rng.random() < 0.1:
             messages = messages[:-1]
         sent[kind] = messages
@@ -253,35 +292,37 @@ def lines_of(text):
     return [" ".join([row.split(" ", 1)[0].rstrip("."), row.split(" ", 1)[1]]) for row in text.splitlines()]
 
 
-def agrees(server, zone, status, text, said):
-    if zone is None:
-        return (status, text) == (5, "") and said.startswith(f"zone_fetch: {ZONE} from 127.0.0.1:{server.port}: failed ") and said.count("\n") == 1
-    return (status, said) == (0, "") and lines_of(text) == [line(k) for k in sorted(zone)]
+def agrees(server, status, zone, again, got, text, said):
+    head = f"zone_fetch: {ZONE} from 127.0.0.1:{server.port}: "
+    sentences = said.splitlines()
+    if again and (not sentences or not sentences.pop(0).startswith(head + "asked for whole: ")):
+        return False
+    ends = {0: [], 5: [head + "failed "], 9: [head + "unchanged: "]}[status]
+    if got != status or len(sentences) != len(ends) or not all(is_.startswith(begins) for is_, begins in zip(sentences, ends)):
+        return False
+    return lines_of(text) == ([line(k) for k in sorted(zone)] if status == 0 else [])
 
 
 def main():
     program, count = sys.argv[1], int(sys.argv[2]) if len(sys.argv) > 2 else 2000
     rng = random.Random(int(sys.argv[3]) if len(sys.argv) > 3 else 1)
-    server, taken, refused = Server(), 0, 0
+    server, ended, twice = Server(), {0: 0, 5: 0, 9: 0}, 0
     with tempfile.TemporaryDirectory() as folder:
         path = Path(folder) / "before"
         for n in range(count):
             before, server.sent = case(rng)
             if n % 2:
-                zone = zone_after(None, AXFR, server.sent[AXFR])
-                status, text, said = run(program, server.port)
+                before = None
             else:
                 path.write_text("".join(line(k) + "\n" for k in sorted(before)))
-                zone = zone_after(before, IXFR, server.sent[IXFR])
-                if zone == "again":
-                    zone = zone_after(None, AXFR, server.sent[AXFR])
-                status, text, said = run(program, server.port, "--from", str(path))
-            if not agrees(server, zone, status, text, said):
-                print(f"transfer {n} differs: status {status}\n{text}{said}", "expected", zone and [line(k) for k in sorted(zone)])
+            status, zone, again = expected(before, server.sent)
+            got, text, said = run(program, server.port, *([] if before is None else ["--from", str(path)]))
+            if not agrees(server, status, zone, again, got, text, said):
+                print(f"transfer {n} differs: status {got}\n{text}{said}", "expected", status, again, zone and [line(k) for k in sorted(zone)])
                 print([[(r.owner, r.rtype, r.serial) for r in records] for _, records in server.sent[AXFR if n % 2 else IXFR]])
                 sys.exit(1)
-            taken, refused = taken + (zone is not None), refused + (zone is None)
-    print(f"{taken} transfers taken, {refused} refused, all as the forms say")
+            ended[status], twice = ended[status] + 1, twice + again
+    print(f"{ended[0]} transfers taken, {ended[5]} refused, {ended[9]} without news, {twice} of them asked for whole, all as the forms say")
     server.endless, began = True, time.time()
     status, text, said = run(program, server.port, "--most", "20000000")
     print(f"a transfer without an end: status {status}, {said.strip()}, after {time.time() - began:.1f} s")

@@ -15,6 +15,9 @@ import sys
 import tempfile
 import threading
 
+import hostile_zones
+from hostile_zones import soa
+
 TOP = pathlib.Path(__file__).resolve().parent.parent
 RELEASE = re.search(r'RELEASE: &str = "([^"]+)"', (TOP / "crates/program_words/src/release.rt").read_text(encoding="utf-8")).group(1)
 
@@ -69,6 +72,7 @@ def fetches(program, folder):
         (["--port"], "no port stands behind --port"),
         (["--most"], "no count of octets stands behind --most"),
         (["--from"], "no file stands behind --from"),
+        (["--output"], "no file stands behind --output"),
         (["--port", "0", "a.test", "127.0.0.1"], "0 is no port from 1 to 65535"),
         (["--port", "65536", "a.test", "127.0.0.1"], "65536 is no port from 1 to 65535"),
         (["--most", "+1", "a.test", "127.0.0.1"], "+1 is no count of octets"),
@@ -94,8 +98,42 @@ def fetches(program, folder):
         port = serve(refuse(code))
         expect(name, ran(program, at(port)), left(port, f"failed refused: the server answered {name}"))
     port = serve(lambda stream, query: stream.sendall(b"\x00\x64" + query[:20]))
-    expect("a cut stream", ran(program, at(port))[:2], left(port, "")[:2])
-    expect("a cut stream", ran(program, at(port))[2].startswith(f"zone_fetch: a.test from 127.0.0.1:{port}: failed transport: "), True)
+    expect("a cut stream", ran(program, at(port)), left(port, "failed transport: the stream was cut within a message"))
+    port = serve(lambda stream, query: None)
+    expect("a closed stream", ran(program, at(port)), left(port, "failed transport: the server closed the stream before the transfer's end"))
+
+
+def changes(program, folder):
+    """What comes of a request for changes of a zone with serial 5, which all others' serials are compared with."""
+    server, file = hostile_zones.Server(), folder / "zone"
+    zone, text = hostile_zones.ZONE, lambda serial: hostile_zones.line(soa(serial).kept()) + "\n"
+    head = f"zone_fetch: {zone} from 127.0.0.1:{server.port}: "
+    same, why = f"{head}unchanged: its serial is 5, which {file} has\n", f"{head}asked for whole: "
+    older = f"{head}failed serial: its serial 4 is not greater than 5, which {file} has\n"
+    misfit = [(0, [soa(6), soa(5), hostile_zones.plain(1), soa(6), soa(6)])]
+    file.write_text(text(5))
+    words = ["--port", str(server.port), zone, "127.0.0.1"]
+    for what, sent, serial, ends in (
+        ("the same serial alone", [(0, [soa(5)])], 5, (9, "", same)),
+        ("an older serial alone", [(0, [soa(4)])], 4, (5, "", older)),
+        ("a serial half of all ahead", [(0, [soa(2**31 + 5)])], 4, (5, "", older.replace(" 4 ", f" {2**31 + 5} "))),
+        ("a serial alone", [(0, [soa(6)])], 6, (0, text(6), f"{why}the server has no changes, and a zone with serial 6\n")),
+        ("FORMERR", [(1, [])], 6, (0, text(6), f"{why}the server answered FORMERR where its changes were asked for\n")),
+        ("NOTIMP", [(4, [])], 4, (5, "", f"{why}the server answered NOTIMP where its changes were asked for\n{older}")),
+        ("REFUSED", [(5, [])], 5, (9, "", f"{why}the server answered REFUSED where its changes were asked for\n{same}")),
+        ("NOTAUTH", [(9, [])], 6, (5, "", f"{head}failed refused: the server answered NOTAUTH\n")),
+        ("a misfit", misfit, 6, (0, text(6), f"{why}of its changes 1 delete what is not there, or add what is\n")),
+    ):
+        server.sent = {hostile_zones.IXFR: sent, hostile_zones.AXFR: [(0, [soa(serial), soa(serial)])]}
+        expect(what, ran(program, ["--from", str(file), *words]), ends)
+    server.sent = {hostile_zones.AXFR: [(0, [soa(6), soa(6)])]}
+    expect("a file", ran(program, ["--output", str(file), *words]), (0, "", ""))
+    expect("a file's folder", [(path, path.read_text()) for path in folder.glob("zone*")], [(file, text(6))])
+    none = folder / "none" / "zone"
+    expect("no folder", ran(program, ["--output", str(none), *words]), (4, "", f"zone_fetch: {none} could not be written\n"))
+    server.sent = {hostile_zones.AXFR: [(0, [soa(7), soa(8)])]}
+    expect("a wrong end", ran(program, ["--output", str(file), *words])[:2], (5, ""))
+    expect("a file after a wrong end", file.read_text(), text(6))
 
 
 def lookups(program):
@@ -124,6 +162,7 @@ def main():
         pages(program)
     with tempfile.TemporaryDirectory() as folder:
         fetches(fetch, pathlib.Path(folder))
+        changes(fetch, pathlib.Path(folder))
     lookups(lookup)
     print("\n".join(faults) or "each end is told")
     sys.exit(1 if faults else 0)

@@ -1,7 +1,11 @@
-//! The program `zone_fetch`: it fetches a zone from a name server and prints it.
+//! The program `zone_fetch`: it fetches a zone from a name server and prints it, or puts it in the place of a file.
 #![tactic(auto)]
 
+mod beside;
+
+use beside::FilesBeside;
 use client_edge::{FileOpener, RandWords, RealClock, SocketEdge, command_words};
+use client_request::Words;
 use dns_values::StdSink;
 use program_words::page_asked;
 use rand::rngs::StdRng;
@@ -37,9 +41,10 @@ fn fetch(
     later: SocketEdge<HostRuntime>,
 ) -> u8 {
     let mut errors = StdSink::new(rt.stderr());
-    let Some(random) = random_words(&rt) else {
+    let Some(mut random) = random_words(&rt) else {
         return tell_no_random(&mut errors).0;
     };
+    let files = FilesBeside::new(rt, rt.alloc(), random.next());
     let mut world = World {
         opener: FileOpener::new(rt),
         edge,
@@ -47,6 +52,7 @@ fn fetch(
         clock: RealClock::new(rt),
         random,
         progress: ProgressLine::new(rt.alloc(), terminal(&rt)),
+        files,
     };
     let mut sink = StdSink::new(rt.stdout());
     fetch_to(rt.alloc(), words, &mut sink, &mut errors, &mut world).0

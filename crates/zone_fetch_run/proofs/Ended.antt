@@ -1,19 +1,17 @@
 -- How the program ends, from the parts that it ran.
 use Rattle.std.proofs.Common.{◌≡◌, ◌≢◌, ◌⊎◌, inl, inr, ℕ, List, Option, Ok, Err, subst, sym, ap, ◌∙◌, arith}
 use Rattle.std.proofs.lemmas.Bool.Decides.{eqb_tells}
-use Rattle.command_parts.specs.Ends.{IsSaid}
-use Rattle.dns_values.specs.Sink.{with_octets}
 use Rattle.dns_values.specs.Source.{Rose}
 use Rattle.dns_values.specs.declared.numbers.Status.{Status}
 use Rattle.zone_records.specs.Folding.{Zone}
 use Rattle.zone_transfer.specs.Turning.{Scene}
-use Rattle.zone_fetch_run.specs.Ends.{End, FetchEnds, Files, HasStopped, HasZone, RoseUnread, TellsByLine, TellsBySentence, Texts, is_refused, is_stopped, is_unwritten, is_written, out_of_memory}
+use Rattle.zone_fetch_run.specs.Ends.{End, FetchEnds, Files, HasStopped, HasZone, RoseUnread, Texts, is_out, is_refused, is_stopped, is_unread, is_unwritten, is_written}
 use Rattle.zone_fetch_run.specs.Ends as ends
 use Rattle.zone_fetch_run.specs.Lines.{zone_text}
-use Rattle.zone_fetch_run.specs.Sentences.{refusal_sentence, stop_sentence, unwritten_sentence}
-use Rattle.zone_fetch_run.specs.Stops.{Tells, line_of, status_of}
+use Rattle.zone_fetch_run.specs.Stops.{status_of}
 use Rattle.zone_fetch_run.specs.Words.{IsCommand}
 use Rattle.zone_fetch_run.specs.declared.command.Command.{Command}
+use Rattle.zone_fetch_run.specs.declared.leading.Detour.{Detour}
 use Rattle.zone_fetch_run.specs.declared.stop.Stop.{Stop}
 use Rattle.zone_fetch_run.specs.declared.stop.Stop.TheVariants.{Unread}
 use Rattle.zone_fetch_run.specs.declared.wrong.Refusal.{Refusal}
@@ -27,39 +25,45 @@ not_three n (inl a) e = omega arith
 not_three n (inr (inl a)) e = omega arith
 not_three n (inr (inr a)) e = omega arith
 
--- a status that is told, or memory ran out there
-same_number : (told status : Status) (n : ℕ) → (told ≡ status) ⊎ (told.0 ≡ 6) → told.0 ≡ n → n ≢ 6 → status.0 ≡ n
-same_number told status n (inl same) is other = ap (λ (s : Status). s.0) (sym same) ∙ is
-same_number told status n (inr six) is other = absurd (other (sym is ∙ six))
-
 module _ (words : Texts) (files : Files) (random : ℕ → ℕ) (Told : End → Type 0) (status : ℕ) (old new later later_new : Scene) where
-  pub ended_refused : (refusal : Refusal) → IsCommand words (Err refusal) → (status ≡ 2) ⊎ (status ≡ 6) → (status ≡ 2 → Told (ends.refused refusal)) → FetchEnds words files random Told status old new later later_new
-  ended_refused refusal judged (inl two) tells = is_refused refusal judged two (tells two)
-  ended_refused refusal judged (inr six) tells = out_of_memory six
+  pub ended_refused : (refusal : Refusal) → IsCommand words (Err refusal) → (status ≡ 2) ⊎ (status ≡ 6) → (status ≡ 2 → Told (ends.refused refusal)) → Told ends.unread
+      → FetchEnds words files random Told status old new later later_new
+  ended_refused refusal judged (inl two) tells nothing = is_refused refusal judged two (tells two)
+  ended_refused refusal judged (inr six) tells nothing = is_unread six nothing
 
-  pub ended_stopped : (command : Command) (stop : Stop) → IsCommand words (Ok command) → HasStopped command files random old new later later_new stop → (status ≡ status_of stop) ⊎ (status ≡ 6)
-      → (status ≢ 6 → Told (ends.stopped command stop)) → FetchEnds words files random Told status old new later later_new
-  ended_stopped command stop judged h (inr six) tells = out_of_memory six
-  ended_stopped command stop judged h (inl is) tells = elim (eqb_tells status 6) [
-    | inl same ↦ out_of_memory same.1
-    | inr other ↦ is_stopped command stop judged h is (tells other.1)
+  pub ended_stopped : (command : Command) (detour : Option Detour) (stop : Stop) → IsCommand words (Ok command) → HasStopped command files random detour stop old new later later_new
+      → (status ≡ status_of stop) ⊎ (status ≡ 6) → (status ≢ 6 → Told (ends.stopped command detour stop)) → Told (ends.ran_out command) → FetchEnds words files random Told status old new later later_new
+  ended_stopped command detour stop judged h (inr six) tells out = is_out command judged six out
+  ended_stopped command detour stop judged h (inl is) tells out = elim (eqb_tells status 6) [
+    | inl same ↦ is_out command judged same.1 out
+    | inr other ↦ is_stopped command detour stop judged h is (tells other.1)
   ]
 
-  pub ended_written : (command : Command) (zone : Zone) → IsCommand words (Ok command) → HasZone command files random zone old new later later_new
-      → (status ≡ 0 → Told (ends.written (zone_text command.text zone.records))) → (status ≡ 4 → Told ends.unwritten) → (status ≡ 0) ⊎ ((status ≡ 4) ⊎ (status ≡ 6))
-      → FetchEnds words files random Told status old new later later_new
-  ended_written command zone judged h whole failed (inl zero) = is_written command zone judged h zero (whole zero)
-  ended_written command zone judged h whole failed (inr (inl four)) = is_unwritten command zone judged h four (failed four)
-  ended_written command zone judged h whole failed (inr (inr six)) = out_of_memory six
+  pub ended_written : (command : Command) (detour : Option Detour) (zone : Zone) → IsCommand words (Ok command) → HasZone command files random zone detour old new later later_new
+      → (status ≡ 0 → Told (ends.written command detour (zone_text command.text zone.records))) → (status ≡ 4 → Told (ends.unwritten command detour (zone_text command.text zone.records)))
+      → (status ≡ 6 → Told (ends.ran_out command)) → (status ≡ 0) ⊎ ((status ≡ 4) ⊎ (status ≡ 6)) → FetchEnds words files random Told status old new later later_new
+  ended_written command detour zone judged h whole failed out (inl zero) = is_written command detour zone judged h zero (whole zero)
+  ended_written command detour zone judged h whole failed out (inr (inl four)) = is_unwritten command detour zone judged h four (failed four)
+  ended_written command detour zone judged h whole failed out (inr (inr six)) = is_out command judged six (out six)
+
+-- a status that is told of: itself, or memory ran out where it is another than 0
+abbrev pub IsToldOf : (told status : Status) → Type 0
+IsToldOf told status = (told ≡ status) ⊎ ((status.0 ≢ 0) × (told.0 ≡ 6))
 
 -- the statuses of a zone that was written, told of or not
-pub written_statuses : (told status : Status) → (told ≡ status) ⊎ (told.0 ≡ 6) → (status.0 ≡ 0) ⊎ ((status.0 ≡ 4) ⊎ (status.0 ≡ 6)) → (told.0 ≡ 0) ⊎ ((told.0 ≡ 4) ⊎ (told.0 ≡ 6))
-written_statuses told status (inr six) of = inr (inr six)
+pub written_statuses : (told status : Status) → IsToldOf told status → (status.0 ≡ 0) ⊎ ((status.0 ≡ 4) ⊎ (status.0 ≡ 6)) → (told.0 ≡ 0) ⊎ ((told.0 ≡ 4) ⊎ (told.0 ≡ 6))
+written_statuses told status (inr six) of = inr (inr six.1)
 written_statuses told status (inl same) of = subst (λ (s : Status). (s.0 ≡ 0) ⊎ ((s.0 ≡ 4) ⊎ (s.0 ≡ 6))) (sym same) of
 
 -- what a status tells that is told of
-pub told_at : (told status : Status) (n : ℕ) (P : Type 0) → (told ≡ status) ⊎ (told.0 ≡ 6) → n ≢ 6 → (status.0 ≡ n → P) → told.0 ≡ n → P
-told_at told status n P same other holds is = holds (same_number told status n same is other)
+pub told_at : (told status : Status) (n : ℕ) (P : Type 0) → IsToldOf told status → n ≢ 6 → (status.0 ≡ n → P) → told.0 ≡ n → P
+told_at told status n P (inl same) other holds is = holds (ap (λ (s : Status). s.0) (sym same) ∙ is)
+told_at told status n P (inr six) other holds is = absurd (other (sym is ∙ six.1))
+
+-- what every status but 0 tells
+pub told_unless : (told status : Status) (P : Type 0) → IsToldOf told status → (status.0 ≢ 0 → P) → told.0 ≢ 0 → P
+told_unless told status P (inl same) holds other = holds (λ zero. other (ap (λ (s : Status). s.0) same ∙ zero))
+told_unless told status P (inr six) holds other = holds six.0
 
 -- a sentence is handed on wherever one is told
 pub handed_on_at : (n one : ℕ) (P : Type 0) → (n ≡ one) ⊎ (n ≡ 6) → (n ≡ one → P) → n ≢ 6 → P

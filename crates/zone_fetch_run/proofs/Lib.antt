@@ -1,8 +1,12 @@
 pub mod Telling
 pub mod Taken
 pub mod Writing
-pub mod Brought
 pub mod Ended
 pub mod Digits
 pub mod Flaws
 pub mod Names
+pub mod Coming
+pub mod Placing
+pub mod Brought
+pub mod Asked
+pub mod Said

@@ -13,11 +13,34 @@ tells_line [] before after faults faults_after h said = absurd (h refl)
 tells_line (c ∷ line) before after faults faults_after h said = said
 
 -- other statuses than the one at which a file can't be read
-pub no_three : (n : ℕ) → (n ≡ 5) ⊎ ((n ≡ 6) ⊎ (n ≡ 7)) → n ≡ 3 → ⊥
+pub no_three : (n : ℕ) → (n ≡ 5) ⊎ ((n ≡ 6) ⊎ ((n ≡ 7) ⊎ (n ≡ 9))) → n ≡ 3 → ⊥
 no_three n (inl a) e = omega arith
 no_three n (inr (inl a)) e = omega arith
-no_three n (inr (inr a)) e = omega arith
+no_three n (inr (inr (inl a))) e = omega arith
+no_three n (inr (inr (inr a))) e = omega arith
+
+-- they are other statuses than 0 too
+pub no_zero : (n : ℕ) → (n ≡ 5) ⊎ ((n ≡ 6) ⊎ ((n ≡ 7) ⊎ (n ≡ 9))) → n ≢ 0
+no_zero n (inl a) e = omega arith
+no_zero n (inr (inl a)) e = omega arith
+no_zero n (inr (inr (inl a))) e = omega arith
+no_zero n (inr (inr (inr a))) e = omega arith
+
+pub some_told : (r s : Status) → (r ≡ s) ⊎ (r.0 ≡ 6) → s.0 ≢ 0 → r.0 ≢ 0
+some_told r s (inl a) some e = some (ap (λ (x : Status). x.0) (sym a) ∙ e)
+some_told r s (inr a) some e = absurd (let b : r.0 ≡ 6 = a in omega arith)
 
 pub same_three : (r s : Status) → (r ≡ s) ⊎ (r.0 ≡ 6) → r.0 ≡ 3 → s.0 ≡ 3
 same_three r s (inl a) e = ap (λ (x : Status). x.0) (sym a) ∙ e
 same_three r s (inr a) e = absurd (let b : r.0 ≡ 6 = a in omega arith)
+
+-- one status more
+pub nine_more : (n : ℕ) → (n ≡ 5) ⊎ ((n ≡ 6) ⊎ (n ≡ 7)) → (n ≡ 5) ⊎ ((n ≡ 6) ⊎ ((n ≡ 7) ⊎ (n ≡ 9)))
+nine_more n (inl a) = inl a
+nine_more n (inr (inl a)) = inr (inl a)
+nine_more n (inr (inr a)) = inr (inr (inl a))
+
+-- a status that is told of, and is not 0
+pub told_of : (r s : Status) → (r ≡ s) ⊎ (r.0 ≡ 6) → s.0 ≢ 0 → (r ≡ s) ⊎ ((s.0 ≢ 0) × (r.0 ≡ 6))
+told_of r s (inl a) some = inl a
+told_of r s (inr a) some = inr (some, a)

@@ -4,25 +4,27 @@ use Rattle.std.specs.String.{string_bytes}
 use Rattle.std.specs.declared.alloc.Global.{Global}
 use Rattle.dns_names.specs.Name.{Labels}
 use Rattle.client_core.specs.declared.edge.Deed.{Deed}
-use Rattle.command_parts.specs.Ends.{IsSaid}
-use Rattle.dns_values.specs.Sink.{with_octets}
+use Rattle.command_parts.specs.Ends.{IsBegun, IsSaid}
+use Rattle.dns_values.specs.Sink.{IsFlushed, with_octets}
 use Rattle.dns_values.specs.Source.{Rose}
 use Rattle.dns_values.specs.declared.numbers.Status.{Status}
 use Rattle.zone_records.specs.Folding.{Zone, empty_zone}
 use Rattle.zone_transfer.specs.Turning.{Scene}
-use Rattle.zone_transfer.specs.declared.fault.FetchFault.{FetchFault}
-use Rattle.zone_fetch_run.specs.Fetching.{IsBrought, IsLeft, over}
+use Rattle.zone_fetch_run.specs.Fetching.{IsBrought, over}
 use Rattle.zone_fetch_run.specs.Lines.{zone_text}
+use Rattle.zone_fetch_run.specs.Places.{IsPlaced, Placed}
 use Rattle.zone_fetch_run.specs.Printed.{IsPrinted, StopsAt}
-use Rattle.zone_fetch_run.specs.Sentences.{refusal_sentence, stop_sentence, unwritten_sentence}
+use Rattle.zone_fetch_run.specs.Sentences.{detour_sentence, refusal_sentence, stop_sentence, unwritten_sentence}
 use Rattle.zone_fetch_run.specs.Stops.{Tells, line_of, status_of}
 use Rattle.zone_fetch_run.specs.Words.{IsCommand}
 use Rattle.zone_fetch_run.specs.declared.command.Command.{Command}
+use Rattle.zone_fetch_run.specs.declared.leading.Detour.{Detour}
+use Rattle.zone_fetch_run.specs.declared.leading.Left.{Left}
 use Rattle.zone_fetch_run.specs.declared.printed.Flaw.{Flaw}
 use Rattle.zone_fetch_run.specs.declared.printed.Flaw.TheVariants.{Line}
 use Rattle.zone_fetch_run.specs.declared.run.World.{World}
 use Rattle.zone_fetch_run.specs.declared.stop.Stop.{Stop}
-use Rattle.zone_fetch_run.specs.declared.stop.Stop.TheVariants.{Unread, NotPrinted, NotFetched, NoMemory}
+use Rattle.zone_fetch_run.specs.declared.stop.Stop.TheVariants.{Unread, NotPrinted, NotBrought, NoMemory}
 use Rattle.zone_fetch_run.specs.declared.wrong.Refusal.{Refusal}
 
 -- ---- the zone before
@@ -51,7 +53,7 @@ abbrev pub IsOfFile : (path : List ℕ) → Option (List ℕ → Option (List �
 IsOfFile path files Unread = Unit {0}
 IsOfFile path files (NotPrinted flaw) = IsFlawIn path files flaw
 IsOfFile path files NoMemory = Unit {0}
-IsOfFile path files (NotFetched fault) = ⊥
+IsOfFile path files (NotBrought left) = ⊥
 
 abbrev pub IsUnbasedAt : Option (String Global) → Option (List ℕ → Option (List ℕ)) → Stop → Type 0
 IsUnbasedAt None files stop = ⊥
@@ -65,7 +67,7 @@ abbrev pub RoseUnread : (faults faults_after : ℕ) → Stop → Type 0
 RoseUnread faults faults_after Unread = Rose faults faults_after
 RoseUnread faults faults_after (NotPrinted flaw) = Unit {0}
 RoseUnread faults faults_after NoMemory = Unit {0}
-RoseUnread faults faults_after (NotFetched fault) = Unit {0}
+RoseUnread faults faults_after (NotBrought left) = Unit {0}
 
 -- ---- the zone that the words ask for
 
@@ -76,61 +78,127 @@ Texts = List (String Global)
 abbrev pub Files : Type 0
 Files = Option (List ℕ → Option (List ℕ))
 
--- There is one, by what the files and the random words tell, and by what the edges and the clock do.
-pub record HasZone (command : Command) (files : Files) (random : ℕ → ℕ) (after : Zone) (old new later later_new : Scene) : Type 0 where
+-- There is one, by what the files and the random words tell, and by what the edges and the clock do; and why it was asked for whole, if its changes were asked for before.
+pub record HasZone (command : Command) (files : Files) (random : ℕ → ℕ) (after : Zone) (detour : Option Detour) (old new later later_new : Scene) : Type 0 where
   pub zone : Zone
   pub base : IsBase command files zone
-  pub brought : IsBrought command random zone after old new later later_new
+  pub brought : IsBrought command random zone after detour (Ok tt) old new later later_new
 
 -- or why there is none
-pub data HasStopped (command : Command) (files : Files) (random : ℕ → ℕ) (old new later later_new : Scene) (stop : Stop) : Type 0 where
-  no_base : IsUnbased command files stop → HasStopped command files random old new later later_new stop
-  not_fetched : (zone : Zone) (fault : FetchFault) → stop ≡ NotFetched fault → IsBase command files zone → IsLeft command random zone old new later later_new fault
-      → HasStopped command files random old new later later_new stop
+pub data HasStopped (command : Command) (files : Files) (random : ℕ → ℕ) (detour : Option Detour) (stop : Stop) (old new later later_new : Scene) : Type 0 where
+  no_base : IsUnbased command files stop → detour ≡ None → HasStopped command files random detour stop old new later later_new
+  is_left : (zone after : Zone) (left : Left) → stop ≡ NotBrought left → IsBase command files zone → IsBrought command random zone after detour (Err left) old new later later_new
+      → HasStopped command files random detour stop old new later later_new
 
 -- ---- how the program ends
 
--- what it comes to: the words are refused, or there is no zone, or one whose text is written whole, or not whole
+-- what it comes to: memory ran out before anything was asked; or the words are refused; or there is no zone; or one whose text is written whole, or not whole; or memory ran out then
 pub data End : Type 0 where
+  unread : End
   refused : Refusal → End
-  stopped : Command → Stop → End
-  written : (text : List ℕ) → End
-  unwritten : End
+  stopped : Command → Option Detour → Stop → End
+  written : Command → Option Detour → (text : List ℕ) → End
+  unwritten : Command → Option Detour → (text : List ℕ) → End
+  ran_out : Command → End
 
--- How it ends, by its status, where this is what is told at each end: memory ran out; or the words are refused; or it stopped; or there
--- is a zone, which was written whole, or the sink failed.
+-- how it ends, by its status, where this is what is told at each end
 pub data FetchEnds (words : Texts) (files : Files) (random : ℕ → ℕ) (Tells : End → Type 0) (status : ℕ) (old new later later_new : Scene) : Type 0 where
-  out_of_memory : status ≡ 6 → FetchEnds words files random Tells status old new later later_new
+  is_unread : status ≡ 6 → Tells unread → FetchEnds words files random Tells status old new later later_new
   is_refused : (refusal : Refusal) → IsCommand words (Err refusal) → status ≡ 2 → Tells (refused refusal) → FetchEnds words files random Tells status old new later later_new
-  is_stopped : (command : Command) (stop : Stop) → IsCommand words (Ok command) → HasStopped command files random old new later later_new stop → status ≡ status_of stop
-      → Tells (stopped command stop) → FetchEnds words files random Tells status old new later later_new
-  is_written : (command : Command) (zone : Zone) → IsCommand words (Ok command) → HasZone command files random zone old new later later_new → status ≡ 0
-      → Tells (written (zone_text command.text zone.records)) → FetchEnds words files random Tells status old new later later_new
-  is_unwritten : (command : Command) (zone : Zone) → IsCommand words (Ok command) → HasZone command files random zone old new later later_new → status ≡ 4
-      → Tells unwritten → FetchEnds words files random Tells status old new later later_new
+  is_stopped : (command : Command) (detour : Option Detour) (stop : Stop) → IsCommand words (Ok command) → HasStopped command files random detour stop old new later later_new
+      → status ≡ status_of stop → Tells (stopped command detour stop) → FetchEnds words files random Tells status old new later later_new
+  is_written : (command : Command) (detour : Option Detour) (zone : Zone) → IsCommand words (Ok command) → HasZone command files random zone detour old new later later_new
+      → status ≡ 0 → Tells (written command detour (zone_text command.text zone.records)) → FetchEnds words files random Tells status old new later later_new
+  is_unwritten : (command : Command) (detour : Option Detour) (zone : Zone) → IsCommand words (Ok command) → HasZone command files random zone detour old new later later_new
+      → status ≡ 4 → Tells (unwritten command detour (zone_text command.text zone.records)) → FetchEnds words files random Tells status old new later later_new
+  is_out : (command : Command) → IsCommand words (Ok command) → status ≡ 6 → Tells (ran_out command) → FetchEnds words files random Tells status old new later later_new
 
 -- What a sink holds then, where lines are written to it that tell why there is no zone.
 abbrev pub TellsByLine : {K : Type 0} → (K → Option (List ℕ)) → (K → ℕ) → (before after : K) → End → Type 0
+TellsByLine held faults before after unread = held after ≡ held before
 TellsByLine held faults before after (refused refusal) = held after ≡ held before
-TellsByLine held faults before after (stopped command stop) = Tells (line_of stop) (held before) (held after) (faults before) (faults after)
-TellsByLine held faults before after (written text) = held after ≡ with_octets text (held before)
-TellsByLine held faults before after unwritten = Rose (faults before) (faults after)
+TellsByLine held faults before after (stopped command detour stop) = Tells (line_of stop) (held before) (held after) (faults before) (faults after)
+TellsByLine held faults before after (written command detour text) = held after ≡ with_octets text (held before)
+TellsByLine held faults before after (unwritten command detour text) = IsBegun text (held before) (held after) × Rose (faults before) (faults after)
+TellsByLine held faults before after (ran_out command) = Unit {0}
 
 abbrev pub LineEnds : {K : Type 0} → (K → Option (List ℕ)) → (K → ℕ) → Texts → Files → (random : ℕ → ℕ) → Status → (before after : K) → (old new later later_new : Scene) → Type 0
 LineEnds held faults words files random status before after old new later later_new = FetchEnds words files random (TellsByLine held faults before after) status.0 old new later later_new
 
--- What a sink of zones and one of sentences hold then: a zone, and no sentence; or nothing, and the sentence that says why; or not the
--- whole zone, since its sink failed, which a sentence says.
-abbrev pub TellsBySentence : {K L : Type 0} → (K → Option (List ℕ)) → (K → ℕ) → (L → Option (List ℕ)) → (L → ℕ) → Texts → (before after : K × L) → End → Type 0
-TellsBySentence held faults said counts words before after (refused refusal) =
-    (held after.0 ≡ held before.0) × IsSaid (refusal_sentence words refusal) (said before.1) (said after.1) (counts before.1) (counts after.1)
-TellsBySentence held faults said counts words before after (stopped command stop) =
-    (held after.0 ≡ held before.0) × IsSaid (stop_sentence command stop) (said before.1) (said after.1) (counts before.1) (counts after.1)
-TellsBySentence held faults said counts words before after (written text) = (held after.0 ≡ with_octets text (held before.0)) × (said after.1 ≡ said before.1)
-TellsBySentence held faults said counts words before after unwritten =
-    Rose (faults before.0) (faults after.0) × IsSaid unwritten_sentence (said before.1) (said after.1) (counts before.1) (counts after.1)
+-- ---- what is told where a zone may be put in the place of a file, and sentences have a sink of their own
+
+-- The text was written to a sink and handed on, and no file was replaced; or it was put in the place of the file, and the sink is as it was.
+abbrev pub IsPut : Option (String Global) → (text : List ℕ) → (before after : Option (List ℕ) × Placed) → (flushed : Option (List ℕ)) → Type 0
+IsPut None text before after flushed = (after.0 ≡ with_octets text before.0) × IsFlushed after.0 flushed × (after.1 ≡ before.1)
+IsPut (Some path) text before after flushed = (after.0 ≡ before.0) × IsPlaced (string_bytes path) text before.1 after.1
+
+-- The first octets of the text were written to a sink, or all; or none, where it was to be put in the place of a file.
+abbrev pub IsPutInPart : Option (String Global) → (text : List ℕ) → (before after : Option (List ℕ)) → Type 0
+IsPutInPart None text before after = IsBegun text before after
+IsPutInPart (Some path) text before after = after ≡ before
+
+-- Nothing was written to a sink, where the text was to be put in the place of a file.
+abbrev pub IsSpared : Option (String Global) → (before after : Option (List ℕ)) → Type 0
+IsSpared None before after = Unit {0}
+IsSpared (Some path) before after = after ≡ before
+
+-- The sink failed, or what puts files in the place of others.
+abbrev pub Failed : Option (String Global) → (before after : ℕ × ℕ) → Type 0
+Failed None before after = Rose before.0 after.0
+Failed (Some path) before after = Rose before.1 after.1
+
+-- One text is told, if it has an octet, and another behind it.
+pub record SaysBoth (first second : List ℕ) (before after : Option (List ℕ)) (faults faults_after : ℕ) : Type 0 where
+  pub mid : Option (List ℕ)
+  pub faults_mid : ℕ
+  pub first_told : Tells first before mid faults faults_mid
+  pub second_told : IsSaid second mid after faults_mid faults_after
+
+-- what the sinks tell, and what was put in the place of files
+pub record Sight : Type 0 where
+  pub held : Option (List ℕ)
+  pub flushed : Option (List ℕ)
+  pub faults : ℕ
+  pub placed : Placed
+  pub file_faults : ℕ
+  pub said : Option (List ℕ)
+  pub said_faults : ℕ
+
+abbrev pub sight : {K F L : Type 0} → (K → Option (List ℕ)) → (K → Option (List ℕ)) → (K → ℕ) → (F → Placed) → (F → ℕ) → (L → Option (List ℕ)) → (L → ℕ) → K × F × L → Sight
+sight held flushed faults placed file_faults said said_faults parts = record {
+  held = held parts.0;
+  flushed = flushed parts.0;
+  faults = faults parts.0;
+  placed = placed parts.1;
+  file_faults = file_faults parts.1;
+  said = said parts.2;
+  said_faults = said_faults parts.2;
+}
+
+-- what holds of that before and after a call
+abbrev pub seen : {K F L : Type 0} {R : Type 1} → (K → Option (List ℕ)) → (K → Option (List ℕ)) → (K → ℕ) → (F → Placed) → (F → ℕ) → (L → Option (List ℕ)) → (L → ℕ) → (old new : K × F × L)
+    → (Sight → Sight → R) → R
+seen held flushed faults placed file_faults said said_faults old new P =
+    P (sight held flushed faults placed file_faults said said_faults old) (sight held flushed faults placed file_faults said said_faults new)
+
+-- A zone is put where the words say; or nothing is written, and the sentence says why; or not the whole zone, which a sentence says. Before that a sentence says why the zone was asked for whole, if its changes
+-- were asked for before. No file is replaced but by the whole zone, and nothing is written to the sink where one is to be.
+abbrev pub TellsBySentence : Texts → (before after : Sight) → End → Type 0
+TellsBySentence words before after unread = (after.held ≡ before.held) × (after.placed ≡ before.placed)
+TellsBySentence words before after (refused refusal) =
+    (after.held ≡ before.held) × (after.placed ≡ before.placed) × IsSaid (refusal_sentence words refusal) before.said after.said before.said_faults after.said_faults
+TellsBySentence words before after (stopped command detour stop) =
+    (after.held ≡ before.held) × (after.placed ≡ before.placed)
+    × SaysBoth (detour_sentence command detour) (stop_sentence command stop) before.said after.said before.said_faults after.said_faults
+TellsBySentence words before after (written command detour text) =
+    IsPut command.output text (before.held, before.placed) (after.held, after.placed) after.flushed
+    × Tells (detour_sentence command detour) before.said after.said before.said_faults after.said_faults
+TellsBySentence words before after (unwritten command detour text) =
+    Failed command.output (before.faults, before.file_faults) (after.faults, after.file_faults) × IsPutInPart command.output text before.held after.held × (after.placed ≡ before.placed)
+    × SaysBoth (detour_sentence command detour) (unwritten_sentence command) before.said after.said before.said_faults after.said_faults
+TellsBySentence words before after (ran_out command) = IsSpared command.output before.held after.held × (after.placed ≡ before.placed)
 
 -- how it ends in its world, by what the parts of that tell
-abbrev pub FetchEndsIn : {O E C W P : Type 0} → (E → Option (List Deed)) → (E → ℕ) → (C → Option (List ℕ)) → (O → Files) → (W → ℕ → ℕ) → Texts → (End → Type 0) → (status : ℕ) → (old new : World O E C W P) → Type 0
+abbrev pub FetchEndsIn : {O E C W P F : Type 0} → (E → Option (List Deed)) → (E → ℕ) → (C → Option (List ℕ)) → (O → Files) → (W → ℕ → ℕ) → Texts → (End → Type 0) → (status : ℕ) → (old new : World O E C W P F) → Type 0
 FetchEndsIn deeds polls given files stream words Tells status old new =
     over deeds polls given (old.edge, old.later, old.clock) (new.edge, new.later, new.clock) (FetchEnds words (files old.opener) (stream old.random) Tells status)

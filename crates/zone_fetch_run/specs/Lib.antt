@@ -1,8 +1,10 @@
 pub mod Words
 pub mod Lines
 pub mod Printed
+pub mod Leading
 pub mod Fetching
 pub mod Stops
 pub mod Sentences
+pub mod Places
 pub mod Ends
 pub mod Pages

@@ -4,17 +4,25 @@ use Rattle.std.specs.String.{string_bytes}
 use Rattle.std.specs.declared.alloc.Global.{Global}
 use Rattle.client_request.specs.ErrorText.{error_text}
 use Rattle.client_request.specs.Fault.{fault_text}
+use Rattle.client_request.specs.declared.fault.Fault.{Fault}
+use Rattle.client_request.specs.declared.fault.Fault.TheVariants as network
 use Rattle.client_request.specs.declared.error.Error.{Error}
 use Rattle.client_request.specs.declared.error.Error.TheVariants as errors
 use Rattle.dns_names.specs.Text.{name_text}
 use Rattle.dns_values.specs.Address.{socket_address_text}
 use Rattle.dns_values.specs.NumberNames.{rcode_text}
+use Rattle.zone_records.specs.declared.interpreter.XfrFault.{XfrFault}
+use Rattle.zone_records.specs.declared.interpreter.XfrFault.TheVariants as transfers
 use Rattle.zone_records.specs.declared.zone.ApplyFault.{ApplyFault}
 use Rattle.zone_records.specs.declared.zone.ApplyFault.TheVariants as applying
 use Rattle.zone_transfer.specs.declared.fault.FetchFault.{FetchFault}
 use Rattle.zone_transfer.specs.declared.fault.FetchFault.TheVariants as faults
 use Rattle.zone_fetch_run.specs.Stops.{flaw_text}
 use Rattle.zone_fetch_run.specs.declared.command.Command.{Command}
+use Rattle.zone_fetch_run.specs.declared.leading.Detour.{Detour}
+use Rattle.zone_fetch_run.specs.declared.leading.Detour.TheVariants as detours
+use Rattle.zone_fetch_run.specs.declared.leading.Left.{Left}
+use Rattle.zone_fetch_run.specs.declared.leading.Left.TheVariants as lefts
 use Rattle.zone_fetch_run.specs.declared.printed.Flaw.{Flaw}
 use Rattle.zone_fetch_run.specs.declared.stop.Stop.{Stop}
 use Rattle.zone_fetch_run.specs.declared.stop.Stop.TheVariants as stops
@@ -50,6 +58,7 @@ refusal_text words (refusals.Word n wrong) = word_text words n wrong
 refusal_text words refusals.NoPort = codes "no port stands behind --port"
 refusal_text words refusals.NoMost = codes "no count of octets stands behind --most"
 refusal_text words refusals.NoFile = codes "no file stands behind --from"
+refusal_text words refusals.NoOutput = codes "no file stands behind --output"
 refusal_text words refusals.NoZone = codes "no zone is asked for"
 refusal_text words refusals.NoAddress = codes "no address of a server stands behind the zone"
 
@@ -59,11 +68,25 @@ refusal_sentence words refusal = codes "zone_fetch: " ++ refusal_text words refu
 -- ---- a zone that is not fetched
 
 -- what failed at a stream, with the fault of it where there is one
+abbrev pub read_text : Fault → List ℕ
+read_text network.EndOfData = codes "the server closed the stream before the transfer's end"
+read_text fault = codes "reading the stream failed: " ++ fault_text fault
+
 abbrev pub stream_text : Error → List ℕ
-stream_text (errors.StreamReadError fault) = codes "failed transport: reading the stream failed: " ++ fault_text fault
+stream_text (errors.StreamReadError fault) = codes "failed transport: " ++ read_text fault
+stream_text errors.StreamUnexpectedEndOfData = codes "failed transport: the stream was cut within a message"
+stream_text errors.StreamReadTimeout = codes "failed transport: no message came for 19 seconds"
+stream_text errors.WrongReplyForQuery = codes "failed transport: a message came that answers another question"
 stream_text (errors.StreamWriteError fault) = codes "failed transport: writing to the stream failed: " ++ fault_text fault
 stream_text errors.NumbersUsed = codes "numbers used: a number would pass 64 bits"
 stream_text error = codes "failed transport: " ++ error_text error
+
+-- what the messages are in place of a transfer
+abbrev pub transfer_text : XfrFault → List ℕ
+transfer_text transfers.NotValid = codes "what came is no transfer of the zone: it ends otherwise than it began, or has a record that no zone holds"
+transfer_text (transfers.SingleSoa serial) = codes "the server has no changes, and a zone with serial " ++ decimal serial.0
+transfer_text transfers.AlreadyFinished = codes "more came behind the transfer's end"
+transfer_text transfers.NoMemory = codes "memory ran out"
 
 abbrev pub apply_text : ApplyFault → List ℕ
 apply_text (applying.WrongSerial have got) = codes "the changes are those of a zone with serial " ++ decimal got.0
@@ -74,7 +97,7 @@ abbrev pub told_fault : (most : ℕ) → FetchFault → List ℕ
 told_fault most (faults.Connect fault) = codes "failed connect: " ++ fault_text fault
 told_fault most (faults.Transport error) = stream_text error
 told_fault most (faults.Refused code) = codes "failed refused: the server answered " ++ rcode_text code.0
-told_fault most (faults.Xfr _) = codes "failed transfer: what came is no transfer of the zone"
+told_fault most (faults.Xfr fault) = codes "failed transfer: " ++ transfer_text fault
 told_fault most (faults.Apply fault) = codes "failed serial: " ++ apply_text fault
 told_fault most faults.TooLarge = codes "failed too-large: its records take more than " ++ decimal most ++ codes " octets, which --most says"
 told_fault most faults.NoReply = codes "failed no-reply: the server was silent for a million turns"
@@ -87,10 +110,30 @@ memory_sentence = codes "zone_fetch: memory ran out\n"
 abbrev pub path_text : Command → List ℕ
 path_text command = text_of command.file
 
--- the zone, the server, and why it was not fetched
-abbrev pub fault_sentence : Command → FetchFault → List ℕ
-fault_sentence command fault =
-    codes "zone_fetch: " ++ (name_text command.apex ++ (codes " from " ++ (socket_address_text command.server ++ (codes ": " ++ (told_fault command.most fault ++ codes "\n")))))
+-- why the zone is left as it was
+abbrev pub left_told : (most : ℕ) → (path : List ℕ) → Left → List ℕ
+left_told most path (lefts.NotFetched fault) = told_fault most fault
+left_told most path (lefts.Unchanged serial) = codes "unchanged: its serial is " ++ decimal serial.0 ++ codes ", which " ++ path ++ codes " has"
+left_told most path (lefts.NotNewer have got) =
+    codes "failed serial: its serial " ++ decimal got.0 ++ codes " is not greater than " ++ decimal have.0 ++ codes ", which " ++ path ++ codes " has"
+
+abbrev pub left_text : Command → Left → List ℕ
+left_text command left = left_told command.most (path_text command) left
+
+-- why the whole zone was asked for
+abbrev pub detour_text : Detour → List ℕ
+detour_text (detours.Refused code) = codes "asked for whole: the server answered " ++ rcode_text code.0 ++ codes " where its changes were asked for"
+detour_text (detours.NoChanges serial) = codes "asked for whole: the server has no changes, and a zone with serial " ++ decimal serial.0
+detour_text (detours.Misfits count) = codes "asked for whole: of its changes " ++ decimal count ++ codes " delete what is not there, or add what is"
+
+-- the zone and the server, and this of them
+abbrev pub server_sentence : Command → List ℕ → List ℕ
+server_sentence command text = codes "zone_fetch: " ++ (name_text command.apex ++ (codes " from " ++ (socket_address_text command.server ++ (codes ": " ++ (text ++ codes "\n")))))
+
+-- none where it was not
+abbrev pub detour_sentence : Command → Option Detour → List ℕ
+detour_sentence command None = []
+detour_sentence command (Some why) = server_sentence command (detour_text why)
 
 -- the file, and why it has no printed zone
 abbrev pub flaw_sentence : (path : List ℕ) → Flaw → List ℕ
@@ -99,10 +142,17 @@ flaw_sentence path flaw = codes "zone_fetch: " ++ (path ++ (codes ": no printed 
 abbrev pub stop_sentence : Command → Stop → List ℕ
 stop_sentence command stops.Unread = codes "zone_fetch: " ++ path_text command ++ codes " could not be read\n"
 stop_sentence command (stops.NotPrinted flaw) = flaw_sentence (path_text command) flaw
-stop_sentence command (stops.NotFetched fault) = fault_sentence command fault
+stop_sentence command (stops.NotBrought left) = server_sentence command (left_text command left)
 stop_sentence command stops.NoMemory = memory_sentence
 
 -- ---- a zone that is not written whole
 
-abbrev pub unwritten_sentence : List ℕ
-unwritten_sentence = codes "zone_fetch: writing to standard output failed\n"
+abbrev pub unprinted_sentence : List ℕ
+unprinted_sentence = codes "zone_fetch: writing to standard output failed\n"
+
+abbrev pub unwritten_at : Option (String Global) → List ℕ
+unwritten_at None = unprinted_sentence
+unwritten_at (Some path) = codes "zone_fetch: " ++ string_bytes path ++ codes " could not be written\n"
+
+abbrev pub unwritten_sentence : Command → List ℕ
+unwritten_sentence command = unwritten_at command.output

@@ -5,6 +5,8 @@ use Rattle.client_request.specs.declared.error.Error.TheVariants as errors
 use Rattle.command_parts.specs.Ends.{IsSaid}
 use Rattle.zone_transfer.specs.declared.fault.FetchFault.{FetchFault}
 use Rattle.zone_transfer.specs.declared.fault.FetchFault.TheVariants as faults
+use Rattle.zone_fetch_run.specs.declared.leading.Left.{Left}
+use Rattle.zone_fetch_run.specs.declared.leading.Left.TheVariants as lefts
 use Rattle.zone_fetch_run.specs.declared.printed.Flaw.{Flaw}
 use Rattle.zone_fetch_run.specs.declared.printed.Flaw.TheVariants as flaws
 use Rattle.zone_fetch_run.specs.declared.printed.Part.{Part}
@@ -32,10 +34,21 @@ fault_line faults.TooLarge = codes "failed too-large\n"
 fault_line faults.NoReply = codes "failed no-reply\n"
 fault_line faults.NoMemory = []
 
+-- 9 where the server's zone is the one that is there
+abbrev pub left_status : Left → ℕ
+left_status (lefts.NotFetched fault) = fault_status fault
+left_status (lefts.Unchanged serial) = 9
+left_status (lefts.NotNewer have got) = 5
+
+abbrev pub left_line : Left → List ℕ
+left_line (lefts.NotFetched fault) = fault_line fault
+left_line (lefts.Unchanged serial) = codes "unchanged\n"
+left_line (lefts.NotNewer have got) = codes "failed serial\n"
+
 abbrev pub status_of : Stop → ℕ
 status_of stops.Unread = 3
 status_of (stops.NotPrinted flaw) = 1
-status_of (stops.NotFetched fault) = fault_status fault
+status_of (stops.NotBrought left) = left_status left
 status_of stops.NoMemory = 6
 
 -- what is told of a file that has no printed zone
@@ -56,7 +69,7 @@ flaw_text (flaws.Line line part) = codes "line " ++ decimal line ++ codes ": " +
 
 abbrev pub line_of : Stop → List ℕ
 line_of (stops.NotPrinted flaw) = codes "no printed zone: " ++ flaw_text flaw ++ 10 ∷ []
-line_of (stops.NotFetched fault) = fault_line fault
+line_of (stops.NotBrought left) = left_line left
 line_of stops.Unread = []
 line_of stops.NoMemory = []
 

@@ -1,4 +1,4 @@
--- The words of the command line: `[--text] [--port P] [--most OCTETS] [--from FILE] ZONE ADDRESS`.
+-- The words of the command line: `[--text] [--port P] [--most OCTETS] [--from FILE] [--output FILE] ZONE ADDRESS`.
 use Rattle.std.specs.Prelude.{◌≡◌, ℕ, ◌+◌, ◌==◌, ◌||◌, ◌&&◌, not, Bool, true, false, if◌then◌else◌, List, [], ◌∷◌, codes, nat_lt, Option, None, Some, option_and_then, String, Result, Ok, Err}
 use Rattle.std.specs.Result.{result_ok}
 use Rattle.std.specs.Str.{bytes_eq}
@@ -24,7 +24,7 @@ use Rattle.zone_fetch_run.specs.declared.wrong.Wrong.TheVariants as wrongs
 
 -- before the first word: port 53, and a billion octets of memory
 abbrev pub nothing_said : Said
-nothing_said = record { port = 53; most = 1000000000; file = None; text = false; zone = None; server = None; next = next.Any }
+nothing_said = record { port = 53; most = 1000000000; file = None; output = None; text = false; zone = None; server = None; next = next.Any }
 
 -- ---- numbers without a sign or a leading zero
 
@@ -55,6 +55,11 @@ abbrev pub FileGives : List ℕ → Said → Result Said Wrong → Type 0
 FileGives word said (Ok new) = (file : String Global) × (string_bytes file ≡ word) × (new ≡ record said { file = Some file; next = next.Any })
 FileGives word said (Err wrong) = ⊥
 
+-- `--output FILE`, the last of which counts
+abbrev pub OutputGives : List ℕ → Said → Result Said Wrong → Type 0
+OutputGives word said (Ok new) = (output : String Global) × (string_bytes output ≡ word) × (new ≡ record said { output = Some output; next = next.Any })
+OutputGives word said (Err wrong) = ⊥
+
 -- ADDRESS
 abbrev pub with_server : IpAddr → Said → Said
 with_server ip said = record said { server = Some ip; next = next.Nothing }
@@ -75,6 +80,7 @@ optioned word said =
     else if bytes_eq word (codes "--port") then Some (record said { next = next.Port })
     else if bytes_eq word (codes "--most") then Some (record said { next = next.Most })
     else if bytes_eq word (codes "--from") then Some (record said { next = next.File })
+    else if bytes_eq word (codes "--output") then Some (record said { next = next.Output })
     else None
 
 -- A word that is no option is the zone.
@@ -90,6 +96,7 @@ GivesAt next.Any word said answer = answer ≡ any_said word said
 GivesAt next.Port word said answer = answer ≡ port_given (number_in 1 65535 word) said
 GivesAt next.Most word said answer = answer ≡ most_given (number_in 0 18446744073709551615 word) said
 GivesAt next.File word said answer = FileGives word said answer
+GivesAt next.Output word said answer = OutputGives word said answer
 GivesAt next.Address word said answer = AddressGives word said answer
 GivesAt next.Nothing word said answer = answer ≡ Err wrongs.More
 
@@ -127,12 +134,13 @@ abbrev pub missing : Next → Refusal
 missing next.Port = refusals.NoPort
 missing next.Most = refusals.NoMost
 missing next.File = refusals.NoFile
+missing next.Output = refusals.NoOutput
 missing next.Any = refusals.NoZone
 missing next.Address = refusals.NoZone
 missing next.Nothing = refusals.NoZone
 
 abbrev pub command_at : Option Labels → Option IpAddr → Said → Result Command Refusal
-command_at (Some apex) (Some ip) said = Ok (record { apex = apex; server = record { ip = ip; port = said.port }; most = said.most; file = said.file; text = said.text })
+command_at (Some apex) (Some ip) said = Ok (record { apex = apex; server = record { ip = ip; port = said.port }; most = said.most; file = said.file; output = said.output; text = said.text })
 command_at (Some apex) None said = Err refusals.NoAddress
 command_at None server said = Err (missing said.next)
 

@@ -24,6 +24,8 @@ pub struct Command {
     pub most: u64,
     /// The file that has the zone as it was printed before, if its changes alone are asked for.
     pub file: Option<String>,
+    /// The file in whose place the zone is put, if it is not written to the sink.
+    pub output: Option<String>,
     /// Whether the zone is written in the form that name servers load (RFC 3597 5).
     pub text: bool,
 }
@@ -37,8 +39,10 @@ pub(crate) enum Next {
     Port,
     /// How much memory the updates may take.
     Most,
-    /// The file.
+    /// The file that has the zone.
     File,
+    /// The file in whose place the zone is put.
+    Output,
     /// The server's address.
     Address,
     /// Nothing: there is none.
@@ -51,6 +55,7 @@ pub(crate) struct Said {
     pub(crate) port: u16,
     pub(crate) most: u64,
     pub(crate) file: Option<String>,
+    pub(crate) output: Option<String>,
     pub(crate) text: bool,
     pub(crate) zone: Option<Name>,
     pub(crate) server: Option<IpAddr>,
@@ -66,6 +71,7 @@ impl Said {
             port: DNS_PORT,
             most: MOST,
             file: None,
+            output: None,
             text: false,
             zone: None,
             server: None,
@@ -82,6 +88,7 @@ fn missing(next: Next) -> Refusal
         Next::Port => Refusal::NoPort,
         Next::Most => Refusal::NoMost,
         Next::File => Refusal::NoFile,
+        Next::Output => Refusal::NoOutput,
         Next::Any | Next::Address | Next::Nothing => Refusal::NoZone,
     }
 }
@@ -94,6 +101,7 @@ fn command_in(said: Said) -> Result<Command, Refusal>
         port,
         most,
         file,
+        output,
         text,
         zone,
         server,
@@ -105,6 +113,7 @@ fn command_in(said: Said) -> Result<Command, Refusal>
             server: SocketAddr { ip, port },
             most,
             file,
+            output,
             text,
         }),
         (Some(_), None) => Err(Refusal::NoAddress),

@@ -1,17 +1,20 @@
 //! Sentences that tell why the program ends by another status than 0.
 
-ghost use Rattle.std.specs.Prelude.{◌≡◌, ◌≢◌, ◌⊎◌};
+ghost use Rattle.std.specs.Prelude.{◌≡◌, ◌≢◌, ◌⊎◌, OnOk};
 ghost use Rattle.command_parts.specs.Ends.{IsSaid};
 ghost use Rattle.dns_values.specs.Sink.{IsFlushed};
 ghost use Rattle.dns_values.specs.Source.{Rose};
-ghost use Rattle.zone_fetch_run.specs.Sentences.{refusal_sentence, stop_sentence, unwritten_sentence};
-ghost use Rattle.zone_fetch_run.specs.Stops.{status_of};
+ghost use Rattle.zone_fetch_run.specs.Sentences.{detour_sentence, refusal_sentence, stop_sentence, unprinted_sentence, unwritten_sentence};
+ghost use Rattle.zone_fetch_run.specs.Stops.{Tells, status_of};
 
 use crate::command::Command;
-use crate::sentences::{MEMORY, UNWRITTEN, refusal_sentence, stop_sentence};
+use crate::leading::Detour;
+use crate::sentences::{
+    MEMORY, UNPRINTED, detour_sentence, refusal_sentence, stop_sentence, unwritten_sentence,
+};
 use crate::stop::{Stop, status_of};
 use crate::wrong::Refusal;
-use command_parts::{end_by, statuses};
+use command_parts::{end_by, say, statuses};
 use dns_base::{NoMemory, Sink, Status};
 use std::alloc::Global;
 
@@ -69,16 +72,58 @@ pub(crate) fn tell_stop<L: Sink>(
     }
 }
 
-/// Ends by the status with which a zone was written, and tells why it was not written whole.
-pub(crate) fn tell_written<L: Sink>(status: Status, errors: &mut L) -> Status
+/// Tells why the whole zone was asked for in place of its changes, if it was.
+#[tactic(auto, using(crate::proofs::Telling::tells_nothing, crate::proofs::Telling::tells_line))]
+pub(crate) fn tell_detour<L: Sink>(
+    alloc: Global,
+    command: &Command,
+    detour: Option<Detour>,
+    errors: &mut L,
+) -> Result<(), NoMemory>
+    ensures { OnOk result (Tells (detour_sentence command.now detour) (L.held errors.old) (L.held errors.new) (L.faults errors.old) (L.faults errors.new)) }
+{
+    let sentence = detour_sentence(alloc, command, detour)?;
+    if sentence.is_empty() {
+        return Ok(());
+    }
+    say(errors, sentence.as_bytes())
+}
+
+/// Ends by the status with which a zone was put where the words say, and tells where it could not be written whole.
+#[tactic(auto, using(crate::proofs::Telling::told_of))]
+pub(crate) fn tell_written<L: Sink>(
+    alloc: Global,
+    command: &Command,
+    status: Status,
+    errors: &mut L,
+) -> Status
+    requires { (status.0 ≡ 0) ⊎ ((status.0 ≡ 4) ⊎ (status.0 ≡ 6)) }
+    ensures status { (result ≡ status) ⊎ ((status.0 ≢ 0) × (result.0 ≡ 6)) }
+    ensures quiet { result.0 ≡ 0 → (L.held errors.new ≡ L.held errors.old) × (L.faults errors.new ≡ L.faults errors.old) }
+    ensures said { result.0 ≡ 4 → IsSaid (unwritten_sentence command.now) (L.held errors.old) (L.held errors.new) (L.faults errors.old) (L.faults errors.new) }
+    ensures flushed { result.0 ≡ 4 → IsFlushed (L.held errors.new) (L.flushed errors.new) ⊎ Rose (L.faults errors.old) (L.faults errors.new) }
+{
+    if status == statuses::NO_MEMORY {
+        return tell_no_memory(errors);
+    }
+    if status == statuses::DONE {
+        return status;
+    }
+    match unwritten_sentence(alloc, command) {
+        Ok(sentence) => end_by(errors, status, sentence.as_bytes()),
+        Err(NoMemory) => tell_no_memory(errors),
+    }
+}
+
+/// Ends by the status with which a text was written to the standard output, and tells where it could not be written whole.
+pub(crate) fn tell_printed<L: Sink>(status: Status, errors: &mut L) -> Status
     requires { (status.0 ≡ 0) ⊎ ((status.0 ≡ 4) ⊎ (status.0 ≡ 6)) }
     ensures status { (result ≡ status) ⊎ (result.0 ≡ 6) }
     ensures quiet { result.0 ≡ 0 → L.held errors.new ≡ L.held errors.old }
-    ensures said { result.0 ≡ 4 → IsSaid unwritten_sentence (L.held errors.old) (L.held errors.new) (L.faults errors.old) (L.faults errors.new) }
-    ensures flushed { result.0 ≡ 4 → IsFlushed (L.held errors.new) (L.flushed errors.new) ⊎ Rose (L.faults errors.old) (L.faults errors.new) }
+    ensures said { result.0 ≡ 4 → IsSaid unprinted_sentence (L.held errors.old) (L.held errors.new) (L.faults errors.old) (L.faults errors.new) }
 {
     if status == statuses::SINK_FAULT {
-        return end_by(errors, status, UNWRITTEN);
+        return end_by(errors, status, UNPRINTED.as_bytes());
     }
     if status == statuses::NO_MEMORY {
         return tell_no_memory(errors);

@@ -1,20 +1,22 @@
 //! A zone that is brought to what a server has.
 
-ghost use Rattle.std.specs.Prelude.{◌≡◌, true, Some, OnOk, OnErr, IfErr};
+ghost use Rattle.std.specs.Prelude.{◌≡◌, Some, OnOk, IfOk, IfErr, IsSome};
+ghost use Rattle.zone_records.specs.Folding.{empty_zone};
 ghost use Rattle.zone_transfer.specs.Turning.{between};
-ghost use Rattle.zone_fetch_run.specs.Fetching.{IsBrought, IsFetchedBy, IsLeft, IsMissed, over};
+ghost use Rattle.zone_fetch_run.specs.Fetching.{IsAnswered, IsBrought, IsFetchedBy, IsMissed, IsWhole, over};
 
 use crate::command::Command;
+use crate::leading::{Detour, Left, course_of_changes, course_of_fault, judged_by};
 use client_core::{Clock, Edge};
 use client_request::Words;
 use dns_base::Serial;
 use resolv_conf::{ServerConf, Transport};
 use std::alloc::Global;
-use zone_records::{XfrFault, XfrKind, Zone};
+use zone_records::{XfrKind, Zone};
 use zone_transfer::{FetchFault, Progress, fetch_told};
 
-/// An edge learns the server as its first, and a zone or its changes are fetched over it.
-pub(crate) fn fetch_by<E: Edge, C: Clock, W: Words, P: Progress>(
+/// An edge learns the server as its first, and a zone or its changes are fetched over it: how many changes did not fit the zone.
+fn fetch_by<E: Edge, C: Clock, W: Words, P: Progress>(
     alloc: Global,
     command: &Command,
     kind: XfrKind,
@@ -23,10 +25,10 @@ pub(crate) fn fetch_by<E: Edge, C: Clock, W: Words, P: Progress>(
     clock: &mut C,
     random: &mut W,
     progress: &mut P,
-) -> Result<(), FetchFault>
-    ensures fetched { OnOk result (between E.deeds E.polls C.given (edge.old, clock.old) (edge.new, clock.new) (IsFetchedBy command.now kind (W.stream random.old) zone.old zone.new)) }
+) -> Result<u64, FetchFault>
+    ensures fetched { IfOk result (λ misfits. between E.deeds E.polls C.given (edge.old, clock.old) (edge.new, clock.new) (IsFetchedBy command.now kind (W.stream random.old) zone.old zone.new misfits)) }
     ensures missed { IfErr result (λ fault. between E.deeds E.polls C.given (edge.old, clock.old) (edge.new, clock.new) (λ old new. IsMissed command.now kind (W.stream random.old) zone.old old new fault)) }
-    ensures kept { OnErr result (zone.new ≡ zone.old) }
+    ensures serial { OnOk result (IsSome zone.new.serial) }
 {
     edge.learn_server(&ServerConf::new(command.server, Transport::Tcp))?;
     fetch_told(
@@ -38,46 +40,33 @@ pub(crate) fn fetch_by<E: Edge, C: Clock, W: Words, P: Progress>(
         clock,
         random,
         progress,
-    )?;
-    Ok(())
+    )
 }
 
-fn has_serial(zone: &Zone, serial: Serial) -> bool
-    ensures { result ≡ true → zone.now.serial ≡ Some serial.0 }
+/// The serial of a zone that has one.
+fn serial_of(zone: &Zone) -> Serial
+    requires { IsSome zone.now.serial }
+    ensures { zone.now.serial ≡ Some result.0 }
 {
     match zone.serial() {
-        Some(have) => have.0 == serial.0,
-        None => false,
+        Some(serial) => serial,
+        None => Serial(0),
     }
 }
 
-/// Brings a zone to what the server has: its changes where a file has it, and the whole zone otherwise, or where the server says that
-/// it has no changes to another serial. The later edge is used in that case alone.
-pub(crate) fn bring<E: Edge, C: Clock, W: Words, P: Progress>(
+/// Asks for the changes of a zone that has a serial. Where they lead on the zone has them.
+fn fetch_changes<E: Edge, C: Clock, W: Words, P: Progress>(
     alloc: Global,
     command: &Command,
+    have: Serial,
     zone: &mut Zone,
     edge: &mut E,
-    later: &mut E,
     clock: &mut C,
     random: &mut W,
     progress: &mut P,
-) -> Result<(), FetchFault>
-    ensures brought { OnOk result (over E.deeds E.polls C.given (edge.old, later.old, clock.old) (edge.new, later.new, clock.new) (IsBrought command.now (W.stream random.old) zone.old zone.new)) }
-    ensures left { IfErr result (over E.deeds E.polls C.given (edge.old, later.old, clock.old) (edge.new, later.new, clock.new) (IsLeft command.now (W.stream random.old) zone.old)) }
+) -> Result<Option<Detour>, Left>
+    ensures { between E.deeds E.polls C.given (edge.old, clock.old) (edge.new, clock.new) (IsAnswered command.now (W.stream random.old) have zone.old zone.new result) }
 {
-    if command.file.is_none() {
-        return fetch_by(
-            alloc,
-            command,
-            XfrKind::Axfr,
-            zone,
-            edge,
-            clock,
-            random,
-            progress,
-        );
-    }
     match fetch_by(
         alloc,
         command,
@@ -88,22 +77,115 @@ pub(crate) fn bring<E: Edge, C: Clock, W: Words, P: Progress>(
         random,
         progress,
     ) {
-        Ok(()) => Ok(()),
-        Err(FetchFault::Xfr(XfrFault::SingleSoa(serial))) => {
-            if has_serial(zone, serial) {
-                return Ok(());
-            }
-            fetch_by(
-                alloc,
-                command,
-                XfrKind::Axfr,
-                zone,
-                later,
-                clock,
-                random,
-                progress,
-            )
+        Ok(misfits) => course_of_changes(have, serial_of(zone), misfits),
+        Err(fault) => course_of_fault(have, fault),
+    }
+}
+
+/// Asks for the whole zone, where one of this serial is there already, or none.
+fn fetch_whole<E: Edge, C: Clock, W: Words, P: Progress>(
+    alloc: Global,
+    command: &Command,
+    have: Option<Serial>,
+    zone: &mut Zone,
+    edge: &mut E,
+    clock: &mut C,
+    random: &mut W,
+    progress: &mut P,
+) -> Result<(), Left>
+    ensures { between E.deeds E.polls C.given (edge.old, clock.old) (edge.new, clock.new) (IsWhole command.now (W.stream random.old) have zone.old zone.new result) }
+{
+    match fetch_by(
+        alloc,
+        command,
+        XfrKind::Axfr,
+        zone,
+        edge,
+        clock,
+        random,
+        progress,
+    ) {
+        Ok(_) => judged_by(have, serial_of(zone)),
+        Err(fault) => Err(Left::NotFetched(fault)),
+    }
+}
+
+/// Asks for the whole zone in place of one of this serial, whose memory is free then.
+fn fetch_anew<E: Edge, C: Clock, W: Words, P: Progress>(
+    alloc: Global,
+    command: &Command,
+    have: Serial,
+    zone: &mut Zone,
+    edge: &mut E,
+    clock: &mut C,
+    random: &mut W,
+    progress: &mut P,
+) -> Result<(), Left>
+    ensures { between E.deeds E.polls C.given (edge.old, clock.old) (edge.new, clock.new) (IsWhole command.now (W.stream random.old) (Some have) (empty_zone command.now.apex) zone.new result) }
+{
+    let Ok(apex) = command.apex.try_clone(alloc) else {
+        return Err(Left::NotFetched(FetchFault::NoMemory));
+    };
+    *zone = Zone::empty(alloc, apex);
+    fetch_whole(
+        alloc,
+        command,
+        Some(have),
+        zone,
+        edge,
+        clock,
+        random,
+        progress,
+    )
+}
+
+/// Brings a zone with this serial to what the server has: its changes are asked for, and where these do not lead on the whole zone over
+/// the later edge. Why that is, and whether the zone is there.
+fn bring_on<E: Edge, C: Clock, W: Words, P: Progress>(
+    alloc: Global,
+    command: &Command,
+    have: Serial,
+    zone: &mut Zone,
+    edge: &mut E,
+    later: &mut E,
+    clock: &mut C,
+    random: &mut W,
+    progress: &mut P,
+) -> (Option<Detour>, Result<(), Left>)
+    requires { zone.old.serial ≡ Some have.0 }
+    ensures { over E.deeds E.polls C.given (edge.old, later.old, clock.old) (edge.new, later.new, clock.new) (IsBrought command.now (W.stream random.old) zone.old zone.new result.0 result.1) }
+{
+    match fetch_changes(alloc, command, have, zone, edge, clock, random, progress) {
+        Ok(None) => (None, Ok(())),
+        Ok(Some(why)) => {
+            let end = fetch_anew(alloc, command, have, zone, later, clock, random, progress);
+            (Some(why), end)
         }
-        Err(fault) => Err(fault),
+        Err(left) => (None, Err(left)),
+    }
+}
+
+/// Brings a zone to what the server has: without a serial the whole zone is asked for, and else its changes, and where these do not
+/// lead on the whole zone over the later edge. Why that is, and whether the zone is there.
+pub(crate) fn bring<E: Edge, C: Clock, W: Words, P: Progress>(
+    alloc: Global,
+    command: &Command,
+    zone: &mut Zone,
+    edge: &mut E,
+    later: &mut E,
+    clock: &mut C,
+    random: &mut W,
+    progress: &mut P,
+) -> (Option<Detour>, Result<(), Left>)
+    ensures { over E.deeds E.polls C.given (edge.old, later.old, clock.old) (edge.new, later.new, clock.new) (IsBrought command.now (W.stream random.old) zone.old zone.new result.0 result.1) }
+{
+    match zone.serial() {
+        Some(have) => bring_on(
+            alloc, command, have, zone, edge, later, clock, random, progress,
+        ),
+        None => {
+            let end = fetch_whole(alloc, command, None, zone, edge, clock, random, progress);
+            (None, end)
+        }
     }
 }

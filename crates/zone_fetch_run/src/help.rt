@@ -6,9 +6,9 @@ ghost use Rattle.command_parts.specs.Ends.{IsSaid};
 ghost use Rattle.dns_values.specs.Sink.{IsFlushed, with_octets};
 ghost use Rattle.dns_values.specs.Source.{Rose};
 ghost use Rattle.zone_fetch_run.specs.Pages.{page_text};
-ghost use Rattle.zone_fetch_run.specs.Sentences.{unwritten_sentence};
+ghost use Rattle.zone_fetch_run.specs.Sentences.{unprinted_sentence};
 
-use crate::explaining::{tell_no_memory, tell_written};
+use crate::explaining::{tell_no_memory, tell_printed};
 use command_parts::deliver;
 use dns_base::{NoMemory, Sink, Status};
 use program_words::{Page, version_line};
@@ -16,7 +16,7 @@ use std::alloc::Global;
 
 /// The words and statuses, as they are told to who asks for help.
 const HELP: &str = "\
-usage: zone_fetch [--text] [--port P] [--most OCTETS] [--from FILE] ZONE ADDRESS
+usage: zone_fetch [--text] [--port P] [--most OCTETS] [--from FILE] [--output FILE] ZONE ADDRESS
        zone_fetch --help | --version
 
 Asks a name server for a zone by stream (AXFR), and prints it, a record a line, sorted, once all of it is there.
@@ -27,7 +27,9 @@ Asks a name server for a zone by stream (AXFR), and prints it, a record a line, 
                   without it a line is OWNER TTL CLASS TYPE HEX, the class and the type as numbers
   --port P        ask at this port, from 1 to 65535, in place of 53
   --most OCTETS   refuse a zone whose records are reckoned to take more memory, 1000000000 octets without it
-  --from FILE     FILE has the zone as it was printed before without --text: ask for its changes alone (IXFR)
+  --from FILE     FILE has the zone as it was printed before without --text: ask for its changes alone (IXFR), and
+                  for the whole zone where they do not lead on, which a sentence on standard error says
+  --output FILE   put the zone in the place of FILE once it is whole, and print nothing; else FILE is as it was
 
 Options stand before the zone, and the last of each counts.
 
@@ -36,10 +38,11 @@ Exit status:
   1  FILE has no zone that was printed without --text
   2  the words are no command
   3  FILE could not be read
-  4  standard output failed
-  5  the zone was not fetched
+  4  standard output failed, or FILE of --output could not be written
+  5  the zone was not fetched, or its serial is not greater than that of FILE
   6  memory ran out, or no random words could be had
   7  a number would pass 64 bits
+  9  unchanged: the server's zone has the serial of FILE, and nothing was printed
 On each but 0 a sentence on standard error says why.
 ";
 
@@ -70,7 +73,7 @@ pub fn tell_page<K: Sink, L: Sink>(
     match page_text(alloc, page) {
         Ok(text) => {
             let status = deliver(sink, text.as_bytes());
-            tell_written(status, errors)
+            tell_printed(status, errors)
         }
         Err(NoMemory) => tell_no_memory(errors),
     }

@@ -4,7 +4,7 @@
 //!
 //! ```text
 //! let (edge, later) = (SocketEdge::new(rt, alloc), SocketEdge::new(rt, alloc));
-//! let mut world = World { opener, edge, later, clock, random, progress: ProgressLine::new(alloc, terminal) };
+//! let mut world = World { opener, edge, later, clock, random, progress: ProgressLine::new(alloc, terminal), files };
 //! let status = fetch_to(alloc, &words, &mut sink, &mut errors, &mut world);
 //! ```
 #![tactic(auto)]
@@ -13,10 +13,13 @@ mod command;
 mod explaining;
 mod fetching;
 mod help;
+mod leading;
 mod lines;
 mod number;
 mod printed;
 mod progress_line;
+mod putting;
+mod replacing;
 mod run;
 mod sentences;
 mod stop;
@@ -27,4 +30,5 @@ pub use command::Command;
 pub use explaining::{tell_no_memory, tell_no_random};
 pub use help::tell_page;
 pub use progress_line::ProgressLine;
+pub use replacing::Replacing;
 pub use run::{World, fetch_to, run_fetch};

@@ -4,6 +4,7 @@ ghost use Rattle.std.specs.Prelude.{◌≡◌, ◌++◌, ◌∷◌, ◌<◌, tru
 ghost use Rattle.std.specs.Char.{digit_char};
 ghost use Rattle.std.specs.List.{flat_map};
 ghost use Rattle.std.specs.String.{string_bytes};
+ghost use Rattle.command_parts.specs.Ends.{IsBegun};
 ghost use Rattle.dns_names.specs.Text.{label_text, name_text, octet_text};
 ghost use Rattle.dns_values.specs.Source.{Rose};
 ghost use Rattle.dns_values.specs.Sink.{IsFlushed, with_octets};
@@ -181,7 +182,7 @@ pub(crate) fn zone_text(
 }
 
 /// Writes the lines of records, so many at once, and hands them on.
-#[tactic(auto, using(crate::proofs::Writing::piece_written, crate::proofs::Writing::rose_later, crate::proofs::Writing::nothing_more))]
+#[tactic(auto, using(crate::proofs::Writing::begun_so_far, crate::proofs::Writing::begun_in_piece, crate::proofs::Writing::rose_later))]
 pub(crate) fn write_zone<K: Sink>(
     alloc: Global,
     sink: &mut K,
@@ -189,6 +190,7 @@ pub(crate) fn write_zone<K: Sink>(
     is_loaded: bool,
 ) -> Result<(), SinkFault>
     ensures whole { OnOk result (K.held sink.new ≡ with_octets (zone_text is_loaded records.now) (K.held sink.old)) }
+    ensures begun { IsBegun (zone_text is_loaded records.now) (K.held sink.old) (K.held sink.new) }
     ensures flushed { OnOk result (IsFlushed (K.held sink.new) (K.flushed sink.new)) }
     ensures failed { IfErr result (λ e. e ≡ SinkFault.Failed → Rose (K.faults sink.old) (K.faults sink.new)) }
 {

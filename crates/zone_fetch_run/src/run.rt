@@ -1,23 +1,24 @@
 //! What the program does.
 
 ghost use Rattle.std.specs.Prelude.{◌≡◌, ◌≢◌, ◌⊎◌, Some, IfOk, IfErr, IfSome};
-ghost use Rattle.dns_values.specs.Sink.{IsFlushed, with_octets};
+ghost use Rattle.dns_values.specs.Sink.{IsFlushed};
 ghost use Rattle.dns_values.specs.Source.{Rose};
-ghost use Rattle.zone_fetch_run.specs.Ends.{FetchEndsIn, HasStopped, HasZone, IsBase, IsFiled, IsOfFile, IsUnbased, LineEnds, RoseUnread, TellsBySentence};
+ghost use Rattle.zone_fetch_run.specs.Ends.{FetchEndsIn, HasStopped, HasZone, IsBase, IsFiled, IsOfFile, IsUnbased, LineEnds, RoseUnread, TellsBySentence, seen};
 ghost use Rattle.zone_fetch_run.specs.Fetching.{over};
-ghost use Rattle.zone_fetch_run.specs.Lines.{zone_text};
 
 use crate::command::{Command, command_of};
-use crate::explaining::{tell_no_memory, tell_refusal, tell_stop, tell_written};
+use crate::explaining::{tell_detour, tell_no_memory, tell_refusal, tell_stop, tell_written};
 use crate::fetching::bring;
-use crate::lines::write_zone;
+use crate::leading::Detour;
 use crate::printed::{Flaw, Unread, zone_of};
+use crate::putting::{put_zone, tell_zone};
+use crate::replacing::Replacing;
 use crate::stop::{Stop, tell};
 use crate::wrong::Fault;
 use client_core::{Clock, Edge};
 use client_request::Words;
 use command_parts::statuses;
-use dns_base::{NoMemory, ReadFault, Sink, SinkFault, Status, read_to_end};
+use dns_base::{ReadFault, Sink, Status, read_to_end};
 use resolv_conf::OpenFile;
 use std::alloc::Global;
 use zone_records::Zone;
@@ -75,7 +76,7 @@ fn zone_before<O: OpenFile>(alloc: Global, command: &Command, opener: &mut O) ->
     }
 }
 
-/// The zone that a command asks for.
+/// The zone that a command asks for, and why it was asked for whole, if its changes were asked for before.
 fn zone_asked<O: OpenFile, E: Edge, C: Clock, W: Words, P: Progress>(
     alloc: Global,
     command: &Command,
@@ -85,47 +86,35 @@ fn zone_asked<O: OpenFile, E: Edge, C: Clock, W: Words, P: Progress>(
     clock: &mut C,
     random: &mut W,
     progress: &mut P,
-) -> Result<Zone, Stop>
-    ensures zone { IfOk result (λ zone. over E.deeds E.polls C.given (edge.old, later.old, clock.old) (edge.new, later.new, clock.new) (HasZone command.now (O.files opener.old) (W.stream random.old) zone)) }
-    ensures stop { IfErr result (over E.deeds E.polls C.given (edge.old, later.old, clock.old) (edge.new, later.new, clock.new) (HasStopped command.now (O.files opener.old) (W.stream random.old))) }
-    ensures unread { IfErr result (RoseUnread (O.faults opener.old) (O.faults opener.new)) }
+) -> (Option<Detour>, Result<Zone, Stop>)
+    ensures zone { IfOk result.1 (λ zone. over E.deeds E.polls C.given (edge.old, later.old, clock.old) (edge.new, later.new, clock.new) (HasZone command.now (O.files opener.old) (W.stream random.old) zone result.0)) }
+    ensures stop { IfErr result.1 (λ stop. over E.deeds E.polls C.given (edge.old, later.old, clock.old) (edge.new, later.new, clock.new) (HasStopped command.now (O.files opener.old) (W.stream random.old) result.0 stop)) }
+    ensures unread { IfErr result.1 (RoseUnread (O.faults opener.old) (O.faults opener.new)) }
 {
     let mut zone = match zone_before(alloc, command, opener) {
         Ok(zone) => zone,
-        Err(stop) => return Err(stop),
+        Err(stop) => return (None, Err(stop)),
     };
-    let brought = bring(
+    let (detour, end) = bring(
         alloc, command, &mut zone, edge, later, clock, random, progress,
     );
     progress.end();
-    match brought {
-        Ok(()) => Ok(zone),
-        Err(fault) => Err(Stop::NotFetched(fault)),
+    match end {
+        Ok(()) => (detour, Ok(zone)),
+        Err(left) => (detour, Err(Stop::NotBrought(left))),
     }
 }
 
-/// Writes a zone.
-fn tell_zone<K: Sink>(alloc: Global, sink: &mut K, zone: &Zone, is_loaded: bool) -> Status
-    ensures whole { result.0 ≡ 0 → K.held sink.new ≡ with_octets (zone_text is_loaded zone.now.records) (K.held sink.old) }
-    ensures flushed { result.0 ≡ 0 → IsFlushed (K.held sink.new) (K.flushed sink.new) }
-    ensures failed { result.0 ≡ 4 → Rose (K.faults sink.old) (K.faults sink.new) }
-    ensures others { (result.0 ≡ 0) ⊎ ((result.0 ≡ 4) ⊎ (result.0 ≡ 6)) }
-{
-    match write_zone(alloc, sink, zone.records(), is_loaded) {
-        Ok(()) => statuses::DONE,
-        Err(SinkFault::Failed) => statuses::SINK_FAULT,
-        Err(SinkFault::NoMemory) => statuses::NO_MEMORY,
-    }
-}
-
-/// Does what the words ask for, `[--text] [--port P] [--most OCTETS] [--from FILE] ZONE ADDRESS`, and answers the exit status.
+/// Does what the words ask for, `[--text] [--port P] [--most OCTETS] [--from FILE] [--output FILE] ZONE ADDRESS`, and answers the exit
+/// status. What `--output` says is the caller's: the zone is written to the sink.
 ///
 /// 0: the zone was written whole, a line for each record. 1: the file has no zone that was printed in numbers and hexadecimal digits, and
-/// the line says which line of it is not, and why. 2: the words are others; nothing is written. 3: the file can't be read; nothing is written. 4: the sink failed. 5: the zone was not
-/// fetched, and the line says why. 6: memory ran out. 7: numbers are used up.
+/// the line says which line of it is not, and why. 2: the words are others; nothing is written. 3: the file can't be read; nothing is
+/// written. 4: the sink failed. 5: the zone was not fetched, or its serial is not greater than the file's, and the line says why. 6:
+/// memory ran out. 7: numbers are used up. 9: the server's zone has the file's serial.
 ///
-/// No edge was used before. The later one is used where changes were asked for and the server has none to another serial. While it
-/// turns, `progress` is told how far the transfer is.
+/// No edge was used before. The later one is used where changes were asked for and do not lead on (RFC 1995 4). While it turns,
+/// `progress` is told how far the transfer is.
 pub fn run_fetch<O: OpenFile, K: Sink, E: Edge, C: Clock, W: Words, P: Progress>(
     alloc: Global,
     words: &[String],
@@ -146,9 +135,10 @@ pub fn run_fetch<O: OpenFile, K: Sink, E: Edge, C: Clock, W: Words, P: Progress>
         Err(Fault::Refused(_)) => return statuses::USAGE,
         Err(Fault::NoMemory) => return statuses::NO_MEMORY,
     };
-    match zone_asked(
+    let (_, asked) = zone_asked(
         alloc, &command, opener, edge, later, clock, random, progress,
-    ) {
+    );
+    match asked {
         Ok(zone) => tell_zone(alloc, sink, &zone, command.text),
         Err(stop) => tell(alloc, sink, stop),
     }
@@ -156,33 +146,45 @@ pub fn run_fetch<O: OpenFile, K: Sink, E: Edge, C: Clock, W: Words, P: Progress>
 
 /// What is around a fetch. No edge was used before.
 #[derive(Drop)]
-pub struct World<O, E, C, W, P> {
+pub struct World<O, E, C, W, P, F> {
     /// What opens the file that has the zone as it was printed before.
     pub opener: O,
     /// What is asked.
     pub edge: E,
-    /// What is asked for the whole zone where changes were asked for and the server has none to another serial.
+    /// What is asked for the whole zone where changes were asked for and do not lead on.
     pub later: E,
     pub clock: C,
     pub random: W,
     /// What is told how far the transfer is.
     pub progress: P,
+    /// What puts the zone in the place of a file.
+    pub files: F,
 }
 
-/// Does the same as `run_fetch`, and tells why in a sentence to `errors` where the status is another than 0: which word is wrong, or
-/// what is missing; which file can't be read or has no printed zone, and why; which zone was not fetched of which server, and why; or
-/// that the sink failed, or memory ran out. Nothing is written to the sink then, but what it took of a zone. A fault of `errors` changes
-/// no status.
-pub fn fetch_to<O: OpenFile, K: Sink, L: Sink, E: Edge, C: Clock, W: Words, P: Progress>(
+/// Does the same as `run_fetch`, but puts the zone in the place of a file where the words say so, and tells in a sentence to `errors` why
+/// the status is another than 0: which word is wrong, or what is missing; which file can't be read or has no printed zone, and why; which
+/// zone was not fetched of which server, and why; or that the sink or the file could not be written, or memory ran out. Nothing is
+/// written to the sink then, but what it took of a zone, and no file is replaced. Where changes did not lead on, a sentence before says
+/// why the zone was asked for whole, on status 0 too. A fault of `errors` changes no status.
+pub fn fetch_to<
+    O: OpenFile,
+    K: Sink,
+    L: Sink,
+    E: Edge,
+    C: Clock,
+    W: Words,
+    P: Progress,
+    F: Replacing,
+>(
     alloc: Global,
     words: &[String],
     sink: &mut K,
     errors: &mut L,
-    world: &mut World<O, E, C, W, P>,
+    world: &mut World<O, E, C, W, P, F>,
 ) -> Status
-    ensures ends { FetchEndsIn E.deeds E.polls C.given O.files W.stream words.now (TellsBySentence K.held K.faults L.held L.faults words.now (sink.old, errors.old) (sink.new, errors.new)) result.0 world.old world.new }
+    ensures ends { FetchEndsIn E.deeds E.polls C.given O.files W.stream words.now (seen K.held K.flushed K.faults F.placed F.faults L.held L.faults (sink.old, world.old.files, errors.old) (sink.new, world.new.files, errors.new) (TellsBySentence words.now)) result.0 world.old world.new }
     ensures unread { result.0 ≡ 3 → Rose (O.faults world.old.opener) (O.faults world.new.opener) }
-    ensures flushed { result.0 ≡ 0 → IsFlushed (K.held sink.new) (K.flushed sink.new) }
+    ensures unplaced { result.0 ≢ 0 → F.placed world.new.files ≡ F.placed world.old.files }
     ensures handed_on { result.0 ≢ 0 → result.0 ≢ 6 → IsFlushed (L.held errors.new) (L.flushed errors.new) ⊎ Rose (L.faults errors.old) (L.faults errors.new) }
 {
     let command = match command_of(alloc, words) {
@@ -190,7 +192,7 @@ pub fn fetch_to<O: OpenFile, K: Sink, L: Sink, E: Edge, C: Clock, W: Words, P: P
         Err(Fault::Refused(refusal)) => return tell_refusal(alloc, words, refusal, errors),
         Err(Fault::NoMemory) => return tell_no_memory(errors),
     };
-    let asked = zone_asked(
+    let (detour, asked) = zone_asked(
         alloc,
         &command,
         &mut world.opener,
@@ -200,10 +202,13 @@ pub fn fetch_to<O: OpenFile, K: Sink, L: Sink, E: Edge, C: Clock, W: Words, P: P
         &mut world.random,
         &mut world.progress,
     );
+    let Ok(()) = tell_detour(alloc, &command, detour, errors) else {
+        return tell_no_memory(errors);
+    };
     match asked {
         Ok(zone) => {
-            let status = tell_zone(alloc, sink, &zone, command.text);
-            tell_written(status, errors)
+            let status = put_zone(alloc, &command, sink, &mut world.files, &zone);
+            tell_written(alloc, &command, status, errors)
         }
         Err(stop) => tell_stop(alloc, &command, stop, errors),
     }

@@ -5,21 +5,22 @@ ghost use Rattle.std.specs.String.{string_bytes};
 ghost use Rattle.zone_fetch_run.specs.Sentences as spec;
 
 use crate::command::Command;
+use crate::leading::{Detour, Left};
 use crate::printed::Flaw;
 use crate::stop::Stop;
 use crate::wrong::{Refusal, Wrong};
-use client_request::Error;
+use client_request::{Error, Fault};
 use dns_base::NoMemory;
 use std::alloc::Global;
 use std::fmt::{self, Display};
-use zone_records::ApplyFault;
+use zone_records::{ApplyFault, XfrFault};
 use zone_transfer::FetchFault;
 
 /// What is told where memory ran out.
 pub(crate) const MEMORY: &[u8] = b"zone_fetch: memory ran out\n";
 
 /// What is told where the sink failed.
-pub(crate) const UNWRITTEN: &[u8] = b"zone_fetch: writing to standard output failed\n";
+pub(crate) const UNPRINTED: &str = "zone_fetch: writing to standard output failed\n";
 
 /// What is wrong with a word, behind this one. Where an address must stand that is the zone, which may be a misspelled option.
 #[derive(Clone, Copy)]
@@ -77,6 +78,7 @@ fn refusal_text(alloc: Global, words: &[String], refusal: Refusal) -> Result<Str
         Refusal::NoPort => "no port stands behind --port",
         Refusal::NoMost => "no count of octets stands behind --most",
         Refusal::NoFile => "no file stands behind --from",
+        Refusal::NoOutput => "no file stands behind --output",
         Refusal::NoZone => "no zone is asked for",
         Refusal::NoAddress => "no address of a server stands behind the zone",
     };
@@ -95,6 +97,23 @@ pub(crate) fn refusal_sentence(
     Ok(format!(in alloc; "zone_fetch: {text}; see zone_fetch --help\n")?)
 }
 
+/// What failed at the reading of a stream.
+#[derive(Clone, Copy)]
+struct OfReading(Fault);
+
+impl Display for OfReading {
+    ghost output = { λ of. Some (spec.read_text of.0) };
+
+    fn fmt<W: fmt::Write>(&self, f: &mut fmt::Formatter<W>) -> fmt::Result {
+        match self.0 {
+            Fault::EndOfData => {
+                f.write_str("the server closed the stream before the transfer's end")
+            }
+            fault => write!(f, "reading the stream failed: {fault}"),
+        }
+    }
+}
+
 /// What failed at the stream of a transfer, with the fault of it where there is one.
 #[derive(Clone, Copy)]
 struct OfStream(Error);
@@ -105,13 +124,48 @@ impl Display for OfStream {
     fn fmt<W: fmt::Write>(&self, f: &mut fmt::Formatter<W>) -> fmt::Result {
         match self.0 {
             Error::StreamReadError(fault) => {
-                write!(f, "failed transport: reading the stream failed: {fault}")
+                f.write_str("failed transport: ")?;
+                Display::fmt(&OfReading(fault), f)
+            }
+            Error::StreamUnexpectedEndOfData => {
+                f.write_str("failed transport: the stream was cut within a message")
+            }
+            Error::StreamReadTimeout => {
+                f.write_str("failed transport: no message came for 19 seconds")
+            }
+            Error::WrongReplyForQuery => {
+                f.write_str("failed transport: a message came that answers another question")
             }
             Error::StreamWriteError(fault) => {
                 write!(f, "failed transport: writing to the stream failed: {fault}")
             }
             Error::NumbersUsed => f.write_str("numbers used: a number would pass 64 bits"),
             error => write!(f, "failed transport: {error}"),
+        }
+    }
+}
+
+/// What the messages are in place of a transfer.
+#[derive(Clone, Copy)]
+struct OfTransfer(XfrFault);
+
+impl Display for OfTransfer {
+    ghost output = { λ of. Some (spec.transfer_text of.0) };
+
+    fn fmt<W: fmt::Write>(&self, f: &mut fmt::Formatter<W>) -> fmt::Result {
+        match self.0 {
+            XfrFault::NotValid => f.write_str(
+                "what came is no transfer of the zone: it ends otherwise than it began, or has a record that no zone holds",
+            ),
+            XfrFault::SingleSoa(serial) => {
+                let serial = serial.0;
+                write!(
+                    f,
+                    "the server has no changes, and a zone with serial {serial}"
+                )
+            }
+            XfrFault::AlreadyFinished => f.write_str("more came behind the transfer's end"),
+            XfrFault::NoMemory => f.write_str("memory ran out"),
         }
     }
 }
@@ -150,8 +204,9 @@ impl Display for Told {
             FetchFault::Connect(fault) => write!(f, "failed connect: {fault}"),
             FetchFault::Transport(error) => Display::fmt(&OfStream(error), f),
             FetchFault::Refused(code) => { write!(f, "failed refused: the server answered {code}") }
-            FetchFault::Xfr(_) => {
-                f.write_str("failed transfer: what came is no transfer of the zone")
+            FetchFault::Xfr(fault) => {
+                f.write_str("failed transfer: ")?;
+                Display::fmt(&OfTransfer(fault), f)
             }
             FetchFault::Apply(fault) => {
                 f.write_str("failed serial: ")?;
@@ -172,16 +227,97 @@ impl Display for Told {
     }
 }
 
-/// The sentence of a zone that was not fetched: which zone, of which server, and why.
-fn fault_sentence(alloc: Global, command: &Command, fault: FetchFault) -> Result<String, NoMemory>
-    ensures { IfOk result (λ s. string_bytes s ≡ spec.fault_sentence command.now fault) }
+/// Why a zone is left as it was, where the words named this file and so many octets were taken at most.
+#[derive(Clone, Copy)]
+struct OfLeft<'a> {
+    most: u64,
+    path: &'a str,
+    left: Left,
+}
+
+impl Display for OfLeft<'_> {
+    ghost output = { λ of. Some (spec.left_told of.most of.path.now of.left) };
+
+    fn fmt<W: fmt::Write>(&self, f: &mut fmt::Formatter<W>) -> fmt::Result {
+        let path = self.path;
+        match self.left {
+            Left::NotFetched(fault) => {
+                let most = self.most;
+                Display::fmt(&Told { most, fault }, f)
+            }
+            Left::Unchanged(serial) => {
+                let serial = serial.0;
+                write!(f, "unchanged: its serial is {serial}, which {path} has")
+            }
+            Left::NotNewer { have, got } => {
+                let (have, got) = (have.0, got.0);
+                write!(
+                    f,
+                    "failed serial: its serial {got} is not greater than {have}, which {path} has"
+                )
+            }
+        }
+    }
+}
+
+impl Display for Detour {
+    ghost output = { λ detour. Some (spec.detour_text detour) };
+
+    fn fmt<W: fmt::Write>(&self, f: &mut fmt::Formatter<W>) -> fmt::Result {
+        match self {
+            Detour::Refused(code) => write!(
+                f,
+                "asked for whole: the server answered {code} where its changes were asked for"
+            ),
+            Detour::NoChanges(serial) => {
+                let serial = serial.0;
+                write!(
+                    f,
+                    "asked for whole: the server has no changes, and a zone with serial {serial}"
+                )
+            }
+            Detour::Misfits(count) => write!(
+                f,
+                "asked for whole: of its changes {count} delete what is not there, or add what is"
+            ),
+        }
+    }
+}
+
+/// The sentence that tells this of a zone and its server.
+fn server_sentence(alloc: Global, command: &Command, text: &str) -> Result<String, NoMemory>
+    ensures { IfOk result (λ s. string_bytes s ≡ spec.server_sentence command.now text.now) }
 {
     let (apex, server) = (&command.apex, command.server);
-    let told = Told {
-        most: command.most,
-        fault,
+    Ok(format!(in alloc; "zone_fetch: {apex} from {server}: {text}\n")?)
+}
+
+/// The sentence that tells why the whole zone was asked for in place of its changes; nothing where it was not.
+pub(crate) fn detour_sentence(
+    alloc: Global,
+    command: &Command,
+    detour: Option<Detour>,
+) -> Result<String, NoMemory>
+    ensures { IfOk result (λ s. string_bytes s ≡ spec.detour_sentence command.now detour) }
+{
+    let Some(why) = detour else {
+        return Ok(String::new(alloc));
     };
-    Ok(format!(in alloc; "zone_fetch: {apex} from {server}: {told}\n")?)
+    let text = format!(in alloc; "{why}")?;
+    server_sentence(alloc, command, text.as_str())
+}
+
+/// The sentence that tells why a zone is left as it was.
+fn left_sentence(alloc: Global, command: &Command, left: Left) -> Result<String, NoMemory>
+    ensures { IfOk result (λ s. string_bytes s ≡ spec.server_sentence command.now (spec.left_text command.now left)) }
+{
+    let told = OfLeft {
+        most: command.most,
+        path: path_of(command),
+        left,
+    };
+    let text = format!(in alloc; "{told}")?;
+    server_sentence(alloc, command, text.as_str())
 }
 
 /// The sentence of a file that has no printed zone: which file, and why.
@@ -213,7 +349,20 @@ pub(crate) fn stop_sentence(
     match stop {
         Stop::Unread => Ok(format!(in alloc; "zone_fetch: {path} could not be read\n")?),
         Stop::NotPrinted(flaw) => flaw_sentence(alloc, path, flaw),
-        Stop::NotFetched(fault) => fault_sentence(alloc, command, fault),
+        Stop::NotBrought(left) => left_sentence(alloc, command, left),
         Stop::NoMemory => Err(NoMemory),
+    }
+}
+
+/// The sentence that tells that a zone was not written whole.
+pub(crate) fn unwritten_sentence(alloc: Global, command: &Command) -> Result<String, NoMemory>
+    ensures { IfOk result (λ s. string_bytes s ≡ spec.unwritten_sentence command.now) }
+{
+    match &command.output {
+        Some(path) => {
+            let path = path.as_str();
+            Ok(format!(in alloc; "zone_fetch: {path} could not be written\n")?)
+        }
+        None => Ok(String::from_str(alloc, UNPRINTED)?),
     }
 }

@@ -3,8 +3,9 @@
 ghost use Rattle.std.specs.Prelude.{◌≡◌, ◌≢◌, ◌⊎◌, IfOk, Some};
 ghost use Rattle.std.specs.String.{string_bytes};
 ghost use Rattle.zone_fetch_run.specs.declared.stop.Stop.{Stop};
-ghost use Rattle.zone_fetch_run.specs.Stops.{Tells, fault_line, fault_status, flaw_text, line_of, part_text, status_of};
+ghost use Rattle.zone_fetch_run.specs.Stops.{Tells, fault_line, fault_status, flaw_text, left_line, left_status, line_of, part_text, status_of};
 
+use crate::leading::Left;
 use crate::printed::{Flaw, Part};
 use client_request::Error;
 use command_parts::{end_by, statuses};
@@ -20,11 +21,14 @@ pub(crate) enum Stop {
     Unread,
     /// The file has no zone that was printed.
     NotPrinted(Flaw),
-    /// The zone was not fetched.
-    NotFetched(FetchFault),
+    /// The zone is left as it was.
+    NotBrought(Left),
     /// Memory ran out.
     NoMemory,
 }
+
+/// The server's zone is the one that is there.
+const UNCHANGED: Status = Status(9);
 
 impl From<NoMemory> for Stop {
     ghost use Rattle.zone_fetch_run.specs.declared.stop.Stop.{Stop};
@@ -63,15 +67,38 @@ fn fault_line(fault: FetchFault) -> &'static str
     }
 }
 
-#[tactic(auto, using(crate::proofs::Telling::no_three))]
+#[tactic(auto, using(crate::proofs::Telling::nine_more))]
+fn left_status(left: Left) -> Status
+    ensures status { result.0 ≡ left_status left }
+    ensures others { (result.0 ≡ 5) ⊎ ((result.0 ≡ 6) ⊎ ((result.0 ≡ 7) ⊎ (result.0 ≡ 9))) }
+{
+    match left {
+        Left::NotFetched(fault) => fault_status(fault),
+        Left::Unchanged(_) => UNCHANGED,
+        Left::NotNewer { .. } => statuses::NO_REPLY,
+    }
+}
+
+fn left_line(left: Left) -> &'static str
+    ensures { result.now ≡ left_line left }
+{
+    match left {
+        Left::NotFetched(fault) => fault_line(fault),
+        Left::Unchanged(_) => "unchanged\n",
+        Left::NotNewer { .. } => "failed serial\n",
+    }
+}
+
+#[tactic(auto, using(crate::proofs::Telling::no_three, crate::proofs::Telling::no_zero))]
 pub(crate) fn status_of(stop: Stop) -> Status
     ensures status { result.0 ≡ status_of stop }
+    ensures some { result.0 ≢ 0 }
     ensures unread { result.0 ≡ 3 → stop ≡ Stop.Unread }
 {
     match stop {
         Stop::Unread => statuses::SOURCE_FAULT,
         Stop::NotPrinted(_) => statuses::REFUSED,
-        Stop::NotFetched(fault) => fault_status(fault),
+        Stop::NotBrought(left) => left_status(left),
         Stop::NoMemory => statuses::NO_MEMORY,
     }
 }
@@ -112,7 +139,7 @@ fn line_of(alloc: Global, stop: Stop) -> Result<String, NoMemory>
 {
     match stop {
         Stop::NotPrinted(flaw) => Ok(format!(in alloc; "no printed zone: {flaw}\n")?),
-        Stop::NotFetched(fault) => Ok(String::from_str(alloc, fault_line(fault))?),
+        Stop::NotBrought(left) => Ok(String::from_str(alloc, left_line(left))?),
         Stop::Unread | Stop::NoMemory => Ok(String::new(alloc)),
     }
 }
@@ -121,6 +148,7 @@ fn line_of(alloc: Global, stop: Stop) -> Result<String, NoMemory>
 #[tactic(auto, using(crate::proofs::Telling::tells_nothing, crate::proofs::Telling::tells_line))]
 pub(crate) fn tell<K: Sink>(alloc: Global, sink: &mut K, stop: Stop) -> Status
     ensures status { (result.0 ≡ status_of stop) ⊎ (result.0 ≡ 6) }
+    ensures some { result.0 ≢ 0 }
     ensures unread { result.0 ≡ 3 → stop ≡ Stop.Unread }
     ensures told { result.0 ≢ 6 → Tells (line_of stop) (K.held sink.old) (K.held sink.new) (K.faults sink.old) (K.faults sink.new) }
 {

@@ -3,7 +3,7 @@
 ghost use Rattle.std.specs.Prelude.{◌≡◌, Ok, Err, Some, None, false, if◌then◌else◌};
 ghost use Rattle.dns_names.specs.Text.{name_of_text};
 ghost use Rattle.std.specs.Result.{result_ok};
-ghost use Rattle.zone_fetch_run.specs.Words.{AddressGives, AllAnswer, Answers, FileGives, WordGives, WordsGive, any_said, fault_at, most_given, number_in, optioned, port_given, zone_given};
+ghost use Rattle.zone_fetch_run.specs.Words.{AddressGives, AllAnswer, Answers, FileGives, OutputGives, WordGives, WordsGive, any_said, fault_at, most_given, number_in, optioned, port_given, zone_given};
 
 use crate::command::{Next, Said};
 use crate::number::number_in;
@@ -62,6 +62,17 @@ impl Said {
         Ok(())
     }
 
+    fn take_output(&mut self, alloc: Global, word: &str) -> Result<(), WordFault>
+        ensures { Answers (OutputGives word.now self.old) result self.new }
+    {
+        let Ok(output) = String::from_str(alloc, word) else {
+            return Err(WordFault::NoMemory);
+        };
+        self.output = Some(output);
+        self.next = Next::Any;
+        Ok(())
+    }
+
     fn take_address(&mut self, word: &str) -> Result<(), WordFault>
         ensures { Answers (AddressGives word.now self.old) result self.new }
     {
@@ -99,6 +110,7 @@ impl Said {
             "--port" => self.next = Next::Port,
             "--most" => self.next = Next::Most,
             "--from" => self.next = Next::File,
+            "--output" => self.next = Next::Output,
             _ => return false,
         }
         true
@@ -121,6 +133,7 @@ impl Said {
             Next::Port => self.take_port(word),
             Next::Most => self.take_most(word),
             Next::File => self.take_file(alloc, word),
+            Next::Output => self.take_output(alloc, word),
             Next::Address => self.take_address(word),
             Next::Nothing => Err(WordFault::Wrong(Wrong::More)),
         }

@@ -30,6 +30,8 @@ pub(crate) enum Refusal {
     NoMost,
     /// `--from` is the last word.
     NoFile,
+    /// `--output` is the last word.
+    NoOutput,
     /// There is no zone.
     NoZone,
     /// The zone is the last word.

@@ -1,46 +1,73 @@
 use Rattle.std.proofs.Common.{refl, arith}
-use Rattle.zone_fetch_run.specs.Ends.{TellsBySentence, out_of_memory}
-use Rattle.zone_fetch_run.proofs.Ended.{ended_refused, ended_stopped, ended_written, handed_on_at, handed_on_written, not_three, rose_at, told_at, written_statuses}
+use Rattle.zone_fetch_run.specs.Ends.{TellsBySentence, is_out, is_unread, sight}
+use Rattle.zone_fetch_run.proofs.Asked.{stop_there, unread_there, zone_there}
+use Rattle.zone_fetch_run.proofs.Ended.{ended_refused, ended_stopped, ended_written, handed_on_at, handed_on_written, not_three, rose_at, told_at, told_unless, written_statuses}
+use Rattle.zone_fetch_run.proofs.Said.{kept_at_four, no_zero_at_six, spared_of, spared_same, still_told}
 use Rattle.zone_fetch_run.proofs.run.fetch_to.Goals as goal
 
 pub returns-in-Err-Refused-clause-ends : goal.returns-in-Err-Refused-clause-ends
 returns-in-Err-Refused-clause-ends g c =
     ended_refused c.args.words.now (g.O.OpenFile.files c.args.world.now.opener) (g.W.Words.stream c.args.world.now.random)
-    (TellsBySentence g.K.Sink.held g.K.Sink.faults g.L.Sink.held g.L.Sink.faults c.args.words.now (c.args.sink.now, c.args.errors.now) (c.args.sink.now, c.tell_refusal.new.errors)) c.tell_refusal.result.0 _ _ _ _
-    c.in-Err-Refused.refusal (rw c.in-Err-Refused.field-0-is at c.in-Err-Refused.ensures) c.tell_refusal.ensures.status (λ two. (refl, c.tell_refusal.ensures.said two))
+    (TellsBySentence c.args.words.now (sight g.K.Sink.held g.K.Sink.flushed g.K.Sink.faults g.F.Replacing.placed g.F.Replacing.faults g.L.Sink.held g.L.Sink.faults (c.args.sink.now, c.args.world.now.files, c.args.errors.now))
+    (sight g.K.Sink.held g.K.Sink.flushed g.K.Sink.faults g.F.Replacing.placed g.F.Replacing.faults g.L.Sink.held g.L.Sink.faults (c.args.sink.now, c.args.world.now.files, c.tell_refusal.new.errors))) c.tell_refusal.result.0 _ _ _ _
+    c.in-Err-Refused.refusal (rw c.in-Err-Refused.field-0-is at c.in-Err-Refused.ensures) c.tell_refusal.ensures.status (λ two. (refl, refl, c.tell_refusal.ensures.said two)) (refl, refl)
 
 pub returns-in-Err-Refused-clause-handed_on : goal.returns-in-Err-Refused-clause-handed_on
 returns-in-Err-Refused-clause-handed_on g c no_zero no_six = handed_on_at c.tell_refusal.result.0 2 _ c.tell_refusal.ensures.status c.tell_refusal.ensures.flushed no_six
 
 pub returns-in-Err-NoMemory-clause-ends : goal.returns-in-Err-NoMemory-clause-ends
-returns-in-Err-NoMemory-clause-ends g c = out_of_memory c.tell_no_memory.ensures
+returns-in-Err-NoMemory-clause-ends g c = is_unread c.tell_no_memory.ensures (refl, refl)
+
+pub returns-in_default-clause-ends : goal.returns-in_default-clause-ends
+returns-in_default-clause-ends g c = is_out c.in-Ok.command c.in-Ok.ensures c.tell_no_memory.ensures (spared_same c.in-Ok.command.output _, refl)
 
 pub returns-in-Ok-asked-clause-ends : goal.returns-in-Ok-asked-clause-ends
 returns-in-Ok-asked-clause-ends g c =
     ended_written c.args.words.now (g.O.OpenFile.files c.args.world.now.opener) (g.W.Words.stream c.args.world.now.random)
-    (TellsBySentence g.K.Sink.held g.K.Sink.faults g.L.Sink.held g.L.Sink.faults c.args.words.now (c.args.sink.now, c.args.errors.now) (c.tell_zone-status.new.sink, c.tell_written.new.errors)) c.tell_written.result.0 _ _ _ _
-    c.in-Ok.command c.in-Ok-asked.zone c.in-Ok.ensures c.in-Ok-asked.ensures.zone
-    (λ zero. (told_at c.tell_written.result c.tell_zone-status.result 0 _ c.tell_written.ensures.status (λ h. omega arith) c.tell_zone-status.ensures.whole zero, c.tell_written.ensures.quiet zero))
-    (λ four. (told_at c.tell_written.result c.tell_zone-status.result 4 _ c.tell_written.ensures.status (λ h. omega arith) c.tell_zone-status.ensures.failed four, c.tell_written.ensures.said four))
-    (written_statuses c.tell_written.result c.tell_zone-status.result c.tell_written.ensures.status c.tell_zone-status.ensures.others)
+    (TellsBySentence c.args.words.now (sight g.K.Sink.held g.K.Sink.flushed g.K.Sink.faults g.F.Replacing.placed g.F.Replacing.faults g.L.Sink.held g.L.Sink.faults (c.args.sink.now, c.args.world.now.files, c.args.errors.now))
+    (sight g.K.Sink.held g.K.Sink.flushed g.K.Sink.faults g.F.Replacing.placed g.F.Replacing.faults g.L.Sink.held g.L.Sink.faults (c.put_zone-status.new.sink, c.put_zone-status.new.files, c.tell_written.new.errors))) c.tell_written.result.0 _ _ _ _
+    c.in-Ok.command c.zone_asked.result.0 c.in-Ok-asked.zone c.in-Ok.ensures (zone_there _ _ _ _ _ _ _ _ c.zone_asked.result.1 c.in-Ok-asked.zone c.in-Ok-asked.is c.zone_asked.ensures.zone)
+    (λ zero. (
+      told_at c.tell_written.result c.put_zone-status.result 0 _ c.tell_written.ensures.status (λ h. omega arith) c.put_zone-status.ensures.whole zero,
+      still_told _ _ _ _ _ _ _ (c.tell_written.ensures.quiet zero) c.in-Ok-tell_detour.ensures,
+    ))
+    (λ four. (
+      told_at c.tell_written.result c.put_zone-status.result 4 _ c.tell_written.ensures.status (λ h. omega arith) c.put_zone-status.ensures.failed four,
+      c.put_zone-status.ensures.part,
+      told_at c.tell_written.result c.put_zone-status.result 4 _ c.tell_written.ensures.status (λ h. omega arith) (kept_at_four c.put_zone-status.result.0 _ c.put_zone-status.ensures.kept) four,
+      record { mid = g.L.Sink.held c.tell_detour.new.errors; faults_mid = g.L.Sink.faults c.tell_detour.new.errors; first_told = c.in-Ok-tell_detour.ensures; second_told = c.tell_written.ensures.said four },
+    ))
+    (λ six. (
+      spared_of c.in-Ok.command.output _ _ _ c.put_zone-status.ensures.part,
+      told_unless c.tell_written.result c.put_zone-status.result _ c.tell_written.ensures.status c.put_zone-status.ensures.kept (no_zero_at_six c.tell_written.result.0 six),
+    ))
+    (written_statuses c.tell_written.result c.put_zone-status.result c.tell_written.ensures.status c.put_zone-status.ensures.others)
 
 pub returns-in-Ok-asked-clause-unread : goal.returns-in-Ok-asked-clause-unread
 returns-in-Ok-asked-clause-unread g c e =
-    absurd (not_three c.tell_written.result.0 (written_statuses c.tell_written.result c.tell_zone-status.result c.tell_written.ensures.status c.tell_zone-status.ensures.others) e)
+    absurd (not_three c.tell_written.result.0 (written_statuses c.tell_written.result c.put_zone-status.result c.tell_written.ensures.status c.put_zone-status.ensures.others) e)
 
-pub returns-in-Ok-asked-clause-flushed : goal.returns-in-Ok-asked-clause-flushed
-returns-in-Ok-asked-clause-flushed g c zero =
-    told_at c.tell_written.result c.tell_zone-status.result 0 _ c.tell_written.ensures.status (λ h. omega arith) c.tell_zone-status.ensures.flushed zero
+pub returns-in-Ok-asked-clause-unplaced : goal.returns-in-Ok-asked-clause-unplaced
+returns-in-Ok-asked-clause-unplaced g c no_zero = told_unless c.tell_written.result c.put_zone-status.result _ c.tell_written.ensures.status c.put_zone-status.ensures.kept no_zero
 
 pub returns-in-Ok-asked-clause-handed_on : goal.returns-in-Ok-asked-clause-handed_on
 returns-in-Ok-asked-clause-handed_on g c no_zero no_six =
-    handed_on_written c.tell_written.result.0 _ (written_statuses c.tell_written.result c.tell_zone-status.result c.tell_written.ensures.status c.tell_zone-status.ensures.others) c.tell_written.ensures.flushed no_zero no_six
+    handed_on_written c.tell_written.result.0 _ (written_statuses c.tell_written.result c.put_zone-status.result c.tell_written.ensures.status c.put_zone-status.ensures.others) c.tell_written.ensures.flushed no_zero no_six
 
-pub returns-clause-ends : goal.returns-clause-ends
-returns-clause-ends g c =
+pub returns-in-Err-asked-clause-ends : goal.returns-in-Err-asked-clause-ends
+returns-in-Err-asked-clause-ends g c =
     ended_stopped c.args.words.now (g.O.OpenFile.files c.args.world.now.opener) (g.W.Words.stream c.args.world.now.random)
-    (TellsBySentence g.K.Sink.held g.K.Sink.faults g.L.Sink.held g.L.Sink.faults c.args.words.now (c.args.sink.now, c.args.errors.now) (c.args.sink.now, c.tell_stop.new.errors)) c.tell_stop.result.0 _ _ _ _
-    c.in-Ok.command c.in-Err.stop c.in-Ok.ensures c.in-Err.ensures.stop c.tell_stop.ensures.status (λ no_six. (refl, c.tell_stop.ensures.said no_six))
+    (TellsBySentence c.args.words.now (sight g.K.Sink.held g.K.Sink.flushed g.K.Sink.faults g.F.Replacing.placed g.F.Replacing.faults g.L.Sink.held g.L.Sink.faults (c.args.sink.now, c.args.world.now.files, c.args.errors.now))
+    (sight g.K.Sink.held g.K.Sink.flushed g.K.Sink.faults g.F.Replacing.placed g.F.Replacing.faults g.L.Sink.held g.L.Sink.faults (c.args.sink.now, c.args.world.now.files, c.tell_stop.new.errors))) c.tell_stop.result.0 _ _ _ _
+    c.in-Ok.command c.zone_asked.result.0 c.in-Err-asked.stop c.in-Ok.ensures (stop_there _ _ _ _ _ _ _ _ c.zone_asked.result.1 c.in-Err-asked.stop c.in-Err-asked.is c.zone_asked.ensures.stop)
+    c.tell_stop.ensures.status
+    (λ no_six. (
+      refl,
+      refl,
+      record { mid = g.L.Sink.held c.tell_detour.new.errors; faults_mid = g.L.Sink.faults c.tell_detour.new.errors; first_told = c.in-Ok-tell_detour.ensures; second_told = c.tell_stop.ensures.said no_six },
+    ))
+    (spared_same c.in-Ok.command.output _, refl)
 
-pub returns-clause-unread : goal.returns-clause-unread
-returns-clause-unread g c e = rose_at _ _ c.in-Err.stop c.in-Err.ensures.unread (c.tell_stop.ensures.unread e)
+pub returns-in-Err-asked-clause-unread : goal.returns-in-Err-asked-clause-unread
+returns-in-Err-asked-clause-unread g c e =
+    rose_at _ _ c.in-Err-asked.stop (unread_there c.zone_asked.result.1 c.in-Err-asked.stop _ _ c.in-Err-asked.is c.zone_asked.ensures.unread) (c.tell_stop.ensures.unread e)
