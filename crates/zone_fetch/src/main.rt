@@ -2,6 +2,7 @@
 #![tactic(auto)]
 
 mod beside;
+mod system;
 
 use beside::FilesBeside;
 use client_edge::{FileOpener, RandWords, RealClock, SocketEdge, command_words};
@@ -12,7 +13,9 @@ use rand::rngs::StdRng;
 use std::fs;
 use std::io::Stderr;
 use std::process::ExitCode;
+use system::RealSystem;
 use zone_fetch_run::{ProgressLine, World, fetch_to, tell_no_memory, tell_no_random, tell_page};
+use zone_refresh_parts::{keep_asked, refresh_asked};
 
 /// The system's random words, where they can be had.
 fn random_words(rt: &HostRuntime) -> Option<RandWords<StdRng>> {
@@ -70,6 +73,19 @@ fn run(rt: HostRuntime) -> u8 {
             page,
             &mut StdSink::new(rt.stdout()),
             &mut errors,
+        )
+        .0;
+    }
+    if let Some(asked) = refresh_asked(&words) {
+        let (system, opener) = (RealSystem { rt }, FileOpener::new(rt));
+        return keep_asked(
+            rt.alloc(),
+            &words,
+            asked,
+            system,
+            opener,
+            &mut errors,
+            u64::MAX,
         )
         .0;
     }

@@ -1,0 +1,5 @@
+pub mod Timers
+pub mod Files
+pub mod Words
+pub mod Sentences
+pub mod Keeping
