@@ -36,9 +36,9 @@ course_to (Err left) detour = Err left
 abbrev pub course_of_changes : (have got : Serial) → (misfits : ℕ) → Course
 course_of_changes have got misfits = course_to (judged have got) (if misfits == 0 then None else Some (detours.Misfits misfits))
 
--- The server knows no such request, or does not serve it: FORMERR, NOTIMP or REFUSED.
+-- The server knows no such request, does not serve it, or fails at it: FORMERR, SERVFAIL, NOTIMP or REFUSED.
 abbrev pub is_unwilling : ℕ → Bool
-is_unwilling code = code == 1 || code == 4 || code == 5
+is_unwilling code = code == 1 || code == 2 || code == 4 || code == 5
 
 -- It has no changes, but a serial alone.
 abbrev pub course_alone : Serial → XfrFault → Course

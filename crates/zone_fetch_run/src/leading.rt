@@ -89,11 +89,14 @@ pub(crate) fn course_of_changes(
     course_to(judged(have, got), Some(Detour::Misfits(misfits)))
 }
 
-/// Whether the server knows no such request, or does not serve it.
+/// Whether the server knows no such request, does not serve it, or fails at it, as where its journal was cut.
 fn is_unwilling(code: Rcode) -> bool
     ensures { result ≡ plain.is_unwilling code.0 }
 {
-    code == Rcode::FORMERR || code == Rcode::NOTIMP || code == Rcode::REFUSED
+    code == Rcode::FORMERR
+        || code == Rcode::SERVFAIL
+        || code == Rcode::NOTIMP
+        || code == Rcode::REFUSED
 }
 
 fn course_alone(have: Serial, fault: XfrFault) -> Result<Option<Detour>, Left>
