@@ -1,14 +1,14 @@
 //! A primary that is asked for the SOA of a zone.
 
-ghost use Rattle.std.specs.Prelude.{◌≡◌, IfOk};
-ghost use Rattle.zone_refresh_asking.specs.Asking.{Asks, conf_of};
+ghost use Rattle.std.specs.Prelude.{◌≡◌, IfOk, option_map};
+ghost use Rattle.zone_refresh_asking.specs.Asking.{Asks, conf_of, serial_got};
 
 use crate::serials::serial_said;
 use client_core::{Clock, Edge};
 use client_request::{Error, Words};
 use dns_base::{Duration, Name, NoMemory, Rtype, Serial, SocketAddr};
 use resolv_conf::{ResolvConf, ServerConf, Transport};
-use resolv_lookup::{AsMessage, QueryFault};
+use resolv_lookup::{Answer, AsMessage, QueryFault};
 use std::alloc::Global;
 use stub_resolver::StubResolver;
 
@@ -24,6 +24,17 @@ fn conf_of(alloc: Global, primary: SocketAddr) -> Result<ResolvConf, NoMemory>
     conf.servers
         .push(ServerConf::new(primary, Transport::UdpTcp))?;
     Ok(conf)
+}
+
+/// The serial that is said by what a question got.
+fn serial_got(zone: &Name, got: Result<Answer, QueryFault>) -> Result<Option<Serial>, NoMemory>
+    ensures { IfOk result (λ serial. option_map (λ s. s.0) serial ≡ serial_got zone.now got) }
+{
+    match got {
+        Ok(answer) => Ok(serial_said(zone, answer.as_message())),
+        Err(QueryFault::Client(Error::NoMemory)) => Err(NoMemory),
+        Err(_) => Ok(None),
+    }
 }
 
 /// Asks a primary for the SOA of a zone, by datagrams, over an edge that was not used before: its serial, or none where no answer came in
@@ -44,9 +55,7 @@ pub fn ask_serial<E: Edge + Drop, C: Clock + Drop, W: Words + Drop>(
     let Ok(mut resolver) = StubResolver::from_conf(alloc, conf, edge, clock, words) else {
         return Err(NoMemory);
     };
-    match resolver.query(alloc, zone, Rtype::SOA) {
-        Ok(answer) => Ok(serial_said(zone, answer.as_message())),
-        Err(QueryFault::Client(Error::NoMemory)) => Err(NoMemory),
-        Err(_) => Ok(None),
-    }
+    let got = resolver.query(alloc, zone, Rtype::SOA);
+    let serial = serial_got(zone, got)?;
+    Ok(serial)
 }

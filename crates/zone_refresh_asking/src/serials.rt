@@ -5,29 +5,29 @@ ghost use Rattle.dns_base.specs.RecordData.{data_view};
 ghost use Rattle.zone_refresh_asking.specs.Serials as spec;
 
 use dns_base::{
-    Class, Message, Name, ParsedName, Rcode, Record, RecordData, RecordSection, Serial,
+    Class, Message, Name, ParsedName, Rcode, Record, RecordData, RecordSection, Serial, ToName,
     is_same_name,
 };
 
 /// The serial in data, where it is that of an SOA.
-fn serial_of(data: &RecordData<'_>) -> Option<Serial>
-    ensures { option_map (λ s. s.0) result ≡ spec.serial_of (Some (data_view data.now)) }
+fn serial_of(said: &RecordData<'_>) -> Option<Serial>
+    ensures { option_map (λ s. s.0) result ≡ spec.serial_of (Some (data_view said.now)) }
 {
-    match data {
+    match said {
         RecordData::Soa { serial, .. } => Some(*serial),
         _ => None,
     }
 }
 
 /// The serial in a record, where it is the SOA of a zone.
-fn serial_in(zone: &ParsedName<'_>, record: &Record<'_>) -> Option<Serial>
-    ensures { option_map (λ s. s.0) result ≡ spec.serial_in zone.now record.now }
+fn serial_in(zone: &ParsedName<'_>, item: &Record<'_>) -> Option<Serial>
+    ensures { option_map (λ s. s.0) result ≡ spec.serial_in zone.now item.now }
 {
-    if record.class() != Class::IN || !is_same_name(&record.owner(), zone) {
+    if item.class() != Class::IN || !is_same_name(&item.owner(), zone) {
         return None;
     }
-    match record.data() {
-        Ok(data) => serial_of(&data),
+    match item.data() {
+        Ok(said) => serial_of(&said),
         Err(_) => None,
     }
 }
@@ -56,7 +56,8 @@ pub fn serial_said(zone: &Name, answer: &Message) -> Option<Serial>
     if !header.aa() || header.rcode() != Rcode::NOERROR {
         return None;
     }
-    let (owner, _) = ParsedName::parse(zone.as_octets(), 0)?;
-    let records = answer.answer().ok()?;
-    first_serial(&owner, records)
+    match answer.answer() {
+        Ok(records) => first_serial(&zone.parsed(), records),
+        Err(_) => None,
+    }
 }
