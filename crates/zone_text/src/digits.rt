@@ -61,7 +61,7 @@ fn first_two(text: &[u8]) -> Option<(u8, u8, &[u8])>
 }
 
 /// The octets that digits write, two for each.
-#[tactic(auto, using(crate::proofs::Spelled::nothing_before, crate::proofs::Spelled::two_digits, crate::proofs::Spelled::not_two, crate::proofs::Spelled::whole_read, crate::proofs::Spelled::one_digit))]
+#[tactic(auto, using(crate::proofs::Spelled::nothing_before, crate::proofs::Spelled::whole_read, crate::proofs::Spelled::one_digit))]
 pub(crate) fn octets_of(alloc: Global, digits: &[u8]) -> Result<Option<Vec<u8>>, NoMemory>
     ensures { IfOk result (TellsOctets (octets_of_hex digits.now)) }
 {
