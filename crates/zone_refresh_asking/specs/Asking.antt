@@ -1,5 +1,5 @@
 -- A primary that is asked for the SOA of a zone.
-use Rattle.std.specs.Prelude.{◌≡◌, ℕ, true, List, [], ◌∷◌, Option, None, Some, Ok, Err, option_map}
+use Rattle.std.specs.Prelude.{◌≡◌, ℕ, true, List, [], ◌∷◌, Option, None, Ok, Err, option_map}
 use Rattle.client_core.specs.declared.edge.Deed.{Deed}
 use Rattle.dns_names.specs.Name.{Labels}
 use Rattle.dns_values.specs.declared.address.SocketAddr.{SocketAddr}
