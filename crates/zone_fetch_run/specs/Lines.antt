@@ -1,13 +1,11 @@
 -- A zone as lines of text.
-use Rattle.std.specs.Prelude.{ℕ, ◌/◌, ◌%◌, Bool, true, false, List, [], ◌∷◌, ◌++◌, codes, decimal, Option, None, Some}
+use Rattle.std.specs.Prelude.{◌≡◌, ℕ, ◌/◌, ◌%◌, Bool, true, false, List, [], ◌∷◌, ◌++◌, codes, decimal, Option, None, Some}
 use Rattle.std.specs.Char.{digit_char}
 use Rattle.std.specs.List.{flat_map}
 use Rattle.dns_names.specs.Name.{Found, Labels, name_at}
 use Rattle.dns_names.specs.Text.{name_text}
-use Rattle.dns_presentation.specs.Generic.{generic_text}
-use Rattle.dns_presentation.specs.Names.{absolute_text}
-use Rattle.dns_values.specs.NumberNames.{class_text, type_text}
 use Rattle.zone_records.specs.declared.record.ZoneRecord.{ZoneRecord}
+use Rattle.zone_text.specs.Lines.{IsText}
 
 -- two lower-case hexadecimal digits
 abbrev pub octet_digits : ℕ → List ℕ
@@ -30,11 +28,15 @@ owner_text text item = named text (name_at item.owner 0)
 abbrev pub head_of : ZoneRecord → List ℕ
 head_of item = owner_text name_text item ++ 32 ∷ decimal item.ttl.0 ++ 32 ∷ decimal item.class.0 ++ 32 ∷ decimal item.rtype.0 ++ 32 ∷ []
 
--- A record's line, in numbers and hexadecimal digits alone; or in the form that name servers load, which names the class and the type.
-abbrev pub record_line : Bool → ZoneRecord → List ℕ
-record_line false item = head_of item ++ hex_word item.rdata ++ 10 ∷ []
-record_line true item =
-    owner_text absolute_text item ++ 32 ∷ decimal item.ttl.0 ++ 32 ∷ class_text item.class.0 ++ 32 ∷ type_text item.rtype.0 ++ 32 ∷ generic_text item.rdata ++ 10 ∷ []
+-- a record's line, in numbers and hexadecimal digits alone
+abbrev pub record_line : ZoneRecord → List ℕ
+record_line item = head_of item ++ hex_word item.rdata ++ 10 ∷ []
 
-abbrev pub zone_text : Bool → List ZoneRecord → List ℕ
-zone_text is_loaded records = flat_map (record_line is_loaded) records
+-- the lines of records in numbers
+abbrev pub zone_text : List ZoneRecord → List ℕ
+zone_text records = flat_map record_line records
+
+-- The text has the lines of records, in numbers or in the form that name servers load.
+abbrev pub IsZoneText : (is_loaded : Bool) → List ZoneRecord → List ℕ → Type 0
+IsZoneText false records text = text ≡ zone_text records
+IsZoneText true records text = IsText records text

@@ -15,7 +15,6 @@ mod fetching;
 mod help;
 mod lines;
 mod number;
-mod printed;
 mod progress_line;
 mod run;
 mod sentences;

@@ -11,7 +11,6 @@ use crate::command::{Command, command_of};
 use crate::explaining::{tell_no_memory, tell_refusal, tell_stop, tell_written};
 use crate::fetching::bring;
 use crate::lines::write_zone;
-use crate::printed::{Flaw, Unread, zone_of};
 use crate::stop::{Stop, tell};
 use crate::wrong::Fault;
 use client_core::{Clock, Edge};
@@ -21,6 +20,7 @@ use dns_base::{NoMemory, ReadFault, Sink, SinkFault, Status, read_to_end};
 use resolv_conf::OpenFile;
 use std::alloc::Global;
 use zone_records::Zone;
+use zone_text::{Unread, write_text, zone_of};
 use zone_transfer::Progress;
 
 /// The octets of the file at a path.
@@ -35,8 +35,7 @@ fn octets_at<O: OpenFile>(alloc: Global, opener: &mut O, path: &str) -> Result<V
     match read_to_end(alloc, opener, usize::MAX) {
         Ok(octets) => Ok(octets),
         Err(ReadFault::Failed) => Err(Stop::Unread),
-        Err(ReadFault::TooLong) => Err(Stop::NotPrinted(Flaw::Text)),
-        Err(ReadFault::NoMemory) => Err(Stop::NoMemory),
+        Err(ReadFault::TooLong) | Err(ReadFault::NoMemory) => Err(Stop::NoMemory),
     }
 }
 
@@ -55,7 +54,7 @@ fn zone_at<O: OpenFile>(
     let apex = command.apex.try_clone(alloc)?;
     match zone_of(alloc, octets.as_slice(), apex) {
         Ok(zone) => Ok(zone),
-        Err(Unread::NotPrinted(flaw)) => Err(Stop::NotPrinted(flaw)),
+        Err(Unread::NoZone(flaw)) => Err(Stop::NotPrinted(flaw)),
         Err(Unread::NoMemory) => Err(Stop::NoMemory),
     }
 }
@@ -111,7 +110,12 @@ fn tell_zone<K: Sink>(alloc: Global, sink: &mut K, zone: &Zone, is_loaded: bool)
     ensures failed { result.0 ≡ 4 → Rose (K.faults sink.old) (K.faults sink.new) }
     ensures others { (result.0 ≡ 0) ⊎ ((result.0 ≡ 4) ⊎ (result.0 ≡ 6)) }
 {
-    match write_zone(alloc, sink, zone.records(), is_loaded) {
+    let written = if is_loaded {
+        write_text(alloc, sink, zone.records())
+    } else {
+        write_zone(alloc, sink, zone.records())
+    };
+    match written {
         Ok(()) => statuses::DONE,
         Err(SinkFault::Failed) => statuses::SINK_FAULT,
         Err(SinkFault::NoMemory) => statuses::NO_MEMORY,

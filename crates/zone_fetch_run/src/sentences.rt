@@ -5,7 +5,6 @@ ghost use Rattle.std.specs.String.{string_bytes};
 ghost use Rattle.zone_fetch_run.specs.Sentences as spec;
 
 use crate::command::Command;
-use crate::printed::Flaw;
 use crate::stop::Stop;
 use crate::wrong::{Refusal, Wrong};
 use client_request::Error;
@@ -13,6 +12,7 @@ use dns_base::NoMemory;
 use std::alloc::Global;
 use std::fmt::{self, Display};
 use zone_records::ApplyFault;
+use zone_text::Flaw;
 use zone_transfer::FetchFault;
 
 /// What is told where memory ran out.
