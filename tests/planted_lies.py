@@ -32,7 +32,7 @@ LIES = [
     ("house.py lines", "README.md", "## License\n", "## License\n\n" + "word " * 40 + "\n", "lines (prose) over 160"),
     ("house.py lines", "docs/WRONG_BODIES.md", "| each trace is right |", f"| {'each trace is right ' * 10}|", "lines (rows) over 160"),
     ("house.py names", "README.md", "`client_core`", "`client_kore`", "`client_kore` stands in no source"),
-    ("house.py names", "docs/PROVED.md", "`IpAddr::from_text`", "`IpAddr::check_stream`", "no file has both sides of `IpAddr::check_stream`"),
+    ("house.py names", "docs/DEFINITIONS.md", "`ResolvConf::parse_line`", "`ResolvConf::check_stream`", "no file has both sides of `ResolvConf::check_stream`"),
     ("house.py files", "docs/MAP.md", "| `dns_names` | `Name.antt` |", "| `dns_names` | `Framer.antt` |", "there is no `Framer.antt`"),
     ("house.py parameters", "crates/dns_names/src/lib.rt", FIRST, f"{FIRST}\nfn lie({', '.join(f'{it}: u8' for it in 'abcdefgh')}) {{}}\n", "has 8 parameters"),
     ("house.py parameters", "tests/house.txt", "parameters client_dgram::send 8", "parameters client_dgram::send 9", "is more than there is"),

@@ -1,6 +1,10 @@
 //! The replay of a list of events, whose trace is right: here the client, which stands on code alone, meets the mathematics
 //! of its runs.
 //!
+//! The trace of a replay is the plain trace of the events handed in, it is **right** and **timely** (below), what is kept
+//! is given, and what has expired serves where servers fail; octets of a stream that come in several events do what they do
+//! in one. By `Client::replay`, of the trait `Replay`.
+//!
 //! ```text
 //! use client_core::Client;
 //! use client_replay::Replay;

@@ -1,5 +1,8 @@
 //! The messages of a lookup: what is asked, and what is written of an answer.
 //!
+//! The message of a request is its header's flags and its one question; whether an answer has no data to write, and why.
+//! Texts are only tested. By `query_of`, `lacking_in`.
+//!
 //! ```text
 //! let query = query_of(alloc, &ask)?;
 //! let text = message_text(alloc, ask.manner.layout, &answer)?;

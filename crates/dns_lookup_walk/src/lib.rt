@@ -15,6 +15,15 @@
 //! ```text
 //! let ending = walk(alloc, &mut world, &ask, servers)?;
 //! ```
+//! - `walk`: `Walked`: the world's deeds are a list of steps and nothing else. Each referral that was heard leads to
+//!   the next step's zone, strictly below its own and at or above the name (`Warrants`); the last step has a final
+//!   answer, or each of its servers failed (`EndsAt`).
+//! - `walk_laws`: steps go strictly down. `received_line`, `silent_line`: exact text.
+//!
+//! # Why it is so
+//!
+//! - **A server that refuses or fails is passed by**, where dig stops, and a referral that doesn't lead strictly down
+//!   is none, where dig follows it.
 #![tactic(auto)]
 
 mod asked;

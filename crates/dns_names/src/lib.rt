@@ -1,4 +1,16 @@
 //! Domain names: owned, and as they stand in a message (RFC 1035 3.1 and 4.1.4).
+//!
+//! A name in a message is what RFC 1035 4.1.4 says, both ways; texts are read exactly, `Long` only where the grammar holds,
+//! and printed so that they are read back; equality ignores case and agrees with the hash. By `name_laws`, `grammar_laws`,
+//! `text_laws`, `Name::from_text`.
+//!
+//! - `Name::lower` leaves the name in lower case (`lowered`), `Name::respell` the one that octets spell, or the root where
+//!   memory is wanting.
+//!
+//! # Why it is so
+//!
+//! - **An owned name has room for 32 octets at first.** Most names have fewer, and so take memory once, in place of once
+//!   more each time that they double.
 #![tactic(auto)]
 
 mod draft;

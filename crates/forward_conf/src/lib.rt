@@ -1,5 +1,10 @@
 //! What a forwarder's program makes of its options and of the configuration that a source gives, and what it tells where it ends.
 //!
+//! What a forwarder's program makes of its options and of a configuration: how its cache is set and how servers are chosen,
+//! by the crate's settings and by those of practice; which servers are asked of a file as it is found, with what is told of
+//! its lines, or why none is; the line, the sentence and the status of each cause of an end. By `cache_of`, `choice_of`,
+//! `conf_asked`, `end_because`, `tell_unasked`.
+//!
 //! ```text
 //! let conf = conf_asked(alloc, &options, &mut source, &mut errors, &mut words)?;
 //! let status = end_because(alloc, listened, port, &mut sink, &mut errors, cause);

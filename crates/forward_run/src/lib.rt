@@ -1,5 +1,29 @@
 //! The caching forwarder as a program: turn by turn its front is polled, the forwarder takes what it gave, and the front does
 //! what is put out.
+//!
+//! The forwarder's program: at status 0 it listened once, told its front the servers that are asked as the options say,
+//! none of which is the forwarder itself, and made just the turns of its words; in each the forwarder took what its front
+//! gave in a poll, or time alone where it gave nothing, at the clock's moment, and the front acted on what was put out, in
+//! order, before it was polled again; the client within made a right trace; the line says how many answers were put out.
+//! Statuses 1 to 5 have their causes, and at 1, 3, 5 and 7 the sentence of one cause of that status stands last in the sink
+//! of errors (`why`), at 2 that of the first wrong word, at 4 that the output failed; at 0 nothing but what is told of the
+//! configuration's lines. Not said: why it ends with 6 or 7, that a sentence stands at 6, and how long the front may wait.
+//! Of a front that doesn't tell what is done with it, as the system's, the deeds of a turn are believed. By `turn`,
+//! `serve`, `serve_as`.
+//!
+//! - **The program** (`serve_as`; `serve` is the same without options): each status with its cause (`Serving.antt`). At
+//!   status 0 none of the servers is the forwarder itself, it listened once, told the front the servers that are asked as
+//!   the options say (`conf_of`), and made just the turns of its words (`IsServed`, `Turned`): each event is what a poll of
+//!   this call gave, or time alone where it gave nothing, at the clock's moment, the front acted on a row's outs in order
+//!   before the next poll, the rows are the forwarder's, and the client within made a right trace, under the settings that
+//!   the options say. Status 5 comes only where the front's count of faults rose, or where one of these servers is an
+//!   address that is listened on, at this very port. Who watches (`Watch`) is told of each turn and has no part in
+//!   anything.
+//!
+//! # Why it is so
+//!
+//! - **Who watches a forwarder is told how many queries wait and how many results are kept**, and not handed the forwarder,
+//!   so that one that is recorded may be watched too.
 #![tactic(auto)]
 
 mod front;

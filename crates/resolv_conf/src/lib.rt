@@ -1,5 +1,9 @@
 //! The configuration of a resolver, as `resolv.conf` has it (resolver(5)).
 //!
+//! The configuration is the fold of its lines' grammar; `finalize` twice is once; printing is exact; files in memory give
+//! exactly their octets; the system's configuration is dropped only at a fault. By `ResolvConf::parse`, `parse_line`,
+//! `finalize`, `Display`.
+//!
 //! It is read from a `Source` or through an `OpenFile`, line by line, and printed. What asks the
 //! servers, and what searches names, is left to others.
 //!
@@ -8,6 +12,15 @@
 //! conf.parse(alloc, &mut source)?;
 //! conf.finalize(alloc)?;
 //! ```
+//!
+//! - The configuration's lines are a grammar over words; `parse` is its fold.
+//!
+//! # Why it is so
+//!
+//! - **`SearchList`** has calls of its own (`from_suffix`, `push_root`) and a vector of its own where `Seq` would serve
+//!   below them.
+//! - **A default without its file.** A file that could not be read is dropped only where the count of faults rose
+//!   (`IsDefaultOf`). Where an opener tells nothing of its files, `default` promises nothing of the result.
 #![tactic(auto)]
 
 mod conf;

@@ -13,6 +13,18 @@
 //!     while let Poll::Ready(part) = transfer.next_part(&mut response) { .. }
 //! }
 //! ```
+//!
+//! - `Transfer::begin`, `Transfer::step`: what is put out, and the connection then, are those of the plain connection
+//!   (`begins`, `steps`); numbers run out only where it has none; `Failed` only after an earlier refusal.
+//! - `Transfer::next_part`: the oldest result that stands, which is then taken.
+//! - `act_all`, `turn`: the edge acts on each out in order; a turn waits until the timer is due, polls once, and steps by
+//!   what came (`IsTurn`).
+//!
+//! # Why it is so
+//!
+//! - **A transfer's connection is held by itself** (`stream_turns`), since a client gives each result as a reply, of which
+//!   a request has one. It is a transport with a board of its own, so that the step of a client serves it as it is.
+//!   `tool_transports` tells the end of a transfer as a reply with `AlreadyDone`.
 #![tactic(auto)]
 
 mod apart;

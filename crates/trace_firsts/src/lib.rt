@@ -1,4 +1,7 @@
 //! Which message came first for a request, of rows that are done.
+//!
+//! Which message came first for a request among rows that are done is decided both ways. By `Firsts`, `came_first`,
+//! `came_earlier`.
 #![tactic(auto)]
 
 mod firsts;

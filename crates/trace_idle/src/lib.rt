@@ -1,4 +1,7 @@
 //! What a forward pass over a trace keeps of how long stream places may be idle.
+//!
+//! So is how long a stream place may be idle, by what its server told last. By `meet_idle`, `idle_of`, `last_told`,
+//! `idle_goes_on`.
 #![tactic(auto)]
 
 mod idle;

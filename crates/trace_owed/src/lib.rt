@@ -1,4 +1,7 @@
 //! What servers still owe a request: whether each has it, and none owes it an answer.
+//!
+//! Whether each server has a request and none owes it an answer is decided both ways; all that may be waited for is kept,
+//! with every trace. By `are_all_done`, `put_exchange`, `exchanges_go_on`.
 #![tactic(auto)]
 
 mod exchanged;

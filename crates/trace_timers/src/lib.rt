@@ -1,4 +1,7 @@
 //! What a forward pass over a trace keeps for the timers of stream places.
+//!
+//! So is since when a stream place is quiet, whatever frames of the newest row count. By `meet_quiet`, `put_quiet`,
+//! `quiet_since`, `quiet_goes_on`.
 #![tactic(auto)]
 
 mod laws;

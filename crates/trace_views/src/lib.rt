@@ -1,4 +1,7 @@
 //! What earlier replies give later requests: views of messages, what messages say that have expired, and errors.
+//!
+//! Whether an earlier reply gives a message, as a view that is valid or as stale, or an error, is decided both ways. By
+//! `is_view`, `is_supplied`, `is_kept_error`.
 #![tactic(auto)]
 
 mod asked;

@@ -6,6 +6,12 @@
 //! ```
 //!
 //! Words stand between white space. A line without words names no zone, nor does one whose first word begins with `#`.
+//! - `zones_of`: a text gives exactly one list of zones with their files and primaries, or the first line that is
+//!   wrong, and why (`one_reading_law`).
+//!
+//! # Why it is so
+//!
+//! - **A list** has at most 16777216 octets, a path at most 4095, and a port is 53 where none is said.
 #![tactic(auto)]
 
 mod fault;

@@ -7,6 +7,16 @@
 //! let mut zones = vec![in alloc; KeptZone::new(2, None, 0); 1]?;
 //! keep_zones(zones.as_mut_slice(), &mut world, u64::MAX);
 //! ```
+//! - `keep_zones`: `AreKept`: over any world the deeds, and the zones that are left, are those of so many turns. A turn
+//!   sleeps until the least moment at which a zone is due, and visits each zone once, in order: it does what the zone's
+//!   machine waits for, dates what comes by the clock, and tells.
+//! - `keeping_laws`: nothing is overslept; a zone is asked for when it is due and not sooner, fetched exactly where the
+//!   serial is greater, told to have expired again only behind a confirmation, and visited once a turn.
+//!
+//! # Why it is so
+//!
+//! - **Turns** visit each zone once, one behind another, so that none starves, and a zone does at most one asking or
+//!   fetching in a visit. Want of memory in one counts as an answer that didn't come.
 #![tactic(auto)]
 
 mod laws;
