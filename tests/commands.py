@@ -1,7 +1,7 @@
 #!/usr/bin/env python3
 """Runs the commands of README.md and docs/OPERATING.md as they stand, and compares what they print with what is shown.
 
-usage: python3 tests/commands.py [--built]
+usage: python3 tests/commands.py [--built | --read]
 
 Commands are the blocks of ```sh, and what a block prints is the block of ```text right behind it; each must end with status 0. One shell runs those of
 a document one behind another, in a folder of links to the repository and with a home of its own, so that nothing is left there but what was
@@ -13,7 +13,7 @@ blocks that name this address are left out, with all behind them, and that is sa
 
 In what is shown <N> stands for a number, <HOME> for the home, and `..` for hexadecimal digits; a line of nothing else is refused. What `run` and
 `tools/install` tell of building is passed by. Programs that are not built are built first, before any proof, some minutes on four processors; with
---built nothing is run then. Status 77 where something was left out, 1 where something is wrong.
+--built nothing is run then, and with --read never. Status 77 where something was left out, 1 where something is wrong.
 """
 
 import os
@@ -120,12 +120,16 @@ def steps_of(document):
     gate = (TOP / ".ci/run").read_text(encoding="utf-8").splitlines()
     for block in BLOCK.finditer(text):
         if block[1] == "sh":
-            steps.append(["\n".join(line for line in block[2].splitlines() if line not in gate), None])
+            steps.append([block[2].rstrip() if block[2].rstrip() not in gate else "", None])
         elif not steps or steps[-1][1] is not None or text[end:block.start()].strip():
             raise Wrong(f"{document}: what is shown stands behind no command: {block[2]}")
         else:
             steps[-1][1] = block[2].splitlines()
         end = block.end()
+    if document == DOCUMENTS[0] and all(step[0] for step in steps):
+        raise Wrong(f"{document}: no block is what .ci/run runs")
+    for line in (line for step in steps for line in step[1] or []):
+        pattern_of(line, "")
     return [step for step in steps if step[0]]
 
 
@@ -168,9 +172,8 @@ def ran(commands, room, seconds):
         return printed.read(), status
 
 
-def run_document(document, room, is_served):
+def run_document(document, steps, room, is_served):
     """Runs a document's blocks. How many were left out."""
-    steps = steps_of(document)
     cut = next((at for at, step in enumerate(steps) if SERVER in step[0]), len(steps))
     kept = steps if is_served else steps[:cut]
     told, _ = ran("\n".join(f"{commands}\nprintf '\\n{MARK} %s\\n' $?" for commands, _ in kept), room, SECONDS)
@@ -192,14 +195,20 @@ def run_table(room):
             raise Wrong(f"README.md: status {status} of {commands}\n{printed}")
 
 
-def build(programs):
-    """Builds what is not built, as many at once as there are processors."""
-    left = [subprocess.Popen([TOP / "run", "--try", "--build", it], stdout=subprocess.DEVNULL) for it in programs]
-    if any([it.wait() for it in left]):
+def build(is_asked):
+    """Builds the programs, unless it is only asked whether they are built. Whether they are."""
+    programs = re.search(r'(?m)^programs="([^"]+)"', (TOP / "tools/install").read_text(encoding="utf-8"))[1].split()
+    if not subprocess.run([TOP / "run", "--try", "--where", *programs], capture_output=True, check=False).returncode:
+        return True
+    if is_asked:
+        return False
+    built = [subprocess.Popen([TOP / "run", "--try", "--build", it], stdout=subprocess.DEVNULL) for it in programs]
+    if any([it.wait() for it in built]):
         raise Wrong("a program was not built")
+    return True
 
 
-def run_all(is_served):
+def run_all(documents, is_served):
     """Runs all commands. How many blocks were left out."""
     with tempfile.TemporaryDirectory() as name:
         room = pathlib.Path(name)
@@ -207,27 +216,27 @@ def run_all(is_served):
             (room / folder).mkdir()
         for path in TOP.iterdir():
             (room / "top" / path.name).symlink_to(path)
-        left = sum(run_document(it, room, is_served) for it in DOCUMENTS)
+        left = sum(run_document(name, steps, room, is_served) for name, steps in documents.items())
         if is_served:
             run_table(room)
         return left
 
 
 def main():
-    if sys.argv[1:] not in ([], ["--built"]):
+    if sys.argv[1:] not in ([], ["--built"], ["--read"]):
         print(__doc__, file=sys.stderr)
         return 2
-    programs = re.search(r'(?m)^programs="([^"]+)"', (TOP / "tools/install").read_text(encoding="utf-8"))[1].split()
     try:
-        if INSIDE not in os.environ:
-            there = subprocess.run([TOP / "run", "--try", "--where", *programs], capture_output=True, check=False)
-            if there.returncode and sys.argv[1:]:
-                return 77
-            build(programs)
-            enter()
-        else:
+        documents = {name: steps_of(name) for name in DOCUMENTS}
+        if sys.argv[1:] == ["--read"]:
+            return 0
+        if INSIDE in os.environ:
             serve()
-        left = run_all(INSIDE in os.environ)
+        elif not build(sys.argv[1:] == ["--built"]):
+            return 77
+        else:
+            enter()
+        left = run_all(documents, INSIDE in os.environ)
     except Wrong as why:
         print(why)
         return 1

@@ -29,6 +29,8 @@ LIES = [
     ("tools/crates --check", "crates.txt", "dns_names: dns_values", "dns_names:", "is not what the crates say"),
     ("documented.py", "README.md", "| 135 ns |", "| 1885 ns |", "the figure 1885"),
     ("documented.py", "docs/SCRIPTS.md", "| `opened", "| `openned", "openned"),
+    ("commands.py --read", "README.md", "```sh\nrt ci\n", "```sh\nrt all check\n", "no block is what .ci/run runs"),
+    ("commands.py --read", "docs/OPERATING.md", "> reply 0 ok ..\n", "..\n", "a line that anything is like"),
     ("house.py lines", "README.md", "## License\n", "## License\n\n" + "word " * 40 + "\n", "lines (prose) over 160"),
     ("house.py lines", "docs/WRONG_BODIES.md", "| each trace is right |", f"| {'each trace is right ' * 10}|", "lines (rows) over 160"),
     ("house.py names", "README.md", "`client_core`", "`client_kore`", "`client_kore` stands in no source"),
