@@ -5,7 +5,8 @@ usage: python3 tests/documented.py
 
 The names of events, outs, faults, errors and settings stand in definitions as `codes "NAME"`, the exit statuses in
 crates/command_parts/src/statuses.rt; each must stand in the tables of the documents, and no other. A figure is a number with its unit, or
-one of thousands, in the table of README.md's "How fast"; it must stand in docs/MEASURED.md in the same digits.
+one of thousands, in the table of README.md's "How fast"; it must stand in docs/MEASURED.md in the same digits. A line of README.md's
+example of the library must stand in that example.
 """
 
 import pathlib
@@ -47,6 +48,13 @@ def unmeasured(readme, measured):
     return [f"README.md: the figure {it} stands in no row of docs/MEASURED.md" for it in sorted(figures("\n".join(table)) - there)]
 
 
+def unquoted(readme):
+    """The lines of README's example that do not stand in the example."""
+    there = (TOP / "crates/example_lookup/src/main.rt").read_text(encoding="utf-8").splitlines()
+    told = re.search(r"(?ms)^```rust\n(.*?)^```$", readme)[1].splitlines()
+    return [f"README.md: the example has no line `{line.strip()}`" for line in told if line not in there]
+
+
 def main():
     scripts = (TOP / "docs/SCRIPTS.md").read_text(encoding="utf-8")
     lines = names(SPECS / "Names.antt", "script_names")
@@ -69,7 +77,8 @@ def main():
     commands = set(re.findall(r"^\| `(\w+)[^`]*` \|", told_of_dnsq, re.M))
     usage = (TOP / "crates/dnsq_run/src/usage.rt").read_text(encoding="utf-8")
     faults += [f"docs/TOOLS.md: no command {it}" for it in sorted(commands) if f'"{it}"' not in usage and it not in usage]
-    faults += unmeasured((TOP / "README.md").read_text(encoding="utf-8"), (TOP / "docs/MEASURED.md").read_text(encoding="utf-8"))
+    readme = (TOP / "README.md").read_text(encoding="utf-8")
+    faults += unmeasured(readme, (TOP / "docs/MEASURED.md").read_text(encoding="utf-8")) + unquoted(readme)
     print(*faults, sep="\n", end="\n" if faults else "")
     return 1 if faults else 0
 

@@ -28,6 +28,7 @@ LIES = [
     ("tools/crates --check", "crates/dns_names/src/lib.rt", "//! Domain names", "//! Names", "is not what the crates say"),
     ("tools/crates --check", "crates.txt", "dns_names: dns_values", "dns_names:", "is not what the crates say"),
     ("documented.py", "README.md", "| 135 ns |", "| 1885 ns |", "the figure 1885"),
+    ("documented.py", "README.md", "    for address in find(", "    for address in found(", "the example has no line"),
     ("documented.py", "docs/SCRIPTS.md", "| `opened", "| `openned", "openned"),
     ("commands.py --read", "README.md", "```sh\nrt ci\n", "```sh\nrt all check\n", "no block is what .ci/run runs"),
     ("commands.py --read", "docs/OPERATING.md", "> reply 0 ok ..\n", "..\n", "a line that anything is like"),
