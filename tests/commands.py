@@ -145,7 +145,7 @@ def compare(document, step, status, printed, home):
     commands, shown = step
     printed = [line for line in printed if not PASSED_BY.match(line)]
     if status != "0":
-        raise Wrong(f"{document}: status {status} of\n{commands}\n" + "\n".join(printed))
+        raise Wrong("\n".join([f"{document}: this ended with status {status}:" if status else f"{document}: no end of this:", commands, *printed]))
     patterns = [pattern_of(line, home) for line in shown or []]
     if shown is not None and (len(patterns) != len(printed) or not all(map(re.fullmatch, patterns, printed))):
         raise Wrong("\n".join([f"{document}: this prints something else than is shown:", commands, "printed:", *printed]))
@@ -178,11 +178,9 @@ def run_document(document, steps, room, is_served):
     kept = steps if is_served else steps[:cut]
     told, _ = ran("\n".join(f"{commands}\nprintf '\\n{MARK} %s\\n' $?" for commands, _ in kept), room, SECONDS)
     ends = re.split(rf"(?m)^{MARK} (\d+)\n", told)
-    for step, printed, status in zip(kept, ends[::2], [*ends[1::2], "none"]):
+    for step, printed, status in zip(kept, ends[::2], [*ends[1::2], None]):
         # The mark begins a line of its own behind what was printed.
         compare(document, step, status, printed.removesuffix("\n").splitlines(), str(room / "home"))
-    if len(ends) // 2 < len(kept):
-        raise Wrong(f"{document}: no end in {SECONDS} seconds: {ends[-1]}")
     return len(steps) - len(kept)
 
 
