@@ -44,7 +44,7 @@ commands() { # what a document gives as a command, and each script, can be read
     local bad=0 line script
     while IFS= read -r line; do
         bash -nc "$line" || { echo "no command: $line"; bad=1; }
-    done < <(sed -nE 's/^    ((\.\/run|rt|bash|python3) .*)/\1/p' README.md docs/*.md)
+    done < <(sed -nE -e '/^```sh$/,/^```$/{/^```/!p;d}' -e 's/^    ((\.\/run|rt|bash|python3) .*)/\1/p' README.md docs/*.md)
     for script in .ci/run tools/install tests/*.sh; do
         bash -n "$script" || bad=1
     done
@@ -104,5 +104,6 @@ check "man pages" pages
 check "units for systemd" units
 check "what the gate costs" cost
 check "a program that measures" measures
+check "what README's and OPERATING's commands print" python3 tests/commands.py --built
 echo "$passed passed, $failed failed, $skipped skipped"
 [ "$failed" -eq 0 ]
