@@ -7,6 +7,7 @@ lines        No line of a document is longer than 160 characters; tools/wrap_doc
 names        A name in backticks in a document stands in a source or in a file's name, and both sides of a `::` in one file.
 files        What the rules of docs/MAP.md name lies in the crate that the row names, in one that the section names, or in the one before the
              slash, and what docs/DEFINITIONS.md names so in that one's specs.
+questions    Where docs/TESTED.md says that a question is answered, the document has what stands between the quotes.
 parameters   A function has at most 7 parameters, `self` among them.
 types        A name is that of two types of the repository at most.
 comments     No comment is "The same." alone.
@@ -142,6 +143,20 @@ def lost_files():
             yield f"file {name}", 1, f"docs/DEFINITIONS.md: there is no `{name}.antt`"
 
 
+def lost_answers():
+    """Each place of an answer that is not there."""
+    rows = read(TOP / "docs/TESTED.md").partition("| Question | Where |\n")[2].partition("\n\n")[0].splitlines()[1:]
+    if not rows:
+        yield "", 1, "docs/TESTED.md: there is no table of questions"
+    for row in rows:
+        for place in row.rpartition(" | ")[2].split(";"):
+            document = re.search(r"[\w/]+\.md", place)
+            text = read(TOP / document[0]) if document else ""
+            for part in re.findall(r'"([^"]+)"', place):
+                if part not in text:
+                    yield "", 1, f"docs/TESTED.md: {document[0] if document else place.strip()} has no `{part}`"
+
+
 def parts_of(text, at):
     """The parameters of a signature, whose generic ones or parentheses begin there."""
     depth, parts, inside = 0, [""], text[at] == "("
@@ -226,6 +241,7 @@ HELD = {
     "lines": (long_lines, ("prose", "rows", "code")),
     "names": (unknown_names, ("name",)),
     "files": (lost_files, ("file",)),
+    "questions": (lost_answers, ()),
     "parameters": (long_signatures, ("parameters",)),
     "types": (shared_names, ("type",)),
     "comments": (empty_comments, ("same",)),

@@ -41,6 +41,7 @@ LIES = [
     ("house.py names", "docs/DEFINITIONS.md", "`ResolvConf::parse_line`", "`ResolvConf::check_stream`", "no file has both sides of `ResolvConf::check_stream`"),
     ("house.py files", "docs/MAP.md", "| `dns_names` | `Name` |", "| `dns_names` | `Framer` |", "there is no `Framer`"),
     ("house.py files", "docs/DEFINITIONS.md", "`dns_names/Name.antt`", "`dns_names/Frames.antt`", "there is no `dns_names/Frames.antt`"),
+    ("house.py questions", "docs/MAP.md", "**Run one test.**", "**A test.**", "has no `Run one test`"),
     ("house.py parameters", "crates/dns_names/src/lib.rt", FIRST, f"{FIRST}\nfn lie({', '.join(f'{it}: u8' for it in 'abcdefgh')}) {{}}\n", "has 8 parameters"),
     ("house.py parameters", "tests/house.txt", "parameters client_dgram::send 8", "parameters client_dgram::send 9", "is more than there is"),
     ("house.py types", "crates/dns_names/src/lib.rt", FIRST, f"{FIRST}\nstruct Answer;\n", "`Answer` is the name of"),
