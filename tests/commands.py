@@ -16,6 +16,7 @@ In what is shown <N> stands for a number, <HOME> for the home, and `..` for hexa
 --built nothing is run then, and with --read never. Status 77 where something was left out, 1 where something is wrong.
 """
 
+import concurrent.futures
 import os
 import pathlib
 import re
@@ -194,14 +195,15 @@ def run_table(room):
 
 
 def build(is_asked):
-    """Builds the programs, unless it is only asked whether they are built. Whether they are."""
+    """Builds the programs, as many at once as there are processors, unless it is only asked whether they are built. Whether they are."""
     programs = re.search(r'(?m)^programs="([^"]+)"', (TOP / "tools/install").read_text(encoding="utf-8"))[1].split()
     if not subprocess.run([TOP / "run", "--try", "--where", *programs], capture_output=True, check=False).returncode:
         return True
     if is_asked:
         return False
-    built = [subprocess.Popen([TOP / "run", "--try", "--build", it], stdout=subprocess.DEVNULL) for it in programs]
-    if any([it.wait() for it in built]):
+    with concurrent.futures.ThreadPoolExecutor(os.cpu_count()) as pool:
+        ends = pool.map(lambda it: subprocess.run([TOP / "run", "--try", "--build", it], stdout=subprocess.DEVNULL, check=False), programs)
+    if any(it.returncode for it in ends):
         raise Wrong("a program was not built")
     return True
 
