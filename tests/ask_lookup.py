@@ -8,9 +8,10 @@ asked the same questions: every type that the zone has, aliases, a name that is 
 outside the zone, an answer that is truncated and comes by TCP, and an address. Of each answer the response code, the flags,
 the counts and the records of each section agree with kdig's up to blanks, and so do the server and the transport that are
 told. `+short` writes the data of kdig's answer section. Then come a port where nobody listens, one where nobody answers, one
-that answers under another id and one that answers another question: each ends with status 5, one sentence on standard
-error, and, but for the two that answer something, a line for each time that the server is named, which says what it brought. Wrong words end with status 2 and a sentence that names the word. A server that is not installed is left out, and that
-is said; without kdig or any server nothing is compared. The first difference ends it with status 1.
+that answers under another id, one that answers another question and one that sends few octets: each ends with status 5, one
+sentence on standard error, and a line for the server, which says how often it was asked and what it brought. Wrong words end
+with status 2 and a sentence that names the word. A server that is not installed is left out, and that is said; without kdig
+or any server nothing is compared. The first difference ends it with status 1.
 """
 
 import json
@@ -77,9 +78,9 @@ ASKED = [["www.example", "A"], ["www.example", "aaaa"], ["alias.example", "A"], 
          ["missing.example", "MX", "+dnssec"], ["A", "IN", "www.example"], ["www.example", "IN", "A"], ["-t", "MX", "example"], ["-tMX", "-qexample", "+nodnssec"]]
 WRONG = [(["@192.0.2.1:53", "example"], "@192.0.2.1:53"), (["-p", "0", "example"], "0"), (["example", "-t", "NOTYPE"], "NOTYPE"),
          (["a..b"], "a..b"), (["example", "@192.0.2.1", "elsewhere"], "elsewhere"), (["example", "NONE"], "NONE"),
-         (["example", "+trace"], "walk from server to server"), (["@::1%lo", "example"], "@::1%lo"), (["example", "+fast"], "+fast"),
+         (["example", "+nssearch"], "start of a zone at each of its servers"), (["@::1%lo", "example"], "@::1%lo"), (["example", "+fast"], "+fast"),
          (["-x", "one"], "one"), (["example", "+tls"], "TLS"), (["-b", "192.0.2.1", "example"], "-b"), (["example", "IXFR=7"], "IXFR=7"),
-         (["example", "+time=0"], "+time=0"), (["example", "AXFR"], "AXFR"), ([], "name"), (["-p"], "-p")]
+         (["example", "+time=601"], "+time=601"), (["example", "AXFR"], "AXFR"), ([], "name"), (["-p"], "-p")]
 # Words by which other flags are set, and parts of a message written.
 LAYOUTS = [["www.example", "A", "+norec"], ["www.example", "A", "+cdflag", "+adflag"], ["example", "SOA", "+nsid", "+dnssec"]]
 
@@ -265,19 +266,23 @@ def unanswered(program):
         lines = said.splitlines()
         expect(lines[0].startswith("dns_lookup: no answer"), "%s: %s" % (what, said))
         told = ["dns_lookup: 127.0.0.1:%d (UDP)%s: %s" % (port, often, brought) for often in [re.search(r"\(UDP\)(, asked \d+ times)?: ", said).group(1) or ""]]
-        expect(lines[1:] == 2 * told, "%s: %s" % (what, said))
+        expect(lines[1:] == told and ", asked " in told[0], "%s: %s" % (what, said))
         expect(took < 4, "%s: it took %.1f s" % (what, took))
         print("%s: %s after %.2f s" % (what, said.strip(), took))
 
     ends("a port where nobody listens", free_port(), "connection refused")
     other_id = lambda octets: bytes([octets[0] ^ 1]) + octets[1:2] + b"\x84\x00" + octets[4:]
     other_name = lambda octets: octets[:2] + b"\x84\x00" + octets[4:13] + b"x" + octets[14:]
-    for what, changed in (("a silent server", None), ("a server with another id", other_id), ("one with another question", other_name)):
+    short = lambda octets: octets[:11]
+    lies = (("a silent server", None, "no answer"), ("a server with another id", other_id, "an answer with another id"),
+            ("one with another question", other_name, "an answer to another question, or one that can't be read"),
+            ("one with few octets", short, "octets that are no message"))
+    for what, changed, brought in lies:
         with socket.socket(socket.AF_INET, socket.SOCK_DGRAM) as server:
             server.bind(("127.0.0.1", 0))
             if changed:
                 threading.Thread(target=lie, args=(server, changed), daemon=True).start()
-            ends(what, server.getsockname()[1], "what came answers another id or question, or can't be read" if changed else "no answer")
+            ends(what, server.getsockname()[1], brought)
 
 
 def wrong_words(program):

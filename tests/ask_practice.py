@@ -332,7 +332,7 @@ def asked_in(program, conf):
     """What is told of a file, and the servers that are asked, in order."""
     ran = beside(conf, [program, "-p", "9", "+time=1", NAME, "A"], alone=True)
     notes = re.findall(r"dns_lookup: /etc/resolv.conf: (.*)\n", ran[2])
-    brought = re.findall(r"dns_lookup: \[?([0-9a-f.:]+?)\]?:9 \((?:UDP|TCP)\): ", ran[2])
+    brought = re.findall(r"dns_lookup: \[?([0-9a-f.:]+?)\]?:9 \((?:UDP|TCP)\)(?:, asked \d+ times)?: ", ran[2])
     return notes, list(dict.fromkeys(brought))
 
 

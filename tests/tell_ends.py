@@ -148,10 +148,13 @@ def lookups(program):
         (["a.test", "@192.0.2.1", "b.test"], "b.test is another name behind a server that stands behind a name, and servers are asked for all names"),
         (["a.test", "AXFR"], "AXFR is no type that one message answers"),
         (["a.test", "NONE"], "NONE is another class than IN, CH and HS"),
-        (["a.test", "+yaml"], "+yaml asks for a text of records that is not written"),
+        (["a.test", "+unknownformat"], "+unknownformat asks for a text of records that is not written"),
+        (["a.test", "+ndots=65536"], "+ndots=65536 gives no count of dots from 0 to 65535"),
+        (["a.test", "+domain=a..b"], "+domain=a..b gives no suffix by +domain=NAME"),
         (["@192.0.2.1:53", "a.test"], "@192.0.2.1:53 names no server: it is no address, and no name whose address is found"),
     ):
         expect(words, ran(program, words), (2, "", f"dns_lookup: {said}{see}"))
+    expect("a recorded walk", ran(program, ["--record", "/dev/full", "+trace", "a.test"]), (2, "", "dns_lookup: +trace is not recorded\n"))
 
 
 def main():

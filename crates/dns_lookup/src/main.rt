@@ -2,6 +2,8 @@
 #![tactic(auto)]
 
 mod named_servers;
+mod root_walk;
+mod walked_world;
 
 use client_edge::{ConfFile, FileOpener, RandWords, RealClock, SocketEdge, command_words};
 use command_parts::{end_by, statuses};
@@ -14,6 +16,7 @@ use dns_values::{NoMemory, Status, StdSink};
 use named_servers::with_addresses;
 use rand::rngs::StdRng;
 use record_file::{RecordFile, record_of};
+use root_walk::{ended_by, walk_all, walk_of};
 use std::alloc::Global;
 use std::io::Stderr;
 use std::process::ExitCode;
@@ -64,6 +67,9 @@ fn ask(
         return tell_no_random(errors);
     };
     let (file, words) = record_of(words);
+    if let Some(lookup) = walk_of(rt.alloc(), words) {
+        return walk_all(rt, &lookup, file.is_some(), errors, &mut random);
+    }
     if let Some(file) = file {
         return match String::from_str(rt.alloc(), file) {
             Ok(file) => ask_recorded(rt, file, words, errors, edge, clock, &mut random),
@@ -80,10 +86,7 @@ fn ask(
         &mut WatchedClock::new(clock),
         &mut random,
     );
-    if status == statuses::NO_MEMORY {
-        tell_no_memory(errors);
-    }
-    status
+    ended_by(status, errors)
 }
 
 /// That a file of words could not be read.

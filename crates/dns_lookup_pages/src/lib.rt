@@ -11,6 +11,7 @@
 //! How a request is sent and what else is told of its answer is `dns_lookup_run`'s.
 #![tactic(auto)]
 
+mod data;
 mod json;
 mod json_messages;
 mod lines;
@@ -18,8 +19,10 @@ mod message;
 mod query;
 mod short;
 mod span;
+mod yaml;
 
 pub use json_messages::json_text;
 pub use message::message_text;
 pub use query::query_of;
 pub use short::{Lacking, lacking_in, short_text};
+pub use yaml::yaml_text;

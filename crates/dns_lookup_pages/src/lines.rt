@@ -1,8 +1,10 @@
-//! Records on several lines (RFC 1035 5.1).
+//! Records in lines, as a layout has them (RFC 1035 5.1).
 
-use crate::span::Span;
+use crate::data::data_text;
+use crate::span::{Span, Units};
 use dns_base::{NoMemory, Record, RecordData, Rtype};
-use dns_presentation::{Absolute, Presentation, ShownData};
+use dns_lookup_words::Layout;
+use dns_presentation::Absolute;
 use std::alloc::Global;
 
 /// What begins a line that goes on with a record.
@@ -11,13 +13,34 @@ const INDENT: &str = "\n\t\t\t\t";
 /// From how many octets on data is put on several lines.
 const LONG: usize = 60;
 
-/// The owner, the seconds that it may be kept, the class and the type, with a blank or a tab behind each.
-fn front(alloc: Global, record: &Record<'_>) -> Result<String, NoMemory> {
-    let owner = record.owner();
+/// For how long a record may be kept, with a tab behind it, if a layout has that.
+fn ttl_text(alloc: Global, layout: Layout, record: &Record<'_>) -> Result<String, NoMemory> {
     let ttl = record.ttl().0;
+    if !layout.ttl {
+        return Ok(String::new(alloc));
+    }
+    if layout.units {
+        return Ok(format!(in alloc; "{}\t", Units(ttl))?);
+    }
+    Ok(format!(in alloc; "{ttl}\t")?)
+}
+
+/// The class of a record, with a tab behind it, if a layout has that.
+fn class_text(alloc: Global, layout: Layout, record: &Record<'_>) -> Result<String, NoMemory> {
+    if !layout.class {
+        return Ok(String::new(alloc));
+    }
     let class = record.class();
+    Ok(format!(in alloc; "{class}\t")?)
+}
+
+/// The owner, what a layout has of how long the record may be kept and of its class, and the type, with a tab behind each.
+fn front(alloc: Global, layout: Layout, record: &Record<'_>) -> Result<String, NoMemory> {
+    let owner = record.owner();
     let rtype = record.rtype();
-    Ok(format!(in alloc; "{}\t{ttl}\t{class}\t{rtype}\t", Absolute(&owner))?)
+    let ttl = ttl_text(alloc, layout, record)?;
+    let class = class_text(alloc, layout, record)?;
+    Ok(format!(in alloc; "{}\t{ttl}{class}{rtype}\t", Absolute(&owner))?)
 }
 
 /// A line of a number of seconds, and what it means.
@@ -34,7 +57,11 @@ fn push_seconds(
 }
 
 /// The start of a zone, a line for each of its numbers; none of other data.
-fn start_of_zone(alloc: Global, record: &Record<'_>) -> Result<Option<String>, NoMemory> {
+fn start_of_zone(
+    alloc: Global,
+    layout: Layout,
+    record: &Record<'_>,
+) -> Result<Option<String>, NoMemory> {
     let Ok(
         RecordData::Soa {
             mname,
@@ -49,7 +76,7 @@ fn start_of_zone(alloc: Global, record: &Record<'_>) -> Result<Option<String>, N
     else {
         return Ok(None);
     };
-    let mut text = front(alloc, record)?;
+    let mut text = front(alloc, layout, record)?;
     let serial = serial.0;
     let names = format!(in alloc;
         "{} {} ({INDENT}{serial}\t; serial",
@@ -76,8 +103,13 @@ fn is_of_long_words(rtype: Rtype) -> bool {
 }
 
 /// The record with each word of its data on a line of its own.
-fn folded(alloc: Global, record: &Record<'_>, shown: &str) -> Result<String, NoMemory> {
-    let mut text = front(alloc, record)?;
+fn folded(
+    alloc: Global,
+    layout: Layout,
+    record: &Record<'_>,
+    shown: &str,
+) -> Result<String, NoMemory> {
+    let mut text = front(alloc, layout, record)?;
     text.push('(')?;
     for word in shown.split(' ') {
         text.push_str(INDENT)?;
@@ -88,14 +120,42 @@ fn folded(alloc: Global, record: &Record<'_>, shown: &str) -> Result<String, NoM
     Ok(text)
 }
 
-/// A record in presentation form: the start of a zone and long data of words without quotes on several lines, any other on one.
-pub(crate) fn record_text(alloc: Global, record: &Record<'_>) -> Result<String, NoMemory> {
-    if let Some(text) = start_of_zone(alloc, record)? {
-        return Ok(text);
+/// A record on a line.
+fn on_a_line(alloc: Global, layout: Layout, record: &Record<'_>) -> Result<String, NoMemory> {
+    let mut text = front(alloc, layout, record)?;
+    let shown = data_text(alloc, layout, record)?;
+    text.push_str(shown.as_str())?;
+    text.push('\n')?;
+    Ok(text)
+}
+
+/// A record on several lines, if it is the start of a zone, or its data is long and of words without quotes.
+fn on_lines(
+    alloc: Global,
+    layout: Layout,
+    record: &Record<'_>,
+) -> Result<Option<String>, NoMemory> {
+    if let Some(text) = start_of_zone(alloc, layout, record)? {
+        return Ok(Some(text));
     }
-    let shown = ShownData(record).to_string(alloc)?;
-    if is_of_long_words(record.rtype()) && shown.len() > LONG {
-        return folded(alloc, record, shown.as_str());
+    let shown = data_text(alloc, layout, record)?;
+    if !is_of_long_words(record.rtype()) || shown.len() <= LONG {
+        return Ok(None);
     }
-    Ok(format!(in alloc; "{}\n", record.presentation())?)
+    let text = folded(alloc, layout, record, shown.as_str())?;
+    Ok(Some(text))
+}
+
+/// A record in presentation form: on several lines, where a layout has that and it is long, or on one.
+pub(crate) fn record_text(
+    alloc: Global,
+    layout: Layout,
+    record: &Record<'_>,
+) -> Result<String, NoMemory> {
+    if layout.multiline {
+        if let Some(text) = on_lines(alloc, layout, record)? {
+            return Ok(text);
+        }
+    }
+    on_a_line(alloc, layout, record)
 }

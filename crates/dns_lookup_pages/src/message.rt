@@ -48,9 +48,10 @@ fn is_extension(record: &Record<'_>) -> bool {
     matches!(record.data(), Ok(RecordData::Opt(_)))
 }
 
-/// Adds the records of a section, each on several lines where one would be long.
+/// Adds the records of a section.
 fn push_records(
     alloc: Global,
+    layout: Layout,
     text: &mut String,
     records: Result<RecordSection<'_>, ParseError>,
 ) -> Result<(), NoMemory> {
@@ -63,11 +64,16 @@ fn push_records(
             return Ok(());
         };
         if !is_extension(&record) {
-            let lines = record_text(alloc, &record)?;
+            let lines = record_text(alloc, layout, &record)?;
             text.push_str(lines.as_str())?;
         }
     }
     Ok(())
+}
+
+/// Whether records are written otherwise than the presentation form of a message has them.
+fn is_of_own_lines(layout: Layout) -> bool {
+    layout.multiline || !layout.ttl || !layout.class || layout.units || layout.expanded
 }
 
 /// A message's text as it grows, line by line.
@@ -80,19 +86,20 @@ struct Lines {
 }
 
 impl Lines {
-    /// Whether the records of this part are written on several lines, each by itself.
-    fn is_folded(&self) -> bool {
-        self.layout.multiline && !matches!(self.part, Part::Head | Part::Question)
+    /// Whether the records of this part are written by themselves.
+    fn has_own_lines(&self) -> bool {
+        is_of_own_lines(self.layout) && !matches!(self.part, Part::Head | Part::Question)
     }
 
-    /// The records of this part, each by itself.
-    fn push_folded(&mut self, message: &Message) -> Result<(), NoMemory> {
-        match self.part {
-            Part::Head | Part::Question => Ok(()),
-            Part::Answer => push_records(self.alloc, &mut self.text, message.answer()),
-            Part::Authority => push_records(self.alloc, &mut self.text, message.authority()),
-            Part::Additional => push_records(self.alloc, &mut self.text, message.additional()),
-        }
+    /// Adds the records of this part, each by itself.
+    fn push_own(&mut self, message: &Message) -> Result<(), NoMemory> {
+        let records = match self.part {
+            Part::Head | Part::Question => return Ok(()),
+            Part::Answer => message.answer(),
+            Part::Authority => message.authority(),
+            Part::Additional => message.additional(),
+        };
+        push_records(self.alloc, self.layout, &mut self.text, records)
     }
 
     /// Begins a part, by its title.
@@ -106,8 +113,8 @@ impl Lines {
             self.text.push_str(title)?;
             self.text.push('\n')?;
         }
-        if self.is_folded() {
-            return self.push_folded(message);
+        if self.has_own_lines() {
+            return self.push_own(message);
         }
         Ok(())
     }
@@ -117,7 +124,7 @@ impl Lines {
         if let Some(part) = title_of(line) {
             return self.begin(part, line, message);
         }
-        if line.is_empty() || !is_written(self.part, self.layout) || self.is_folded() {
+        if line.is_empty() || !is_written(self.part, self.layout) || self.has_own_lines() {
             return Ok(());
         }
         self.text.push_str(line)?;

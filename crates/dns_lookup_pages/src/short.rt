@@ -3,8 +3,9 @@
 ghost use Rattle.std.specs.Prelude.{◌≡◌};
 ghost use Rattle.dns_lookup_pages.specs.Lacking.{lacking_in};
 
+use crate::data::data_text;
 use dns_base::{Message, NoMemory, Rcode};
-use dns_presentation::ShownData;
+use dns_lookup_words::Layout;
 use std::alloc::Global;
 
 /// Why an answer has no data to write.
@@ -37,7 +38,12 @@ pub fn lacking_in(message: &Message) -> Option<Lacking>
 }
 
 /// The data of the records of the answer section, one line each with this behind it, up to the first that can't be read.
-pub fn short_text(alloc: Global, message: &Message, behind: &str) -> Result<String, NoMemory> {
+pub fn short_text(
+    alloc: Global,
+    layout: Layout,
+    message: &Message,
+    behind: &str,
+) -> Result<String, NoMemory> {
     let mut text = String::new(alloc);
     let Ok(records) = message.answer() else {
         return Ok(text);
@@ -46,7 +52,8 @@ pub fn short_text(alloc: Global, message: &Message, behind: &str) -> Result<Stri
         let Ok(record) = record else {
             break;
         };
-        text.push_str(&ShownData(&record).to_string(alloc)?)?;
+        let data = data_text(alloc, layout, &record)?;
+        text.push_str(data.as_str())?;
         text.push_str(behind)?;
         text.push('\n')?;
     }

@@ -1,4 +1,4 @@
-//! Lengths of time in words.
+//! Lengths of time in words and in units.
 
 use std::fmt::{self, Display};
 
@@ -39,5 +39,30 @@ impl Display for Span {
         } else {
             f.write_str("0 seconds")
         }
+    }
+}
+
+/// So many seconds in the units that a zone file may have, as `1w2d3h4m5s`.
+#[derive(Clone, Copy)]
+pub(crate) struct Units(pub(crate) u32);
+
+fn write_unit<W: fmt::Write>(count: u32, unit: char, f: &mut fmt::Formatter<W>) -> fmt::Result {
+    if count == 0 {
+        return Ok(());
+    }
+    write!(f, "{count}{unit}")
+}
+
+impl Display for Units {
+    fn fmt<W: fmt::Write>(&self, f: &mut fmt::Formatter<W>) -> fmt::Result {
+        let seconds = self.0;
+        if seconds == 0 {
+            return f.write_str("0s");
+        }
+        write_unit(seconds / 604_800, 'w', f)?;
+        write_unit(seconds / 86_400 % 7, 'd', f)?;
+        write_unit(seconds / 3600 % 24, 'h', f)?;
+        write_unit(seconds / 60 % 60, 'm', f)?;
+        write_unit(seconds % 60, 's', f)
     }
 }

@@ -1,8 +1,10 @@
 -- What a lookup ends with, by what its requests came to.
-use Rattle.std.proofs.Common.{◌≡◌, ◌≢◌, ◌⊎◌, ◌+◌, ◌<◌, ◌≤◌, ◌++◌, ℕ, Bool, true, false, List, [], ◌∷◌, length, map, refl, ap, sym, subst, ◌∙◌, inl, inr, arith, append_assoc, append-nil, length-append, Option, None, Some, Result, Ok, Err}
+use Rattle.std.proofs.Common.{◌≡◌, ◌≢◌, ◌⊎◌, ◌+◌, ◌<◌, ◌≤◌, ◌++◌, ◌==◌, ◌&&◌, not, if◌then◌else◌, ℕ, suc, Bool, true, false, List, [], ◌∷◌, length, map, refl, ap, sym, subst, ◌∙◌, inl, inr, arith, append-nil, length-append, lit≤, Option, None, Some, Result, Ok, Err}
 use Rattle.std.proofs.lemmas.List.Elements.{All-append, All-cons, All-nil}
+use Rattle.std.proofs.lemmas.Bool.{false≢true}
+use Rattle.std.proofs.lemmas.Bool.Decides.{nat_tests}
 use Rattle.std.specs.List.{All}
-use Rattle.std.specs.Prelude.{IfOk, IfSome, IsErrOf}
+use Rattle.std.specs.Prelude.{nat_lt, IfOk, IfSome, IsErrOf}
 use Rattle.client_core.specs.declared.edge.Deed.{Deed}
 use Rattle.client_core.specs.declared.edge.Deed.TheVariants.{Learned}
 use Rattle.client_loop.specs.Asking.{IsAnswered, Scene, rows_of, scene}
@@ -18,15 +20,21 @@ use Rattle.dns_lookup_pages.specs.declared.short.Lacking.{Lacking}
 use Rattle.dns_lookup_pages.specs.declared.short.Lacking.TheVariants as lacks
 use Rattle.dns_record.specs.Asking.{IsAnsweredAnd}
 use Rattle.dns_values.specs.Source.{Rose}
-use Rattle.dns_lookup_run.specs.Reports.{reports_text, tells, told_of}
+use Rattle.dns_lookup_run.specs.Reports.{tells, told_of}
 use Rattle.dns_lookup_run.specs.Worlds.{World, begun, is_message, said}
 use Rattle.dns_lookup_run.specs.declared.watched_edge.Opened.{Opened}
 use Rattle.resolv_conf.specs.declared.server.ServerConf.{ServerConf}
 use Rattle.resolv_conf.specs.declared.conf.ResolvConf.{ResolvConf}
-use Rattle.dns_lookup_run.specs.Asking.{Answer, AreAnswered, Brought, Gave, HasBegun, IsAskedFor, Stopped, all_asked, first_lack, lack_in, lack_of, one_asked, or_lack, request_for}
-use Rattle.dns_lookup_run.specs.Ends.{EndsSo, HasPage, IsAnsweredInPart, IsAnsweredWhole, IsDone, IsOfAsking, IsOfLack, IsOfRequest, IsStopped, IsUnanswered, LackTold, TellsWhy}
+use Rattle.dns_lookup_run.specs.Asking.{Answer, AreAnswered, Brought, Gave, HasBegun, Stopped, all_asked, lack_in, lack_of, one_asked, or_lack, request_for}
+use Rattle.dns_lookup_run.specs.Ends.{EndsSo, HasPage, IsDone, IsOfAsking, IsOfLack, IsOfRequest, LackTold, TellsWhy}
 use Rattle.dns_lookup_run.specs.Making.{AreMade, IsMadeFor, none_made, one_made}
+use Rattle.dns_lookup_run.specs.Search.{names_of, searched_names, suffixes_in, tries_by, tries_of}
+use Rattle.dns_lookup_run.specs.declared.search.Try.{Try}
+use Rattle.resolv_lookup.specs.Search.{chained}
+use Rattle.resolv_conf.specs.declared.options.ResolvOptions.{ResolvOptions}
+use Rattle.dns_names.specs.Name.{Labels}
 use Rattle.dns_lookup_run.specs.Sentences.{answer_text, lack_status, lack_text}
+use Rattle.dns_lookup_run.specs.Walks.{Walks, behind_tries, is_no_name, passes_by, passes_of, walk_begins, walk_passes, walk_tells}
 use Rattle.dns_lookup_run.specs.declared.asking.Outcome.{Outcome}
 use Rattle.dns_lookup_words.specs.declared.lookup.Lookup.{Lookup}
 use Rattle.dns_lookup_words.specs.declared.manner.Ask.{Ask}
@@ -56,19 +64,47 @@ answered_more _ k _ _ ask answer _ _ new is (one_asked m first more reply replie
     let next : k ≡ m + 1 + length more = omega (arith, is) in
     one_asked m first (more ++ ask ∷ []) reply (replies ++ answer ∷ []) old mid new one (answered_more (m + 1) k more replies ask answer mid end new next rest h)
 
-or_none : (lack : Option Lacking) → or_lack lack None ≡ lack
-or_none None = refl
-or_none (Some lack) = refl
+-- what is passed by is a message, and behind it stands another try
+both_true : (a b : Bool) → (a && b) ≡ true → (a ≡ true) × (b ≡ true)
+both_true true b h = (refl, h)
+both_true false b h = absurd (false≢true h)
 
-or_assoc : (a b c : Option Lacking) → or_lack a (or_lack b c) ≡ or_lack (or_lack a b) c
-or_assoc None b c = refl
-or_assoc (Some lack) b c = refl
+no_name_message : (answer : Answer) → is_no_name answer ≡ true → is_message answer ≡ true
+no_name_message (Some (Ok message)) h = refl
+no_name_message (Some (Err error)) h = absurd (false≢true h)
+no_name_message None h = absurd (false≢true h)
 
-lack_more : (n : ℕ) (asks : List Ask) (answers : List Answer) (ask : Ask) (answer : Answer) (old mid : Scene) → AreAnswered n asks answers old mid
-    → first_lack (asks ++ ask ∷ []) (answers ++ answer ∷ []) ≡ or_lack (first_lack asks answers) (lack_in ask answer)
-lack_more _ _ _ ask answer _ _ (all_asked n s) = or_none (lack_in ask answer)
-lack_more _ _ _ ask answer _ _ (one_asked n first more reply replies old mid end one rest) =
-    ap (λ (l : Option Lacking). or_lack (lack_in first reply) l) (lack_more (n + 1) more replies ask answer mid end rest) ∙ or_assoc (lack_in first reply) (first_lack more replies) (lack_in ask answer)
+pub passed_message : (one : Try) (later : List Try) (came : Result Outcome Error) → passes_of one later came ≡ true → Brought true came
+passed_message one later (Ok o) h = no_name_message o.answer (both_true (one.more && not (length later == 0)) (is_no_name o.answer) h).1
+passed_message one later (Err e) h = absurd (false≢true h)
+
+some_left : (later : List Try) → not (length later == 0) ≡ true → 0 < length later
+some_left later h = grind (arith, nat_tests)
+
+pub passed_left : (one : Try) (later : List Try) (came : Result Outcome Error) → passes_of one later came ≡ true → 0 < length later
+passed_left one later (Ok o) h =
+    some_left later (both_true one.more (not (length later == 0)) (both_true (one.more && not (length later == 0)) (is_no_name o.answer) h).0).1
+passed_left one later (Err e) h = absurd (false≢true h)
+
+-- what is left behind tries is no more
+pub behind_fewer : (more : Bool) (later : List Try) → length (behind_tries more later) ≤ length later
+behind_fewer false later = omega arith
+behind_fewer true [] = lit≤ tt
+behind_fewer true (one ∷ later) = omega (arith, behind_fewer one.more later)
+
+pub some_of : (rest tries : List Try) → rest ≡ tries → 0 < length tries → 0 < length rest
+some_of rest tries is some = omega (arith, ap length is, some)
+
+-- one is asked, and so many are left
+pub one_less : (number all : ℕ) (rest : List Try) (one : Try) (later : List Try) → rest ≡ one ∷ later → number + length rest ≤ all → number + 1 + length later ≤ all
+one_less number all rest one later is counted = let long : length rest ≡ suc (length later) = ap length is in omega (arith, long, counted)
+
+pub one_less_behind : (number all : ℕ) (rest : List Try) (one : Try) (later left : List Try) → rest ≡ one ∷ later → left ≡ behind_tries one.more later
+    → number + length rest ≤ all → number + 1 + length left ≤ all
+one_less_behind number all rest one later left is behind counted =
+    let long : length rest ≡ suc (length later) = ap length is in
+    let same : length left ≡ length (behind_tries one.more later) = ap length behind in
+    omega (arith, long, same, behind_fewer one.more later, counted)
 
 module _ {A : Type 0} (made : A → Whole → List Row → A → Whole → Type 0) where
   made_more : (n k : ℕ) (asks : List Ask) (answers : List Answer) (rows : List Row) (ask : Ask) (answer : Answer) (a b c : A) (old mid new : Scene) → k ≡ n + length asks
@@ -87,27 +123,48 @@ module _ {A : Type 0} (made : A → Whole → List Row → A → Whole → Type 
       (all, one_made m first (more ++ ask ∷ []) reply (replies ++ answer ∷ []) r.0 all a x c old mid new one r.1 refl)
 
 -- what is so before the next of all asks: these are left, this many were asked, and the first answer without data was this
-pub record SoFar {A : Type 0} (made : A → Whole → List Row → A → Whole → Type 0) (all : List Ask) (conf : ResolvConf) (old : World) (first : A) (rest : List Ask) (number : ℕ) (lack : Option Lacking) (last : A) (at : Scene) : Type 0 where
+pub record SoFar {A : Type 0} (made : A → Whole → List Row → A → Whole → Type 0) (all : List Try) (conf : ResolvConf) (old : World) (first : A) (rest : List Try) (number : ℕ) (lack : Option Lacking) (last : A) (at : Scene) : Type 0 where
   pub asks : List Ask
   pub answers : List Answer
   pub rows : List Row
   pub waits : Option (List ℕ)
-  pub all_is : all ≡ asks ++ rest
+  pub walks : Walks all asks answers lack rest
   pub count : number ≡ length asks
   pub answered : AreAnswered 0 asks answers (begun conf old waits) at
   pub are_made : AreMade made 0 asks answers rows first last (begun conf old waits) at
   pub messages : All (λ (answer : Answer). is_message answer ≡ true) answers
-  pub lack_is : lack ≡ first_lack asks answers
 
 -- the same where the first that is left is named
-pub at_first : {A : Type 0} (made : A → Whole → List Row → A → Whole → Type 0) (all : List Ask) (conf : ResolvConf) (old : World) (first : A) (rest : List Ask) (ask : Ask) (later : List Ask) (number : ℕ) (lack : Option Lacking) (last : A) (at : Scene)
-    → rest ≡ ask ∷ later → SoFar made all conf old first rest number lack last at → SoFar made all conf old first (ask ∷ later) number lack last at
-at_first made all conf old first rest ask later number lack last at is so = subst (λ (asks : List Ask). SoFar made all conf old first asks number lack last at) is so
+pub at_first : {A : Type 0} (made : A → Whole → List Row → A → Whole → Type 0) (all : List Try) (conf : ResolvConf) (old : World) (first : A) (rest : List Try) (one : Try) (later : List Try) (number : ℕ) (lack : Option Lacking) (last : A) (at : Scene)
+    → rest ≡ one ∷ later → SoFar made all conf old first rest number lack last at → SoFar made all conf old first (one ∷ later) number lack last at
+at_first made all conf old first rest one later number lack last at is so = subst (λ (left : List Try). SoFar made all conf old first left number lack last at) is so
 
--- where asks were asked for, what holds behind each of them holds
-pub some_hold : (number left all : ℕ) (P : Type 0) → number + left ≡ all → left ≡ 0 → 0 < all → (number ≡ 0) ⊎ P → P
-some_hold number left all P counted none some (inl zero) = absurd (omega (arith, counted, none, some, zero))
-some_hold number left all P counted none some (inr holds) = holds
+-- where none is left, what holds behind each that was told holds
+pub none_left : (left : ℕ) (P : Type 0) → left ≡ 0 → (0 < left) ⊎ P → P
+none_left left P none (inl some) = absurd (omega (arith, none, some))
+none_left left P none (inr holds) = holds
+
+-- in place of an ask one is tried at least
+one_of : (b : Bool) (x y : List Labels) → 0 < length x → 0 < length y → 0 < length (if b then x else y)
+one_of true x y h k = h
+one_of false x y h k = k
+
+searched_some : (options : ResolvOptions) (name : Labels) → 0 < length (searched_names options name)
+searched_some options name =
+    one_of (nat_lt options.ndots (length name)) (name ∷ chained name (suffixes_in options.search)) (chained name (suffixes_in options.search) ++ name ∷ []) (omega arith)
+    (omega (arith, length-append (chained name (suffixes_in options.search)) (name ∷ [])))
+
+names_some : (searched : Bool) (options : ResolvOptions) (ask : Ask) → 0 < length (names_of searched options ask)
+names_some searched options ask = one_of (searched && not ask.rooted) (searched_names options ask.name) (ask.name ∷ []) (searched_some options ask.name) (omega arith)
+
+tries_by_some : (ask : Ask) (names : List Labels) → 0 < length names → 0 < length (tries_by ask names)
+tries_by_some ask [] some = absurd (omega (arith, some))
+tries_by_some ask (name ∷ names) some = omega arith
+
+pub tries_some : (searched : Bool) (options : ResolvOptions) (asks : List Ask) → 0 < length asks → 0 < length (tries_of searched options asks)
+tries_some searched options [] some = absurd (omega (arith, some))
+tries_some searched options (ask ∷ asks) some =
+    omega (arith, length-append (tries_by ask (names_of searched options ask)) (tries_of searched options asks), tries_by_some ask (names_of searched options ask) (names_some searched options ask))
 
 -- statuses that are others
 six_not_done : IsDone 6 → ⊥
@@ -185,21 +242,25 @@ IsMessage answer = is_message answer ≡ true
 with_message : (answers : List Answer) (answer : Answer) → All IsMessage answers → is_message answer ≡ true → All IsMessage (answers ++ answer ∷ [])
 with_message answers answer all is = All-append IsMessage answers (answer ∷ []) all (All-cons IsMessage answer [] is (All-nil IsMessage))
 
-split_more : (all asks later : List Ask) (ask : Ask) → all ≡ asks ++ ask ∷ later → all ≡ (asks ++ ask ∷ []) ++ later
-split_more all asks later ask is = is ∙ sym (append_assoc asks (ask ∷ []) later)
-
 -- an outcome with a message, or with none
-came : (ask : Ask) (n : ℕ) (message : Bool) (outcome : Result Outcome Error) (old new : Scene)
-    → IfOk outcome (λ o. Gave ask n o.answer old new) → Brought message outcome → (answer : Answer) × (is_message answer ≡ message) × Gave ask n answer old new
-came ask n message (Ok o) old new gave brought = (o.answer, brought, gave)
-came ask n message (Err e) old new gave brought = absurd brought
+came : (one : Try) (later : List Try) (n : ℕ) (message : Bool) (outcome : Result Outcome Error) (old new : Scene) → passes_of one later outcome ≡ false
+    → IfOk outcome (λ o. Gave one.ask n o.answer old new) → Brought message outcome
+    → (answer : Answer) × (is_message answer ≡ message) × Gave one.ask n answer old new × (passes_by one later answer ≡ false)
+came one later n message (Ok o) old new passes gave brought = (o.answer, brought, gave, passes)
+came one later n message (Err e) old new passes gave brought = absurd brought
 
 -- an outcome without a message, and what is told of it
-failed : (ask : Ask) (n : ℕ) (Told : List ℕ → Type 0) (outcome : Result Outcome Error) (old new : Scene)
-    → IfOk outcome (λ o. Gave ask n o.answer old new) → Brought false outcome → IfOk outcome (λ o. Told (answer_text o.answer))
-    → (answer : Answer) × (is_message answer ≡ false) × Gave ask n answer old new × Told (answer_text answer)
-failed ask n Told (Ok o) old new gave brought said = (o.answer, brought, gave, said)
-failed ask n Told (Err e) old new gave brought said = absurd brought
+failed : (one : Try) (later : List Try) (n : ℕ) (Told : List ℕ → Type 0) (outcome : Result Outcome Error) (old new : Scene) → passes_of one later outcome ≡ false
+    → IfOk outcome (λ o. Gave one.ask n o.answer old new) → Brought false outcome → IfOk outcome (λ o. Told (answer_text o.answer))
+    → (answer : Answer) × (is_message answer ≡ false) × Gave one.ask n answer old new × Told (answer_text answer) × (passes_by one later answer ≡ false)
+failed one later n Told (Ok o) old new passes gave brought said = (o.answer, brought, gave, said, passes)
+failed one later n Told (Err e) old new passes gave brought said = absurd brought
+
+-- what holds of an outcome that is not passed by
+with_told : (one : Try) (later : List Try) (came : Result Outcome Error) (P : Outcome → Type 0) → passes_of one later came ≡ false → IfOk came P
+    → IfOk came (λ o. P o × (passes_by one later o.answer ≡ false))
+with_told one later (Ok o) P passes h = (h, passes)
+with_told one later (Err e) P passes h = h
 
 -- where it was told of an outcome, there is one
 told_of_one : (came : Result Outcome Error) (n : ℕ) (P : Outcome → Type 0) → IsOfRequest n → (HasPage n → Brought true came) → (n ≡ 5 → Brought false came) → n ≢ 6 → n ≢ 7
@@ -217,8 +278,8 @@ told_alone held faults servers old new line h = ([], subst (λ (l : List ℕ). s
 
 module _ {A : Type 0} (made : A → Whole → List Row → A → Whole → Type 0) (lookup : Lookup) (conf : ResolvConf) (old : World) (first : A) where
   -- nothing was asked yet
-  pub so_begins : (client : Whole) (deeds : Option (List Deed)) (waits : Option (List ℕ)) (polls : ℕ) (rest : List Ask) → HasBegun conf client old.deeds deeds old.polls polls → rest ≡ lookup.asks
-      → SoFar made lookup.asks conf old first rest 0 None first (leaves client old deeds waits polls)
+  pub so_begins : (client : Whole) (deeds : Option (List Deed)) (waits : Option (List ℕ)) (polls : ℕ) (rest : List Try) → HasBegun conf client old.deeds deeds old.polls polls → rest ≡ tries_of lookup.search conf.options lookup.asks
+      → SoFar made (tries_of lookup.search conf.options lookup.asks) conf old first rest 0 None first (leaves client old deeds waits polls)
   so_begins client deeds waits polls rest begin is =
       let at : begun conf old waits ≡ leaves client old deeds waits polls = sym (begins conf client old deeds waits polls begin) in
       record {
@@ -226,101 +287,122 @@ module _ {A : Type 0} (made : A → Whole → List Row → A → Whole → Type 
         answers = [];
         rows = [];
         waits = waits;
-        all_is = sym is;
+        walks = subst (λ (left : List Try). Walks (tries_of lookup.search conf.options lookup.asks) [] [] None left) (sym is) walk_begins;
         count = refl;
         answered = subst (λ (s : Scene). AreAnswered 0 [] [] (begun conf old waits) s) at (all_asked 0 (begun conf old waits));
         are_made = subst (λ (s : Scene). AreMade made 0 [] [] [] first first (begun conf old waits) s) at (none_made 0 first (begun conf old waits));
         messages = All-nil IsMessage;
-        lack_is = refl;
       }
 
-  module _ (ask : Ask) (later : List Ask) (number : ℕ) (lack : Option Lacking) (middle last : A) (mid end : Scene) (so : SoFar made lookup.asks conf old first (ask ∷ later) number lack middle mid) where
+  module _ (one : Try) (later : List Try) (number : ℕ) (lack : Option Lacking) (middle last : A) (mid end : Scene) (so : SoFar made (tries_of lookup.search conf.options lookup.asks) conf old first (one ∷ later) number lack middle mid) where
     -- the next was asked, and a message was answered
-    pub so_next : (next : Option Lacking) (outcome : Result Outcome Error) → Brought true outcome
-        → IfOk outcome (λ o. IsAnsweredAnd (λ rows. made middle mid.client rows last end.client) number 1000000 (request_for ask) o.answer mid end)
-        → next ≡ or_lack lack (lack_of ask outcome) → SoFar made lookup.asks conf old first later (number + 1) next last end
-    so_next next (Err e) brought gave is = absurd brought
-    so_next next (Ok o) brought gave is =
-        let m : (all : List Row) × AreMade made 0 (so.asks ++ ask ∷ []) (so.answers ++ o.answer ∷ []) all first last (begun conf old so.waits) end =
-        made_more made 0 number so.asks so.answers so.rows ask o.answer first middle last (begun conf old so.waits) mid end (omega (arith, so.count)) so.are_made gave in
+    so_next : (next : Option Lacking) (left : List Try) (o : Outcome) → is_message o.answer ≡ true
+        → IsAnsweredAnd (λ rows. made middle mid.client rows last end.client) number 1000000 (request_for one.ask) o.answer mid end
+        → Walks (tries_of lookup.search conf.options lookup.asks) (so.asks ++ one.ask ∷ []) (so.answers ++ o.answer ∷ []) next left
+        → SoFar made (tries_of lookup.search conf.options lookup.asks) conf old first left (number + 1) next last end
+    so_next next left o brought gave walks =
+        let m : (all : List Row) × AreMade made 0 (so.asks ++ one.ask ∷ []) (so.answers ++ o.answer ∷ []) all first last (begun conf old so.waits) end =
+        made_more made 0 number so.asks so.answers so.rows one.ask o.answer first middle last (begun conf old so.waits) mid end (omega (arith, so.count)) so.are_made gave in
         record {
-          asks = so.asks ++ ask ∷ [];
+          asks = so.asks ++ one.ask ∷ [];
           answers = so.answers ++ o.answer ∷ [];
           rows = m.0;
           waits = so.waits;
-          all_is = split_more lookup.asks so.asks later ask so.all_is;
-          count = omega (arith, so.count, length-append so.asks (ask ∷ []));
-          answered = answered_more 0 number so.asks so.answers ask o.answer (begun conf old so.waits) mid end (omega (arith, so.count)) so.answered gave.answered;
+          walks = walks;
+          count = omega (arith, so.count, length-append so.asks (one.ask ∷ []));
+          answered = answered_more 0 number so.asks so.answers one.ask o.answer (begun conf old so.waits) mid end (omega (arith, so.count)) so.answered gave.answered;
           are_made = m.1;
           messages = with_message so.answers o.answer so.messages brought;
-          lack_is = is ∙ ap (λ (l : Option Lacking). or_lack l (lack_in ask o.answer)) so.lack_is ∙ sym (lack_more 0 so.asks so.answers ask o.answer (begun conf old so.waits) mid so.answered);
         }
 
+    -- it was passed by
+    pub so_passed : (outcome : Result Outcome Error)
+        → IfOk outcome (λ o. IsAnsweredAnd (λ rows. made middle mid.client rows last end.client) number 1000000 (request_for one.ask) o.answer mid end)
+        → passes_of one later outcome ≡ true → SoFar made (tries_of lookup.search conf.options lookup.asks) conf old first later (number + 1) lack last end
+    so_passed (Err e) gave passes = absurd (false≢true passes)
+    so_passed (Ok o) gave passes =
+        so_next lack later o (passed_message one later (Ok o) passes) gave (walk_passes so.asks so.answers lack one later o.answer so.walks passes)
+
+    -- or it was told
+    pub so_told : (next : Option Lacking) (left : List Try) (outcome : Result Outcome Error) → Brought true outcome
+        → IfOk outcome (λ o. IsAnsweredAnd (λ rows. made middle mid.client rows last end.client) number 1000000 (request_for one.ask) o.answer mid end)
+        → passes_of one later outcome ≡ false → next ≡ or_lack lack (lack_of one.ask outcome) → left ≡ behind_tries one.more later
+        → SoFar made (tries_of lookup.search conf.options lookup.asks) conf old first left (number + 1) next last end
+    so_told next left (Err e) brought gave passes is left_is = absurd brought
+    so_told next left (Ok o) brought gave passes is left_is =
+        so_next next left o brought gave
+        (subst (λ (l : Option Lacking). Walks (tries_of lookup.search conf.options lookup.asks) (so.asks ++ one.ask ∷ []) (so.answers ++ o.answer ∷ []) l left) (sym is)
+        (subst (λ (r : List Try). Walks (tries_of lookup.search conf.options lookup.asks) (so.asks ++ one.ask ∷ []) (so.answers ++ o.answer ∷ []) (or_lack lack (lack_in one.ask o.answer)) r) (sym left_is)
+        (walk_tells so.asks so.answers lack one later o.answer so.walks passes)))
+
     -- the rows with those of the next
-    pub so_made : (o : Outcome) × IsAnsweredAnd (λ rows. made middle mid.client rows last end.client) number 1000000 (request_for ask) o.answer mid end
-        → (new : World) (left : Whole) (later_waits : Option (List ℕ)) → end ≡ arrives left new later_waits → IsMadeFor made lookup conf first last old new
-    so_made gave new left later_waits end_is =
-        let m : (all : List Row) × AreMade made 0 (so.asks ++ ask ∷ []) (so.answers ++ gave.0.answer ∷ []) all first last (begun conf old so.waits) end =
-        made_more made 0 number so.asks so.answers so.rows ask gave.0.answer first middle last (begun conf old so.waits) mid end (omega (arith, so.count)) so.are_made gave.1 in
+    pub so_made : (gave : (o : Outcome) × IsAnsweredAnd (λ rows. made middle mid.client rows last end.client) number 1000000 (request_for one.ask) o.answer mid end)
+        → passes_by one later gave.0.answer ≡ false → (new : World) (left : Whole) (later_waits : Option (List ℕ)) → end ≡ arrives left new later_waits → IsMadeFor made lookup conf first last old new
+    so_made gave passes new left later_waits end_is =
+        let m : (all : List Row) × AreMade made 0 (so.asks ++ one.ask ∷ []) (so.answers ++ gave.0.answer ∷ []) all first last (begun conf old so.waits) end =
+        made_more made 0 number so.asks so.answers so.rows one.ask gave.0.answer first middle last (begun conf old so.waits) mid end (omega (arith, so.count)) so.are_made gave.1 in
         record {
-          asks = so.asks ++ ask ∷ [];
-          later = later;
-          all = split_more lookup.asks so.asks later ask so.all_is;
+          asks = so.asks ++ one.ask ∷ [];
           answers = so.answers ++ gave.0.answer ∷ [];
+          lack = or_lack lack (lack_in one.ask gave.0.answer);
+          later = behind_tries one.more later;
+          walks = walk_tells so.asks so.answers lack one later gave.0.answer so.walks passes;
           rows = m.0;
           left = left;
           waits = so.waits;
           later_waits = later_waits;
-          are_made = subst (λ (s : Scene). AreMade made 0 (so.asks ++ ask ∷ []) (so.answers ++ gave.0.answer ∷ []) m.0 first last (begun conf old so.waits) s) end_is m.1;
+          are_made = subst (λ (s : Scene). AreMade made 0 (so.asks ++ one.ask ∷ []) (so.answers ++ gave.0.answer ∷ []) m.0 first last (begun conf old so.waits) s) end_is m.1;
         }
 
   -- where the next ends it, its rows are there
-  pub fails_made : (ask : Ask) (later : List Ask) (number : ℕ) (lack : Option Lacking) (middle last : A) (mid : Scene) (left : Whole) (new : World) (later_waits : Option (List ℕ)) (status : ℕ) (outcome : Result Outcome Error)
-      → SoFar made lookup.asks conf old first (ask ∷ later) number lack middle mid
-      → IfOk outcome (λ o. IsAnsweredAnd (λ rows. made middle mid.client rows last left) number 1000000 (request_for ask) o.answer mid (arrives left new later_waits))
+  pub fails_made : (one : Try) (later : List Try) (number : ℕ) (lack : Option Lacking) (middle last : A) (mid : Scene) (left : Whole) (new : World) (later_waits : Option (List ℕ)) (status : ℕ) (outcome : Result Outcome Error)
+      → SoFar made (tries_of lookup.search conf.options lookup.asks) conf old first (one ∷ later) number lack middle mid → passes_of one later outcome ≡ false
+      → IfOk outcome (λ o. IsAnsweredAnd (λ rows. made middle mid.client rows last left) number 1000000 (request_for one.ask) o.answer mid (arrives left new later_waits))
       → IsOfRequest status → (HasPage status → Brought true outcome) → (status ≡ 5 → Brought false outcome) → status ≢ 6 → status ≢ 7
       → IsMadeFor made lookup conf first last old new
-  fails_made ask later number lack middle last mid left new later_waits status outcome so gave of good bad no_six no_seven =
-      so_made ask later number lack middle last mid (arrives left new later_waits) so
-      (told_of_one outcome status (λ o. IsAnsweredAnd (λ rows. made middle mid.client rows last left) number 1000000 (request_for ask) o.answer mid (arrives left new later_waits)) of good bad no_six no_seven gave)
-      new left later_waits refl
+  fails_made one later number lack middle last mid left new later_waits status outcome so passes gave of good bad no_six no_seven =
+      let t = told_of_one outcome status (λ o. IsAnsweredAnd (λ rows. made middle mid.client rows last left) number 1000000 (request_for one.ask) o.answer mid (arrives left new later_waits) × (passes_by one later o.answer ≡ false)) of good bad no_six no_seven
+      (with_told one later outcome (λ o. IsAnsweredAnd (λ rows. made middle mid.client rows last left) number 1000000 (request_for one.ask) o.answer mid (arrives left new later_waits)) passes gave) in
+      so_made one later number lack middle last mid (arrives left new later_waits) so (t.0, t.1.0) t.1.1 new left later_waits refl
 
   -- The next ends it: it had no message, or writing it failed.
-  pub fails_ends : (ask : Ask) (later : List Ask) (number : ℕ) (lack : Option Lacking) (middle : A) (mid : Scene) (left : Whole) (new : World) (later_waits : Option (List ℕ)) (status : ℕ) (Told : List ℕ → Type 0) (outcome : Result Outcome Error)
-      → SoFar made lookup.asks conf old first (ask ∷ later) number lack middle mid
-      → IfOk outcome (λ o. Gave ask number o.answer mid (arrives left new later_waits)) → (IsErrOf outcome NumbersUsed → Stopped ask mid (arrives left new later_waits))
+  pub fails_ends : (one : Try) (later : List Try) (number : ℕ) (lack : Option Lacking) (middle : A) (mid : Scene) (left : Whole) (new : World) (later_waits : Option (List ℕ)) (status : ℕ) (Told : List ℕ → Type 0) (outcome : Result Outcome Error)
+      → SoFar made (tries_of lookup.search conf.options lookup.asks) conf old first (one ∷ later) number lack middle mid → passes_of one later outcome ≡ false
+      → IfOk outcome (λ o. Gave one.ask number o.answer mid (arrives left new later_waits)) → (IsErrOf outcome NumbersUsed → Stopped one.ask mid (arrives left new later_waits))
       → IsOfRequest status → 0 < status → (HasPage status → Brought true outcome) → (status ≡ 5 → Brought false outcome) → (status ≡ 5 → IfOk outcome (λ o. Told (answer_text o.answer)))
       → (status ≡ 7 → IsErrOf outcome NumbersUsed) → EndsSo lookup conf status Told old new
-  fails_ends ask later number lack middle mid left new later_waits status Told outcome so gave stopped of some good bad said numbers = record {
+  fails_ends one later number lack middle mid left new later_waits status Told outcome so passes gave stopped of some good bad said numbers = record {
     done = λ e. absurd (fails_not_done status of some e);
     cut = λ four.
-        let c = came ask number true outcome mid (arrives left new later_waits) gave (good (inr four)) in
+        let c = came one later number true outcome mid (arrives left new later_waits) passes gave (good (inr four)) in
         record {
-          asks = so.asks ++ ask ∷ [];
-          later = later;
-          all = split_more lookup.asks so.asks later ask so.all_is;
+          asks = so.asks ++ one.ask ∷ [];
           answers = so.answers ++ c.0 ∷ [];
+          lack = or_lack lack (lack_in one.ask c.0);
+          later = behind_tries one.more later;
+          walks = walk_tells so.asks so.answers lack one later c.0 so.walks c.3;
           asked = record {
             left = left;
             waits = so.waits;
             later_waits = later_waits;
-            answered = answered_more 0 number so.asks so.answers ask c.0 (begun conf old so.waits) mid (arrives left new later_waits) (omega (arith, so.count)) so.answered c.2;
+            answered = answered_more 0 number so.asks so.answers one.ask c.0 (begun conf old so.waits) mid (arrives left new later_waits) (omega (arith, so.count)) so.answered c.2;
           };
           messages = with_message so.answers c.0 so.messages c.1;
         };
     no_reply = λ five.
-        let c = failed ask number Told outcome mid (arrives left new later_waits) gave (bad five) (said five) in
+        let c = failed one later number Told outcome mid (arrives left new later_waits) passes gave (bad five) (said five) in
         record {
-          asks = so.asks ++ ask ∷ [];
-          later = later;
-          all = split_more lookup.asks so.asks later ask so.all_is;
+          asks = so.asks ++ one.ask ∷ [];
           answers = so.answers;
           last = c.0;
+          lack = or_lack lack (lack_in one.ask c.0);
+          later = behind_tries one.more later;
+          walks = walk_tells so.asks so.answers lack one later c.0 so.walks c.4;
           asked = record {
             left = left;
             waits = so.waits;
             later_waits = later_waits;
-            answered = answered_more 0 number so.asks so.answers ask c.0 (begun conf old so.waits) mid (arrives left new later_waits) (omega (arith, so.count)) so.answered c.2;
+            answered = answered_more 0 number so.asks so.answers one.ask c.0 (begun conf old so.waits) mid (arrives left new later_waits) (omega (arith, so.count)) so.answered c.2;
           };
           messages = so.messages;
           no_message = c.1;
@@ -328,10 +410,11 @@ module _ {A : Type 0} (made : A → Whole → List Row → A → Whole → Type 
         };
     numbers = λ seven. record {
       asks = so.asks;
-      ask = ask;
-      later = later;
-      all = so.all_is;
       answers = so.answers;
+      lack = lack;
+      one = one;
+      later = later;
+      walks = so.walks;
       waits = so.waits;
       mid = mid;
       answered = so.answered;
@@ -342,34 +425,31 @@ module _ {A : Type 0} (made : A → Whole → List Row → A → Whole → Type 
   }
 
   -- all was answered
-  whole_is : (rest : List Ask) (asks : List Ask) → lookup.asks ≡ asks ++ rest → length rest ≡ 0 → lookup.asks ≡ asks
-  whole_is [] asks is none = is ∙ append-nil asks
-  whole_is (ask ∷ rest) asks is none = absurd (omega (arith, none))
+  whole_is : (rest : List Try) (asks : List Ask) (answers : List Answer) (lack : Option Lacking) → Walks (tries_of lookup.search conf.options lookup.asks) asks answers lack rest → length rest ≡ 0
+      → Walks (tries_of lookup.search conf.options lookup.asks) asks answers lack []
+  whole_is [] asks answers lack walks none = walks
+  whole_is (one ∷ rest) asks answers lack walks none = absurd (omega (arith, none))
 
-  pub whole_made : (rest : List Ask) (number : ℕ) (lack : Option Lacking) (last : A) (left : Whole) (new : World) (later_waits : Option (List ℕ))
-      → SoFar made lookup.asks conf old first rest number lack last (arrives left new later_waits) → IsMadeFor made lookup conf first last old new
+  pub whole_made : (rest : List Try) (number : ℕ) (lack : Option Lacking) (last : A) (left : Whole) (new : World) (later_waits : Option (List ℕ))
+      → SoFar made (tries_of lookup.search conf.options lookup.asks) conf old first rest number lack last (arrives left new later_waits) → IsMadeFor made lookup conf first last old new
   whole_made rest number lack last left new later_waits so =
-      record { asks = so.asks; later = rest; all = so.all_is; answers = so.answers; rows = so.rows; left = left; waits = so.waits; later_waits = later_waits; are_made = so.are_made }
+      record { asks = so.asks; answers = so.answers; lack = lack; later = rest; walks = so.walks; rows = so.rows; left = left; waits = so.waits; later_waits = later_waits; are_made = so.are_made }
 
-  pub whole_ends : (rest : List Ask) (number : ℕ) (lack : Option Lacking) (last : A) (left : Whole) (new : World) (later_waits : Option (List ℕ)) (status : ℕ) (Told : List ℕ → Type 0)
-      → SoFar made lookup.asks conf old first rest number lack last (arrives left new later_waits) → length rest ≡ 0
+  pub whole_ends : (rest : List Try) (number : ℕ) (lack : Option Lacking) (last : A) (left : Whole) (new : World) (later_waits : Option (List ℕ)) (status : ℕ) (Told : List ℕ → Type 0)
+      → SoFar made (tries_of lookup.search conf.options lookup.asks) conf old first rest number lack last (arrives left new later_waits) → length rest ≡ 0
       → (status ≡ lack_status lack) ⊎ (status ≡ 6) → (status ≢ 6 → LackTold Told lack) → EndsSo lookup conf status Told old new
   whole_ends rest number lack last left new later_waits status Told so none is told =
-      let whole : lookup.asks ≡ so.asks = whole_is rest so.asks so.all_is none in
-      let lack_as : lack ≡ first_lack lookup.asks so.answers = so.lack_is ∙ ap (λ (asks : List Ask). first_lack asks so.answers) (sym whole) in
       let only = last_only status lack is in
       record {
         done = λ e. record {
+          asks = so.asks;
           answers = so.answers;
-          asked = record {
-            left = left;
-            waits = so.waits;
-            later_waits = later_waits;
-            answered = subst (λ (asks : List Ask). AreAnswered 0 asks so.answers (begun conf old so.waits) (arrives left new later_waits)) (sym whole) so.answered;
-          };
+          lack = lack;
+          walks = whole_is rest so.asks so.answers lack so.walks none;
+          asked = record { left = left; waits = so.waits; later_waits = later_waits; answered = so.answered };
           messages = so.messages;
-          ends = lack_said status lack is e ∙ ap lack_status lack_as;
-          told = subst (λ (l : Option Lacking). LackTold Told l) lack_as (told ((done_only status e).4));
+          ends = lack_said status lack is e;
+          told = told ((done_only status e).4);
         };
         cut = λ four. absurd (only.2 four);
         no_reply = λ five. absurd (only.3 five);

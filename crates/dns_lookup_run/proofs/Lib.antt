@@ -6,3 +6,4 @@ pub mod Passed
 pub mod Making
 pub mod Unmade
 pub mod Records
+pub mod Searching

@@ -1,5 +1,5 @@
 -- What a client put out while a lookup was asked is recorded.
-use Rattle.std.proofs.Common.{◌≡◌, ℕ, ◌+◌, List, [], ◌∷◌, ◌++◌, sym, subst, ap, ◌∙◌, append_assoc, append-nil, Option}
+use Rattle.std.proofs.Common.{ℕ, ◌+◌, List, ◌++◌, sym, subst, ap, ◌∙◌, append_assoc, append-nil, Option}
 use Rattle.client_loop.specs.Asking.{Scene, rows_of}
 use Rattle.client_request.specs.declared.event.Row.{Row}
 use Rattle.dns_record.specs.Recording.{Keeps, Recorded}

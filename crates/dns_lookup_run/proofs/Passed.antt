@@ -1,5 +1,5 @@
 -- What an edge gives that passes servers by.
-use Rattle.std.proofs.Common.{◌≡◌, ℕ, List, Option, None, Some, refl, sym, ap, ◌∙◌}
+use Rattle.std.proofs.Common.{◌≡◌, ℕ, List, Option, None, Some, sym, ap, ◌∙◌}
 use Rattle.client_core.specs.Edge.{after_deed}
 use Rattle.client_core.specs.declared.edge.Deed.{Deed}
 use Rattle.client_core.specs.declared.edge.Deed.TheVariants.{Polled}

@@ -1,5 +1,5 @@
 -- The requests of a lookup, and what is answered to them.
-use Rattle.std.specs.Prelude.{◌≡◌, ℕ, ◌+◌, ◌&&◌, not, Bool, true, false, if◌then◌else◌, List, [], ◌∷◌, map, Option, None, Some, Result, Ok, Err}
+use Rattle.std.specs.Prelude.{◌≡◌, ℕ, ◌+◌, ◌&&◌, ◌||◌, not, Bool, true, false, if◌then◌else◌, List, [], ◌∷◌, map, Option, None, Some, Result, Ok, Err}
 use Rattle.client_request.specs.Request.{Request, recorded_from, with_dnssec_ok, with_option}
 use Rattle.client_request.specs.declared.error.Error.{Error}
 use Rattle.client_core.specs.declared.edge.Deed.{Deed}
@@ -15,17 +15,22 @@ use Rattle.dns_lookup_pages.specs.declared.short.Lacking.{Lacking}
 use Rattle.dns_lookup_run.specs.Worlds.{World, begun, is_message}
 use Rattle.resolv_conf.specs.declared.conf.ResolvConf.{ResolvConf}
 use Rattle.dns_lookup_words.specs.declared.manner.Ask.{Ask}
+use Rattle.dns_lookup_words.specs.declared.manner.Flags.{Flags}
 use Rattle.dns_lookup_run.specs.declared.asking.Outcome.{Outcome}
 
--- the request of an ask: its one question under its header, with the flag DO and an empty option 3 (NSID, RFC 5001 2.1) where those are asked for
+-- the request of a message, with the flag DO, an empty option 3 (NSID, RFC 5001 2.1) and an empty option 9 (EXPIRE, RFC 7314 2) where those are asked for
 abbrev pub dnssec_asked : Bool → Request → Request
 dnssec_asked asked request = if asked then with_dnssec_ok true request else request
 
-abbrev pub nsid_asked : Bool → Request → Request
-nsid_asked asked request = if asked then with_option 3 [] request else request
+abbrev pub option_asked : (code : ℕ) → Bool → Request → Request
+option_asked code asked request = if asked then with_option code [] request else request
 
+abbrev pub request_by : Flags → (message : List ℕ) → Request
+request_by flags message = option_asked 9 flags.expire (option_asked 3 flags.nsid (dnssec_asked flags.dnssec (recorded_from message)))
+
+-- the request of an ask: its one question under its header, by its flags
 abbrev pub request_for : Ask → Request
-request_for ask = nsid_asked ask.manner.flags.nsid (dnssec_asked ask.manner.flags.dnssec (recorded_from (query_octets ask)))
+request_for ask = request_by ask.manner.flags (query_octets ask)
 
 abbrev pub Answer : Type 0
 Answer = Option (Result (List ℕ) Error)
@@ -38,17 +43,12 @@ lack_at true None = None
 lack_at false answer = None
 
 abbrev pub lack_in : Ask → Answer → Option Lacking
-lack_in ask answer = lack_at (ask.manner.layout.short && not ask.manner.layout.json) answer
+lack_in ask answer = lack_at (ask.manner.layout.short && not (ask.manner.layout.json || ask.manner.layout.yaml)) answer
 
 -- the first of the two
 abbrev pub or_lack : Option Lacking → Option Lacking → Option Lacking
 or_lack None later = later
 or_lack (Some lack) later = Some lack
-
-abbrev pub first_lack : List Ask → List Answer → Option Lacking
-first_lack [] answers = None
-first_lack (ask ∷ asks) [] = None
-first_lack (ask ∷ asks) (answer ∷ answers) = or_lack (lack_in ask answer) (first_lack asks answers)
 
 -- It was asked for under this number, and this was answered.
 abbrev pub Gave : Ask → ℕ → Answer → (old new : Scene) → Type 0

@@ -9,7 +9,10 @@ use Rattle.dns_values.specs.Source.{Rose}
 use Rattle.command_parts.specs.Ends.{IsSaid}
 use Rattle.dns_lookup_run.specs.Worlds.{World, at_words, begun, is_message, said}
 use Rattle.resolv_conf.specs.declared.conf.ResolvConf.{ResolvConf}
-use Rattle.dns_lookup_run.specs.Asking.{Answer, AreAnswered, IsAskedFor, first_lack, request_for}
+use Rattle.dns_lookup_run.specs.Asking.{Answer, AreAnswered, IsAskedFor, request_for}
+use Rattle.dns_lookup_run.specs.Search.{tries_of}
+use Rattle.dns_lookup_run.specs.Walks.{Walks}
+use Rattle.dns_lookup_run.specs.declared.search.Try.{Try}
 use Rattle.resolver_policy.specs.declared.found.Found.{Found}
 use Rattle.dns_lookup_run.specs.Conf.{IsConfOf, IsTooLong}
 use Rattle.dns_lookup_run.specs.Reports.{notes_text, tells}
@@ -53,49 +56,55 @@ abbrev pub LackTold : (List ℕ → Type 0) → Option Lacking → Type 0
 LackTold Told None = Unit {0}
 LackTold Told (Some lack) = Told (lack_text lack)
 
--- Each was asked for, and each answer is a message; the first without data, where these alone were to be written, says how it ends, and the sentence
+-- All was asked for, and each answer is a message; the first without data, where these alone were to be written, says how it ends, and the sentence
 -- that tells of it is told.
 pub record IsAnsweredWhole (lookup : Lookup) (conf : ResolvConf) (status : ℕ) (Told : List ℕ → Type 0) (old new : World) : Type 0 where
+  pub asks : List Ask
   pub answers : List Answer
-  pub asked : IsAskedFor conf old new lookup.asks answers
+  pub lack : Option Lacking
+  pub walks : Walks (tries_of lookup.search conf.options lookup.asks) asks answers lack []
+  pub asked : IsAskedFor conf old new asks answers
   pub messages : All (λ answer. is_message answer ≡ true) answers
-  pub ends : status ≡ lack_status (first_lack lookup.asks answers)
-  pub told : LackTold Told (first_lack lookup.asks answers)
+  pub ends : status ≡ lack_status lack
+  pub told : LackTold Told lack
 
--- Some first of them were asked for, and each answer is a message.
+-- The first of it was asked for, and each answer is a message.
 pub record IsAnsweredInPart (lookup : Lookup) (conf : ResolvConf) (old new : World) : Type 0 where
   pub asks : List Ask
-  pub later : List Ask
-  pub all : lookup.asks ≡ asks ++ later
   pub answers : List Answer
+  pub lack : Option Lacking
+  pub later : List Try
+  pub walks : Walks (tries_of lookup.search conf.options lookup.asks) asks answers lack later
   pub asked : IsAskedFor conf old new asks answers
   pub messages : All (λ answer. is_message answer ≡ true) answers
 
--- Some first of them were asked for, and of the answers the last alone is no message; the sentence that tells why is told.
+-- The first of it was asked for, and of the answers the last alone is no message; the sentence that tells why is told.
 pub record IsUnanswered (lookup : Lookup) (conf : ResolvConf) (Told : List ℕ → Type 0) (old new : World) : Type 0 where
   pub asks : List Ask
-  pub later : List Ask
-  pub all : lookup.asks ≡ asks ++ later
   pub answers : List Answer
   pub last : Answer
+  pub lack : Option Lacking
+  pub later : List Try
+  pub walks : Walks (tries_of lookup.search conf.options lookup.asks) asks (answers ++ last ∷ []) lack later
   pub asked : IsAskedFor conf old new asks (answers ++ last ∷ [])
   pub messages : All (λ answer. is_message answer ≡ true) answers
   pub no_message : is_message last ≡ false
   pub said : Told (answer_text last)
 
--- Some first of them were asked for, and while the next is, a number would pass 64 bits.
+-- The first of it was asked for, and while the next is, a number would pass 64 bits.
 pub record IsStopped (lookup : Lookup) (conf : ResolvConf) (old new : World) : Type 0 where
   pub asks : List Ask
-  pub ask : Ask
-  pub later : List Ask
-  pub all : lookup.asks ≡ asks ++ ask ∷ later
   pub answers : List Answer
+  pub lack : Option Lacking
+  pub one : Try
+  pub later : List Try
+  pub walks : Walks (tries_of lookup.search conf.options lookup.asks) asks answers lack (one ∷ later)
   pub waits : Option (List ℕ)
   pub mid : Scene
   pub answered : AreAnswered 0 asks answers (begun conf old waits) mid
   pub left : Whole
   pub later_waits : Option (List ℕ)
-  pub stops : StopsForNumbers (request_for ask) mid (scene left new.words new.deeds later_waits new.polls new.moments)
+  pub stops : StopsForNumbers (request_for one.ask) mid (scene left new.words new.deeds later_waits new.polls new.moments)
 
 -- what a lookup over a configuration ends with, by its status, where this is what is told
 pub record EndsSo (lookup : Lookup) (conf : ResolvConf) (status : ℕ) (Told : List ℕ → Type 0) (old new : World) : Type 0 where

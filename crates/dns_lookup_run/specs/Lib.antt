@@ -1,4 +1,6 @@
 pub mod Asking
+pub mod Search
+pub mod Walks
 pub mod Conf
 pub mod Ends
 pub mod Reports

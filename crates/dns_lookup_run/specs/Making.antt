@@ -8,7 +8,11 @@ use Rattle.client_request.specs.declared.error.Error.TheVariants.{NumbersUsed}
 use Rattle.client_request.specs.declared.event.Row.{Row}
 use Rattle.client_steps.specs.Whole.{Whole}
 use Rattle.dns_record.specs.Asking.{IsAnsweredAnd}
+use Rattle.dns_lookup_pages.specs.declared.short.Lacking.{Lacking}
 use Rattle.dns_lookup_run.specs.Asking.{Answer, request_for}
+use Rattle.dns_lookup_run.specs.Search.{tries_of}
+use Rattle.dns_lookup_run.specs.Walks.{Walks}
+use Rattle.dns_lookup_run.specs.declared.search.Try.{Try}
 use Rattle.dns_lookup_run.specs.Watched.{Seen, Times, on}
 use Rattle.dns_lookup_run.specs.Worlds.{World, begun}
 use Rattle.dns_lookup_run.specs.declared.asking.Outcome.{Outcome}
@@ -49,12 +53,13 @@ pub data AreMade {A : Type 0} (made : A → Whole → List Row → A → Whole �
       → (is : IsAnsweredAnd (λ rows. made a old.client rows b mid.client) n 1000000 (request_for ask) answer old mid) → AreMade made (n + 1) asks answers rows b c mid new
       → all ≡ rows_of is.answered.asked.asking is.answered.asked.turns ++ rows → AreMade made n (ask ∷ asks) (answer ∷ answers) all a c old new
 
--- A new client, whose edge learned the servers of a configuration, was asked the first asks of a lookup, and put these rows out.
+-- A new client, whose edge learned the servers of a configuration, was asked what a lookup asks, or the first of it, and put these rows out.
 pub record IsMadeFor {A : Type 0} (made : A → Whole → List Row → A → Whole → Type 0) (lookup : Lookup) (conf : ResolvConf) (first last : A) (old new : World) : Type 0 where
   pub asks : List Ask
-  pub later : List Ask
-  pub all : lookup.asks ≡ asks ++ later
   pub answers : List Answer
+  pub lack : Option Lacking
+  pub later : List Try
+  pub walks : Walks (tries_of lookup.search conf.options lookup.asks) asks answers lack later
   pub rows : List Row
   pub left : Whole
   pub waits : Option (List ℕ)

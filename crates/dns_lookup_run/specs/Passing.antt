@@ -1,5 +1,5 @@
 -- An edge by which servers that say NOTIMP are passed by.
-use Rattle.std.specs.Prelude.{◌≡◌, ℕ, ◌==◌, ◌&&◌, nat_le, Bool, if◌then◌else◌, List, [], ◌∷◌, ◌++◌, map, length, slice_index, Option, None, Some, option_and_then}
+use Rattle.std.specs.Prelude.{◌≡◌, ℕ, ◌==◌, ◌&&◌, nat_le, Bool, if◌then◌else◌, List, [], ◌∷◌, ◌++◌, map, length, slice_index, Option, None, Some}
 use Rattle.std.specs.List.{list_any}
 use Rattle.client_core.specs.Edge.{after_deed}
 use Rattle.client_core.specs.declared.edge.Deed.{Deed}

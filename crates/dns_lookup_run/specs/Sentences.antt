@@ -20,7 +20,7 @@ answer_text (Some (Err error)) = unanswered_text (Some error)
 answer_text (Some (Ok message)) = []
 
 abbrev pub unread_text : List ℕ
-unread_text = codes "dns_lookup: /etc/resolv.conf could not be read, and no server is named by @ADDRESS\n"
+unread_text = codes "dns_lookup: /etc/resolv.conf could not be read, which has the servers where no @SERVER is named, and the suffixes of +search\n"
 
 -- why a configuration is refused, which a line says
 abbrev pub refused_text : List ℕ → List ℕ

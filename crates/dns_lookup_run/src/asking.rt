@@ -2,7 +2,7 @@
 
 ghost use Rattle.std.specs.Prelude.{◌≡◌, ◌≢◌, IfOk, IfErr, IsErrOf};
 ghost use Rattle.client_request.specs.declared.error.Error.TheVariants.{NumbersUsed};
-ghost use Rattle.dns_lookup_run.specs.Asking.{Gave, Stopped, dnssec_asked, nsid_asked, request_for};
+ghost use Rattle.dns_lookup_run.specs.Asking.{Gave, Stopped, dnssec_asked, option_asked, request_by, request_for};
 ghost use Rattle.dns_lookup_run.specs.Making.{GaveIf};
 ghost use Rattle.dns_lookup_run.specs.Watched.{on};
 
@@ -11,8 +11,9 @@ use crate::watched_clock::WatchedClock;
 use crate::watched_edge::{Heard, WatchedEdge};
 use client_core::{Client, Clock, Edge};
 use client_request::{Compose, Error, RequestMessage};
+use dns_base::Message;
 use dns_lookup_pages::query_of;
-use dns_lookup_words::Ask;
+use dns_lookup_words::{Ask, Flags};
 use std::alloc::Global;
 
 /// What a request came to.
@@ -29,6 +30,9 @@ pub(crate) struct Outcome {
 /// The code of the option by which a server is asked for its name (RFC 5001 2.1).
 const NSID: u16 = 3;
 
+/// The code of the option by which it is asked when its copy of a zone expires (RFC 7314 2).
+const EXPIRE: u16 = 9;
+
 /// A request, with DO set where that is asked for.
 fn dnssec_asked(is_asked: bool, mut request: RequestMessage) -> RequestMessage
     ensures { result ≡ dnssec_asked is_asked request }
@@ -39,16 +43,32 @@ fn dnssec_asked(is_asked: bool, mut request: RequestMessage) -> RequestMessage
     request
 }
 
-/// A request, with an empty option NSID where that is asked for.
-fn nsid_asked(is_asked: bool, mut request: RequestMessage) -> Result<RequestMessage, Error>
-    ensures made { IfOk result (λ r. r ≡ nsid_asked is_asked request) }
+/// A request, with an empty option of this code where that is asked for.
+fn option_asked(
+    code: u16,
+    is_asked: bool,
+    mut request: RequestMessage,
+) -> Result<RequestMessage, Error>
+    ensures made { IfOk result (λ r. r ≡ option_asked code is_asked request) }
     ensures refused { IfErr result (λ e. e ≢ Error.NumbersUsed) }
 {
     if !is_asked {
         return Ok(request);
     }
-    request.add_opt(NSID, &[])?;
+    request.add_opt(code, &[])?;
     Ok(request)
+}
+
+/// The request of a message, with DO and the options of these flags: NSID and EXPIRE, both empty.
+///
+/// `FormError` where the message is none that can be asked, and `NoMemory`.
+pub fn request_by(alloc: Global, flags: Flags, message: Message) -> Result<RequestMessage, Error>
+    ensures made { IfOk result (λ r. r ≡ request_by flags message) }
+    ensures refused { IfErr result (λ e. e ≢ Error.NumbersUsed) }
+{
+    let request = RequestMessage::new(alloc, message)?;
+    let request = option_asked(NSID, flags.nsid, dnssec_asked(flags.dnssec, request))?;
+    option_asked(EXPIRE, flags.expire, request)
 }
 
 /// The request of an ask.
@@ -56,10 +76,8 @@ fn request_for(alloc: Global, ask: &Ask) -> Result<RequestMessage, Error>
     ensures made { IfOk result (λ r. r ≡ request_for ask.now) }
     ensures refused { IfErr result (λ e. e ≢ Error.NumbersUsed) }
 {
-    let flags = ask.manner.flags;
     let message = query_of(alloc, ask)?;
-    let request = RequestMessage::new(alloc, message)?;
-    nsid_asked(flags.nsid, dnssec_asked(flags.dnssec, request))
+    request_by(alloc, ask.manner.flags, message)
 }
 
 /// Asks a client the request of an ask, under the number of its next request.

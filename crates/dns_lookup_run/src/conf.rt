@@ -4,14 +4,14 @@ ghost use Rattle.std.specs.Prelude.{◌≡◌, ◌≢◌, ◌++◌, filter, map,
 ghost use Rattle.dns_values.specs.Source.{Rose};
 ghost use Rattle.command_parts.specs.Ends.{IsEarly, line_of, status_of};
 ghost use Rattle.resolv_conf.specs.Conf.{name_server};
-ghost use Rattle.dns_lookup_run.specs.Conf.{IsBase, IsConfOf, IsReadyIn, IsTooLong, conf_asked, is_of_family, is_v4, named, of_family, streamed, timed};
+ghost use Rattle.dns_lookup_run.specs.Conf.{IsBase, IsConfOf, IsReadyIn, IsTooLong, conf_asked, is_file_needed, is_of_family, is_v4, named, of_family, streamed, timed, with_domain, with_dots, with_suffixes};
 
 use client_request::Words;
 use command_parts::{Ending, conf_at, says, statuses};
 use dns_base::NoMemory;
 use dns_lookup_words::{Family, Lookup};
 use dns_values::{Duration, IpAddr, ReadFault, SocketAddr, Source};
-use resolv_conf::{ResolvConf, ServerConf, Servers, Transport};
+use resolv_conf::{ResolvConf, ResolvOptions, SearchList, ServerConf, Servers, Transport};
 use resolver_policy::{Found, Notes, practical};
 use std::alloc::Global;
 
@@ -109,12 +109,36 @@ fn of_family(family: Option<Family>, conf: ResolvConf) -> ResolvConf
     }
 }
 
-/// With what the words say of addresses, the port, the time and streams.
-fn conf_asked(lookup: &Lookup, base: ResolvConf) -> ResolvConf
-    ensures { result ≡ conf_asked lookup.now base }
+/// With a suffix in place of all others, if one is said.
+fn with_domain(alloc: Global, lookup: &Lookup, mut conf: ResolvConf) -> Result<ResolvConf, NoMemory>
+    ensures { IfOk result (λ c. c ≡ with_domain lookup.now.domain conf) }
+{
+    let Some(name) = &lookup.domain else {
+        return Ok(conf);
+    };
+    let suffix = name.try_clone(alloc)?;
+    conf.options.search = SearchList::from_suffix(alloc, suffix)?;
+    Ok(conf)
+}
+
+/// With a count of dots, if one is said.
+fn with_dots(dots: Option<usize>, mut conf: ResolvConf) -> ResolvConf
+    ensures { result ≡ with_dots dots conf }
+{
+    if let Some(dots) = dots {
+        conf.options.ndots = dots;
+    }
+    conf
+}
+
+/// With what the words say of addresses, the port, the time, streams and suffixes.
+fn conf_asked(alloc: Global, lookup: &Lookup, base: ResolvConf) -> Result<ResolvConf, NoMemory>
+    ensures { IfOk result (λ conf. conf ≡ conf_asked lookup.now base) }
 {
     let conf = conf_at(lookup.port, of_family(lookup.family, base));
-    streamed(lookup.tcp, timed(lookup.seconds, conf))
+    let conf = streamed(lookup.tcp, timed(lookup.seconds, conf));
+    let conf = with_domain(alloc, lookup, conf)?;
+    Ok(with_dots(lookup.dots, conf))
 }
 
 /// The configuration that is found in a source, finalized.
@@ -136,10 +160,30 @@ fn ready_in<S: Source>(alloc: Global, source: &mut S) -> Result<Found, Ending>
     }
 }
 
-/// The configuration of the servers that words name, or else the one that is found in a source.
-#[tactic(auto, using(crate::proofs::Bases::named_base, crate::proofs::Bases::source_base))]
+/// Whether the file is needed though servers are named: suffixes are searched, and not all that it says of these is said.
+fn is_file_needed(lookup: &Lookup) -> bool
+    ensures { result ≡ is_file_needed lookup.now }
+{
+    lookup.search && !(lookup.domain.is_some() && lookup.dots.is_some())
+}
+
+/// A configuration with the suffixes of one that was found.
+fn with_suffixes(found: Found, mut conf: ResolvConf) -> Found
+    ensures { result ≡ record { conf = with_suffixes found.conf conf; notes = found.notes } }
+{
+    let Found { conf: from, notes } = found;
+    let ResolvConf { options, .. } = from;
+    let ResolvOptions { search, ndots, .. } = options;
+    conf.options.search = search;
+    conf.options.ndots = ndots;
+    Found { conf, notes }
+}
+
+/// The configuration of the servers that words name, with the suffixes that are found in a source where these are searched, or else the
+/// one that is found there.
+#[tactic(auto, using(crate::proofs::Bases::named_base, crate::proofs::Bases::searched_base, crate::proofs::Bases::source_base))]
 fn base_of<S: Source>(alloc: Global, lookup: &Lookup, source: &mut S) -> Result<Found, Ending>
-    ensures base { IfOk result (λ found. IsBase lookup.now.servers (S.left source.old) found) }
+    ensures base { IfOk result (λ found. IsBase lookup.now (S.left source.old) found) }
     ensures early { IfErr result IsEarly }
     ensures source_fault { IfErr result (λ e. status_of e ≡ 3 → Rose (S.faults source.old) (S.faults source.new)) }
     ensures too_long { IfErr result (λ e. status_of e ≡ 1 → IfSome (S.left source.old) (λ text. IsTooLong text (line_of e))) }
@@ -149,14 +193,20 @@ fn base_of<S: Source>(alloc: Global, lookup: &Lookup, source: &mut S) -> Result<
         return ready_in(alloc, source);
     }
     let conf = named(alloc, lookup.servers.as_slice())?;
-    Ok(Found {
-        conf,
-        notes: Notes::new(alloc),
-    })
+    if !is_file_needed(lookup) {
+        return Ok(Found {
+            conf,
+            notes: Notes::new(alloc),
+        });
+    }
+    match ready_in(alloc, source) {
+        Ok(ready) => Ok(with_suffixes(ready, conf)),
+        Err(ending) => Err(ending),
+    }
 }
 
 /// The configuration that a lookup asks, and what is told of it: of the servers that its words name, or else the one that is
-/// found in a source, as a client is given it in practice.
+/// found in a source, as a client is given it in practice, with what the words say of it.
 pub(crate) fn conf_of<S: Source, W: Words>(
     alloc: Global,
     lookup: &Lookup,
@@ -174,8 +224,6 @@ pub(crate) fn conf_of<S: Source, W: Words>(
         Err(ending) => return Err(ending),
     };
     let conf = practical(alloc, conf, words)?;
-    Ok(Found {
-        conf: conf_asked(lookup, conf),
-        notes,
-    })
+    let conf = conf_asked(alloc, lookup, conf)?;
+    Ok(Found { conf, notes })
 }

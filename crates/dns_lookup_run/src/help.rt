@@ -31,45 +31,58 @@ Servers:
   -p PORT         ask every server at this port, from 1 to 65535
   -4, -6          ask at addresses of IPv4 alone, or of IPv6
   +tcp, +vc       ask by streams alone
-  +time=SECONDS   give a request so long, from 1 to 600; +timeout=SECONDS is the same
+  +time=SECONDS   give a request so long, from 0 to 600, and 0 as 1; +timeout=SECONDS is the same
 
 What is asked:
-  NAME            the name; the final dot may be left out, and no suffix is searched
+  NAME            the name; the final dot may be left out
   -q NAME         ask for this name, whatever it looks like
-  -x ADDRESS      ask for the names of an address
+  -x ADDRESS      ask for the names of an address; of one of IPv4 the last numbers may be left out
   -t TYPE         a type by its name, in any case, or TYPE123, and not AXFR; without one A and then AAAA. Behind it no word alone is one
   -c CLASS        the class: IN, CH or HS
   CLASS, TYPE     the same; a name that looks like one needs -q or a final dot
   --              no word behind it is an option
   -f FILE         ask what the words of a file say too, which stand behind all others
+  +search         ask for a name with the suffixes of /etc/resolv.conf too, up to the first answer but that there is no such name: for one
+                  with as many dots as ndots says there as it stands first, for any other last, and for one with a final dot as it stands
+  +domain=NAME    search this suffix alone
+  +ndots=COUNT    the dots of a name that is asked for as it stands first, from 0 to 65535
   +norec          ask the server for what it has itself
   +dnssec, +do    set DO, so that signatures come too
   +cdflag, +cd    set CD, so that what was not validated comes too
   +adflag, +ad    set AD, so that the server says if an answer is authentic
   +nsid           ask the server for its name
+  +expire         ask it when its copy of the zone expires
+  +aaflag, +tcflag, +raflag, +zflag   set these bits of the header, which no query needs
+  +trace          ask for each name from the root down, at the servers of each zone, and write what each says; the servers that are named
+                  are asked for those of the root, and for the addresses of those that have none beside them. Behind --record it is refused
 
 What is written:
   +short          the data of the answer section alone, a line for each record; where there is none the status says why
   +identify       with +short, the server and the time behind each line
   +json           the message alone, as an object of JSON on a line (RFC 8427)
+  +yaml           the message alone, as a document of YAML in dig's form without moments
   +multiline      long records on several lines
+  +nottlid, +noclass   records without how long they may be kept, or without the class
+  +ttlunits       that time in weeks, days, hours, minutes and seconds
+  +expandaaaa     addresses of IPv6 with all their digits
   +qr             the request before the answer
   +noall          no section, comment or statistics; behind it +answer and the like turn one on again
   +question, +answer, +authority, +additional   these sections, or with no behind the plus not
   +comments       the header, the OPT record and the titles of sections
   +stats          who answered, in which time, and which servers gave no answer of use
 Of options dig's first letters are enough, in any case; no behind the plus turns one off. Of those whose state is always the same that state
-is taken, as +nocmd and +nosearch.
+is taken, as +nocmd and +nocookie.
 
-Of several names what is said before the first is said of all of them, and what stands behind one is said of that one; but servers are those
-of all names, and stand before a second one. The first request without an answer ends it.
+Of several names what is said before the first is said of all of them, and what stands behind one is said of that one; but servers, +tcp,
++time, +search, +domain, +ndots and +trace are those of all names, and servers stand before a second one. The first request without an
+answer ends it.
 
 Exit status:
   0   each answer was written whole, whatever its response code
-  2   the words are no lookup
+  2   the words are no lookup, or a walk that was to be recorded
   3   the configuration, or the file of -f, could not be read, or is too long
   4   standard output failed
-  5   no answer: an error, or none in time
+  5   no answer: an error, or none in time, or each server of a step of a walk failed
   6   memory ran out, no random words could be had, or few words of a record are left
   7   a number would pass 64 bits
   8   with --record: nothing can be recorded, so nothing was asked

@@ -5,9 +5,11 @@ use crate::reports::reports;
 use crate::watched_edge::{Heard, Opened};
 use client_request::Via;
 use dns_base::{Message, NoMemory};
-use dns_lookup_pages::{Lacking, json_text, lacking_in, message_text, query_of, short_text};
+use dns_lookup_pages::{
+    Lacking, json_text, lacking_in, message_text, query_of, short_text, yaml_text,
+};
 use dns_lookup_words::{Ask, Layout};
-use dns_values::SocketAddr;
+use dns_values::{IpAddr, SocketAddr};
 use resolv_conf::ServerConf;
 use std::alloc::Global;
 use std::fmt::{self, Display};
@@ -38,14 +40,12 @@ impl Display for Answerer<'_> {
     }
 }
 
-/// The message of a request as text, behind a line that says what it is; none where it is not asked for.
-fn query_text(alloc: Global, ask: &Ask) -> Result<String, NoMemory> {
-    let layout = ask.manner.layout;
+/// The message of a request as text, behind a line that says what it is; none where a layout has no request.
+pub fn query_text(alloc: Global, layout: Layout, query: &Message) -> Result<String, NoMemory> {
     if !layout.query {
         return Ok(String::new(alloc));
     }
-    let query = query_of(alloc, ask)?;
-    let text = message_text(alloc, layout, &query)?;
+    let text = message_text(alloc, layout, query)?;
     Ok(format!(in alloc;
         ";; Request, before a transport gives it an id and an OPT record:\n{text}\n"
     )?)
@@ -95,8 +95,10 @@ fn whole_page(
     servers: &[ServerConf],
     opened: &[Opened],
 ) -> Result<String, NoMemory> {
-    let mut text = query_text(alloc, ask)?;
-    text.push_str(&message_text(alloc, ask.manner.layout, message)?)?;
+    let layout = ask.manner.layout;
+    let query = query_of(alloc, ask)?;
+    let mut text = query_text(alloc, layout, &query)?;
+    text.push_str(&message_text(alloc, layout, message)?)?;
     text.push_str(&stats_text(alloc, ask, message, outcome, servers, opened)?)?;
     Ok(text)
 }
@@ -119,6 +121,46 @@ fn identity(
     Ok(format!(in alloc; " from server {answerer} in {millis} ms.")?)
 }
 
+/// Who answered, and by which transport, line by line; none where it was answered from what is kept.
+fn source_text(alloc: Global, answerer: Answerer<'_>) -> Result<String, NoMemory> {
+    let Some((address, via)) = answerer.address() else {
+        return Ok(String::new(alloc));
+    };
+    let SocketAddr { ip, port } = address;
+    let family = match ip {
+        IpAddr::V4(_) => "INET",
+        IpAddr::V6(_) => "INET6",
+    };
+    let protocol = match via {
+        Via::Dgram => "UDP",
+        Via::Stream => "TCP",
+    };
+    Ok(format!(in alloc;
+        "    socket_family: {family}\n    socket_protocol: {protocol}\n    response_address: \"{ip}\"\n    response_port: {port}\n"
+    )?)
+}
+
+/// A message as a document of YAML, with these lines of where it came from; as `dig` has it, but for the moments and this host's address,
+/// which are not known.
+pub fn document(
+    alloc: Global,
+    layout: Layout,
+    message: &Message,
+    source: &str,
+) -> Result<String, NoMemory> {
+    let header = message.header();
+    let kind = if header.rd() && header.ra() {
+        "RECURSIVE"
+    } else {
+        "AUTH"
+    };
+    let size = message.as_slice().len();
+    let data = yaml_text(alloc, layout, message)?;
+    Ok(format!(in alloc;
+        "-\n  type: MESSAGE\n  message:\n    type: {kind}_RESPONSE\n    message_size: {size}b\n{source}    response_message_data:\n{data}"
+    )?)
+}
+
 /// What is written of a message.
 pub(crate) fn page(
     alloc: Global,
@@ -132,9 +174,17 @@ pub(crate) fn page(
     if layout.json {
         return json_text(alloc, message);
     }
+    if layout.yaml {
+        let answerer = Answerer {
+            heard: outcome.heard,
+            servers,
+        };
+        let source = source_text(alloc, answerer)?;
+        return document(alloc, layout, message, source.as_str());
+    }
     if layout.short {
         let behind = identity(alloc, layout, outcome, servers)?;
-        return short_text(alloc, message, &behind);
+        return short_text(alloc, layout, message, &behind);
     }
     whole_page(alloc, ask, message, outcome, servers, opened)
 }

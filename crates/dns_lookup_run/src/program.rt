@@ -11,13 +11,15 @@ ghost use Rattle.dns_lookup_run.specs.Asking.{Brought, HasBegun, lack_of, or_lac
 ghost use Rattle.dns_lookup_run.specs.Ends.{EndsTold, HasNoConf, HasPage, IsDone, IsOfAsking, IsOfRequest, IsRefusalTold, TellsWhy, WordsEnd};
 ghost use Rattle.dns_lookup_run.specs.Making.{IsMadeFor};
 ghost use Rattle.dns_lookup_run.specs.Reports.{told_of};
+ghost use Rattle.dns_lookup_run.specs.Walks.{behind_tries, is_no_name, passes_of};
 ghost use Rattle.dns_lookup_run.specs.Sentences.{answer_text, numbers_text, unanswered_text, unwritten_text};
 
 use crate::asking::{Outcome, asked};
-use crate::asks::Asks;
+use crate::asks::{Answered, Asks};
 use crate::conf::conf_of;
 use crate::page::page;
 use crate::reports::reports;
+use crate::search::{Try, tries_of};
 use crate::telling::{
     UNWRITTEN, tell_conf, tell_lack, tell_notes, tell_refusal, tell_stop, tell_unanswered,
 };
@@ -27,7 +29,7 @@ use client_core::{Client, Clock, Edge, cache};
 use client_loop::learn_all;
 use client_request::{Error, Words};
 use command_parts::{deliver, end_by, statuses};
-use dns_base::{NoMemory, Status};
+use dns_base::{NoMemory, Rcode, Status};
 use dns_lookup_pages::{Lacking, lacking_in};
 use dns_lookup_words::{Ask, Fault, Lookup, lookup_of};
 use dns_values::{Sink, Source};
@@ -149,7 +151,9 @@ fn lack_in(ask: &Ask, came: &Result<Outcome, Error>) -> Option<Lacking>
     let layout = ask.manner.layout;
     match came {
         Ok(outcome) => match &outcome.answer {
-            Some(Ok(message)) if layout.short && !layout.json => lacking_in(message),
+            Some(Ok(message)) if layout.short && !(layout.json || layout.yaml) => {
+                lacking_in(message)
+            }
             _ => None,
         },
         Err(_) => None,
@@ -166,7 +170,45 @@ fn or_lack(first: Option<Lacking>, later: Option<Lacking>) -> Option<Lacking>
     }
 }
 
-/// Asks what a lookup asks, one after another, and writes what is answered. The first without an answer ends it.
+/// Whether an answer says that there is no such name.
+fn is_no_name(answer: &Answered) -> bool
+    ensures { result ≡ is_no_name answer.now }
+{
+    match answer {
+        Some(Ok(message)) => message.header().rcode() == Rcode::NXDOMAIN,
+        Some(Err(_)) => false,
+        None => false,
+    }
+}
+
+/// Whether an answer is passed by, since there is no such name and another one is to be tried for it.
+fn passes_by(one: &Try, later: &[Try], came: &Result<Outcome, Error>) -> bool
+    ensures { result ≡ passes_of one.now later.now came.now }
+{
+    match came {
+        Ok(outcome) => one.more && !later.is_empty() && is_no_name(&outcome.answer),
+        Err(_) => false,
+    }
+}
+
+/// What is left behind those that are tried for the same name.
+fn behind_tries(more: bool, later: &[Try]) -> &[Try]
+    ensures { result.now ≡ behind_tries more later.now }
+{
+    let mut is_same = more;
+    let mut rest = later;
+    while is_same {
+        let Some((one, behind)) = rest.split_first() else {
+            return rest;
+        };
+        is_same = one.more;
+        rest = behind;
+    }
+    rest
+}
+
+/// Asks what a lookup asks, one after another, and writes what is answered; of names that are tried for one the first answer that is not
+/// passed by. The first without an answer ends it.
 pub(crate) fn ask_all<K: Sink, L: Sink, E: Edge + Drop, C: Clock + Drop, A: Asks>(
     alloc: Global,
     lookup: &Lookup,
@@ -190,23 +232,31 @@ pub(crate) fn ask_all<K: Sink, L: Sink, E: Edge + Drop, C: Clock + Drop, A: Asks
     ensures sink_fault { result.0 ≡ 4 → Rose (K.faults sink.old) (K.faults sink.new) }
     ensures count { K.faults sink.old ≤ K.faults sink.new }
 {
+    let asks = lookup.asks.as_slice();
+    let Ok(tries) = tries_of(alloc, lookup.search, &conf.options, asks) else {
+        return statuses::NO_MEMORY;
+    };
     let Ok(mut client) = client_of(alloc, conf, edge) else {
         return statuses::NO_MEMORY;
     };
     let servers = conf.servers.as_slice();
     let mut lack = None;
     let mut number = 0usize;
-    let asks = lookup.asks.as_slice();
-    let mut rest = asks;
-    while let Some((ask, later)) = rest.split_first() {
+    let mut rest = tries.as_slice();
+    while let Some((one, later)) = rest.split_first() {
+        let ask = &one.ask;
         let came = asked(alloc, ask, number as u64, &mut client, edge, clock, rng);
+        number += 1;
+        if passes_by(one, later, &came) {
+            rest = later;
+            continue;
+        }
         let status = tell(alloc, ask, &came, servers, edge.opened(), sink, errors);
         if status.0 > 0 {
             return status;
         }
         lack = or_lack(lack, lack_in(ask, &came));
-        number += 1;
-        rest = later;
+        rest = behind_tries(one.more, later);
     }
     tell_lack(alloc, lack, errors)
 }

@@ -67,9 +67,9 @@ pub fn tell_no_random<L: Sink>(errors: &mut L) -> Status
     )
 }
 
-/// What is told where there is no configuration and no server is named.
+/// What is told where there is no configuration, and it is needed.
 const UNREAD_CONF: &[u8] =
-    b"dns_lookup: /etc/resolv.conf could not be read, and no server is named by @ADDRESS\n";
+    b"dns_lookup: /etc/resolv.conf could not be read, which has the servers where no @SERVER is named, and the suffixes of +search\n";
 
 /// Why a configuration was refused, as a sentence.
 fn refused_conf(alloc: Global, line: &[u8]) -> Result<Vec<u8>, NoMemory>
@@ -189,8 +189,8 @@ fn service_line(alloc: Global, code: u8) -> Result<String, NoMemory>
     Ok(format!(in alloc; "dns_lookup: no answer: the server said {rcode}\n")?)
 }
 
-/// Tells of an answer without data, if there was one.
-pub(crate) fn tell_lack<L: Sink>(alloc: Global, lack: Option<Lacking>, errors: &mut L) -> Status
+/// Tells of an answer without data, if there was one, and answers the exit status: 0 where there was none, and else 9, 10 or 11.
+pub fn tell_lack<L: Sink>(alloc: Global, lack: Option<Lacking>, errors: &mut L) -> Status
     ensures status { (result.0 ≡ lack_status lack) ⊎ (result.0 ≡ 6) }
     ensures quiet { result.0 ≡ 0 → L.held errors.new ≡ L.held errors.old }
     ensures said { result.0 ≢ 6 → IfSome lack (λ l. IsSaid (lack_text l) (L.held errors.old) (L.held errors.new) (L.faults errors.old) (L.faults errors.new)) }

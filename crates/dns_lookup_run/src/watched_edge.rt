@@ -1,15 +1,15 @@
 //! An edge, and from whom octets came last.
 
-ghost use Rattle.std.specs.Prelude.{◌≡◌, [], None, Some, map, OnOk, IfOk, option_map};
+ghost use Rattle.std.specs.Prelude.{◌≡◌, ◌++◌, [], ◌∷◌, None, Some, map, OnOk, IfOk, option_map};
 ghost use Rattle.client_core.specs.Edge.{after_deed, after_fault};
 ghost use Rattle.client_core.specs.declared.edge.Deed.{Deed};
-ghost use Rattle.dns_base.specs.Header.{rcode_of};
 ghost use Rattle.dns_values.specs.Source.{one_more};
-ghost use Rattle.dns_lookup_run.specs.Watched.{as_earlier, at_place, heard_after, heard_at, news_after, news_of, with_opened};
+ghost use Rattle.dns_lookup_run.specs.declared.watched_edge.News.TheVariants as news;
+ghost use Rattle.dns_lookup_run.specs.Watched.{as_earlier, at_place, datagram_news, heard_after, heard_at, news_after, news_of, opened_at, sent_at, sent_under, with_out};
 
 use client_core::Edge;
 use client_request::{Fault, Out, Via, What};
-use dns_base::NoMemory;
+use dns_base::{Header, NoMemory};
 use resolv_conf::ServerConf;
 use std::alloc::Global;
 use std::marker::Model;
@@ -30,8 +30,16 @@ pub enum News {
     Earlier,
     /// It brought nothing.
     Nothing,
-    /// Octets came: a datagram with this code, or some of a stream, of which none is known.
-    Octets(u8),
+    /// A datagram came with fewer octets than a header has (RFC 1035 4.1.1).
+    NoMessage,
+    /// A datagram came under another id than what was sent there last.
+    OtherId,
+    /// A datagram came that was cut (TC).
+    Cut,
+    /// A datagram came with this code.
+    Code(u8),
+    /// Octets of a stream came.
+    Octets,
     /// A fault came.
     Fault(Fault),
 }
@@ -48,6 +56,8 @@ pub struct Tidings {
 pub struct Opened {
     pub place: u64,
     pub heard: Heard,
+    /// The id of the datagram that was sent there last.
+    pub sent: Option<u16>,
     pub news: News,
 }
 
@@ -67,26 +77,53 @@ impl<E: Edge + Drop> Model for WatchedEdge<E> {
     ghost view = { λ w. record { edge = w.edge; opened = w.opened.items; heard = w.heard } };
 }
 
-/// The server at a place, and how it is asked there.
-fn heard_at(place: u64, opened: &[Opened]) -> Option<Heard>
-    ensures { result ≡ heard_at place opened.now }
+/// A place by its number.
+fn opened_at(place: u64, opened: &[Opened]) -> Option<Opened>
+    ensures { result ≡ opened_at place opened.now }
 {
     for one in opened {
         if one.place == place {
-            return Some(one.heard);
+            return Some(*one);
         }
     }
     None
 }
 
-/// The code in the fourth octet of a datagram (RFC 1035 4.1.1); 0 where there is none.
-fn code_of(octets: &[u8]) -> u8
-    ensures { result ≡ rcode_of octets.now }
+/// The server at a place, and how it is asked there.
+fn heard_at(place: u64, opened: &[Opened]) -> Option<Heard>
+    ensures { result ≡ heard_at place opened.now }
 {
-    match octets {
-        [_, _, _, fourth, ..] => *fourth & 15,
-        _ => 0,
+    match opened_at(place, opened) {
+        Some(one) => Some(one.heard),
+        None => None,
     }
+}
+
+/// The id of what was sent at a place last.
+fn sent_at(place: u64, opened: &[Opened]) -> Option<u16>
+    ensures { result ≡ sent_at place opened.now }
+{
+    match opened_at(place, opened) {
+        Some(one) => one.sent,
+        None => None,
+    }
+}
+
+/// What a datagram is that came where one was sent under this id.
+fn datagram_news(sent: Option<u16>, octets: &[u8]) -> News
+    ensures { result ≡ datagram_news sent octets.now }
+{
+    let [first, second, third, fourth, _, _, _, _, _, _, _, _, ..] = octets else {
+        return News::NoMessage;
+    };
+    let header = Header::from_octets([*first, *second, *third, *fourth]);
+    if sent != Some(header.id()) {
+        return News::OtherId;
+    }
+    if header.tc() {
+        return News::Cut;
+    }
+    News::Code(header.rcode().0)
 }
 
 /// News of a place.
@@ -97,15 +134,15 @@ fn brought(place: u64, news: News) -> Option<Tidings>
 }
 
 /// What a place brought, if something came of one.
-fn news_of(what: &What) -> Option<Tidings>
-    ensures { result ≡ news_of what.now }
+fn news_of(what: &What, opened: &[Opened]) -> Option<Tidings>
+    ensures { result ≡ news_of what.now opened.now }
 {
     match what {
         What::Datagram { place, octets } => brought(
             *place,
-            News::Octets(code_of(octets.as_slice())),
+            datagram_news(sent_at(*place, opened), octets.as_slice()),
         ),
-        What::Bytes { place, .. } => brought(*place, News::Octets(0)),
+        What::Bytes { place, .. } => brought(*place, News::Octets),
         What::OpenFailed { place, fault }
         | What::SendFailed { place, fault }
         | What::RecvFailed { place, fault }
@@ -136,6 +173,29 @@ fn set_news(opened: &mut Vec<Opened>, brought: Tidings)
 {
     for one in opened.iter_mut() {
         *one = at_place(brought, *one);
+    }
+}
+
+/// A place, with the id of what was sent there, if it is this one.
+fn sent_under(place: u64, id: u16, opened: Opened) -> Opened
+    ensures { result ≡ sent_under place id opened }
+{
+    if opened.place == place {
+        Opened {
+            sent: Some(id),
+            ..opened
+        }
+    } else {
+        opened
+    }
+}
+
+/// Sets the id of what was sent at a place.
+fn set_sent(opened: &mut Vec<Opened>, place: u64, id: u16)
+    ensures { opened.new.items ≡ map (sent_under place id) opened.old.items }
+{
+    for one in opened.iter_mut() {
+        *one = sent_under(place, id, *one);
     }
 }
 
@@ -200,29 +260,42 @@ impl<E: Edge + Drop> WatchedEdge<E> {
         let Some(what) = what else {
             return;
         };
-        if let Some(brought) = news_of(what) {
+        if let Some(brought) = news_of(what, &self.opened) {
             set_news(&mut self.opened, brought);
         }
     }
 
-    /// Remembers the place that an out opens, if it opens one.
-    fn remember(&mut self, out: &Out) -> Result<(), NoMemory>
-        ensures opened { OnOk result (self.new.opened ≡ with_opened out.now self.old.opened) }
+    /// Remembers a place that is opened.
+    fn remember_place(&mut self, place: u64, server: u32, via: Via) -> Result<(), NoMemory>
+        ensures opened { OnOk result (self.new.opened ≡ self.old.opened ++ record { place = place; heard = record { server = server; via = via }; sent = None; news = news.Nothing } ∷ []) }
         ensures edge { self.new.edge ≡ self.old.edge }
         ensures heard { self.new.heard ≡ self.old.heard }
     {
-        let (place, server, via) = match out {
-            Out::OpenDgram { place, server } => (*place, *server, Via::Dgram),
-            Out::OpenStream { place, server } => (*place, *server, Via::Stream),
-            _ => return Ok(()),
-        };
         let heard = Heard { server, via };
         self.opened.push(Opened {
             place,
             heard,
+            sent: None,
             news: News::Nothing,
         })?;
         Ok(())
+    }
+
+    /// Remembers the place that an out opens, or the id of the datagram that it sends.
+    fn remember(&mut self, out: &Out) -> Result<(), NoMemory>
+        ensures opened { OnOk result (self.new.opened ≡ with_out out.now self.old.opened) }
+        ensures edge { self.new.edge ≡ self.old.edge }
+        ensures heard { self.new.heard ≡ self.old.heard }
+    {
+        match out {
+            Out::OpenDgram { place, server } => self.remember_place(*place, *server, Via::Dgram),
+            Out::OpenStream { place, server } => self.remember_place(*place, *server, Via::Stream),
+            Out::Send { place, id, .. } => {
+                set_sent(&mut self.opened, *place, *id);
+                Ok(())
+            }
+            _ => Ok(()),
+        }
     }
 }
 

@@ -26,6 +26,7 @@ fn asked_at(alloc: Global, ask: &Ask, station: &Station) -> Result<Ask, NoMemory
         Station::Given => Ok(Ask {
             name: Name::root(alloc),
             rtype: Rtype::NS,
+            rooted: ask.rooted,
             manner: ask.manner,
         }),
         Station::Zone(_) => {
@@ -33,6 +34,7 @@ fn asked_at(alloc: Global, ask: &Ask, station: &Station) -> Result<Ask, NoMemory
             Ok(Ask {
                 name,
                 rtype: ask.rtype,
+                rooted: ask.rooted,
                 manner: without_recursion(ask.manner),
             })
         }

@@ -1,8 +1,7 @@
 -- Addresses whose last numbers may be left out: a text writes one at most, and what their names are.
 use Rattle.std.proofs.Common.{◌≡◌, ◌≢◌, ◌⊎◌, inl, inr, ◌+◌, ◌-◌, ◌<◌, ◌≤◌, ◌++◌, ℕ, zero, suc, List, [], ◌∷◌, length, take, drop, slice_index_or, codes, refl, ap, sym, subst, ◌∙◌, append_assoc, length-append, add-one, lit≤, arith}
 use Rattle.std.proofs.Math.Seq.{drop-append_seam, take-length}
-use Rattle.std.specs.List.{AllByRecursion}
-use Rattle.dns_names.specs.Name.{IsLabel, IsLegal, Labels, Spells, octet_count, spelling}
+use Rattle.dns_names.specs.Name.{IsLegal, Labels, spelling}
 use Rattle.dns_values.proofs.Addresses.{one_address}
 use Rattle.dns_values.specs.Address.{IsAddressText}
 use Rattle.dns_values.specs.declared.address.IpAddr.{IpAddr}

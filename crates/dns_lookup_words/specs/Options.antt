@@ -1,107 +1,90 @@
 -- The options that begin with a plus: their names, and what each sets.
-use Rattle.std.specs.Prelude.{ℕ, Bool, ◌&&◌, if◌then◌else◌, List, [], ◌∷◌, map, length, take, drop, codes, nat_le, Option, None, Some}
-use Rattle.std.specs.Borrow.{Bor}
-use Rattle.std.specs.Str.{str_eq_ignore_ascii_case}
+use Rattle.std.specs.Prelude.{ℕ, Bool, if◌then◌else◌, List, [], ◌∷◌, drop, codes}
 use Rattle.dns_values.specs.NumberNames.{begins_with}
+use Rattle.program_words.specs.Rows.{Row}
+use Rattle.program_words.specs.declared.row.Letters.TheVariants.{First}
 use Rattle.dns_lookup_words.specs.declared.lacking.Lack.TheVariants as lacks
 use Rattle.dns_lookup_words.specs.declared.options.Flag.TheVariants as flags
 use Rattle.dns_lookup_words.specs.declared.options.Part.TheVariants as parts
 use Rattle.dns_lookup_words.specs.declared.options.Sets.{Sets}
-use Rattle.dns_lookup_words.specs.declared.options.Sets.TheVariants.{Absent, All, Already, Edns, Flag, Never, Part, Tcp, Time}
-
--- A name, how many of its first letters are enough, and what the option sets.
-abbrev pub Entry : Type 0
-Entry = List ℕ × ℕ × Sets
-
--- the table of the code as that of the specification
-abbrev pub told : List (Bor (List ℕ) × ℕ × Sets) → List Entry
-told entries = map (λ e. (e.0.now, e.1, e.2)) entries
+use Rattle.dns_lookup_words.specs.declared.options.Sets.TheVariants.{Absent, All, Already, Domain, Dots, Edns, Flag, Never, Part, Search, Tcp, Time, Walk}
 
 -- dig's options, of which the first that a word is short for counts
-unfoldable pub plus_options : List Entry
+unfoldable pub plus_options : List (Row Sets)
 plus_options =
-    (codes "aaflag", 2, Never lacks.Header)
-    ∷ (codes "aaonly", 2, Never lacks.Header)
-    ∷ (codes "adflag", 2, Flag flags.Authentic)
-    ∷ (codes "additional", 3, Part parts.Additional)
-    ∷ (codes "all", 2, All)
-    ∷ (codes "answer", 2, Part parts.Answer)
-    ∷ (codes "authority", 2, Part parts.Authority)
-    ∷ (codes "badcookie", 2, Absent lacks.Cookie)
-    ∷ (codes "besteffort", 2, Absent lacks.Transport)
-    ∷ (codes "bufsize", 2, Absent lacks.Extension)
-    ∷ (codes "cdflag", 2, Flag flags.Unchecked)
-    ∷ (codes "class", 2, Already lacks.Text)
-    ∷ (codes "cmd", 2, Never lacks.Text)
-    ∷ (codes "comments", 3, Part parts.Comments)
-    ∷ (codes "cookie", 3, Never lacks.Cookie)
-    ∷ (codes "crypto", 2, Already lacks.Text)
-    ∷ (codes "defname", 3, Never lacks.Suffixes)
-    ∷ (codes "dnssec", 4, Flag flags.Dnssec)
-    ∷ (codes "do", 2, Flag flags.Dnssec)
-    ∷ (codes "domain", 3, Absent lacks.Suffixes)
-    ∷ (codes "edns", 2, Edns)
-    ∷ (codes "ednsflags", 5, Absent lacks.Extension)
-    ∷ (codes "ednsnegotiation", 5, Absent lacks.Extension)
-    ∷ (codes "ednsopt", 5, Absent lacks.Extension)
-    ∷ (codes "expandaaaa", 4, Never lacks.Text)
-    ∷ (codes "expire", 4, Never lacks.Extension)
-    ∷ (codes "fail", 1, Never lacks.Transport)
-    ∷ (codes "header-only", 2, Never lacks.Header)
-    ∷ (codes "https", 2, Never lacks.Encryption)
-    ∷ (codes "identify", 3, Part parts.Identify)
-    ∷ (codes "idnin", 4, Never lacks.Letters)
-    ∷ (codes "idnout", 4, Never lacks.Letters)
-    ∷ (codes "ignore", 2, Never lacks.Transport)
-    ∷ (codes "json", 1, Part parts.Json)
-    ∷ (codes "keepalive", 5, Absent lacks.Extension)
-    ∷ (codes "keepopen", 5, Absent lacks.Transport)
-    ∷ (codes "mapped", 2, Absent lacks.Transport)
-    ∷ (codes "multiline", 2, Part parts.Multiline)
-    ∷ (codes "ndots", 2, Absent lacks.Suffixes)
-    ∷ (codes "nsid", 3, Flag flags.Nsid)
-    ∷ (codes "nssearch", 3, Never lacks.Walk)
-    ∷ (codes "onesoa", 2, Absent lacks.Text)
-    ∷ (codes "opcode", 2, Absent lacks.Header)
-    ∷ (codes "padding", 1, Absent lacks.Extension)
-    ∷ (codes "qid", 2, Absent lacks.Header)
-    ∷ (codes "qr", 2, Part parts.Query)
-    ∷ (codes "question", 2, Part parts.Question)
-    ∷ (codes "quic", 4, Never lacks.Encryption)
-    ∷ (codes "raflag", 2, Never lacks.Header)
-    ∷ (codes "rdflag", 2, Flag flags.Recursion)
-    ∷ (codes "recurse", 3, Flag flags.Recursion)
-    ∷ (codes "retry", 3, Absent lacks.Tries)
-    ∷ (codes "rrcomments", 2, Never lacks.Text)
-    ∷ (codes "search", 2, Never lacks.Suffixes)
-    ∷ (codes "short", 4, Part parts.Short)
-    ∷ (codes "showsearch", 5, Never lacks.Suffixes)
-    ∷ (codes "split", 2, Absent lacks.Text)
-    ∷ (codes "stats", 2, Part parts.Stats)
-    ∷ (codes "subnet", 2, Never lacks.Subnet)
-    ∷ (codes "tcflag", 3, Never lacks.Header)
-    ∷ (codes "tcp", 2, Tcp)
-    ∷ (codes "time", 2, Time)
-    ∷ (codes "timeout", 5, Time)
-    ∷ (codes "tls", 2, Never lacks.Encryption)
-    ∷ (codes "trace", 3, Never lacks.Walk)
-    ∷ (codes "tries", 3, Absent lacks.Tries)
-    ∷ (codes "ttlid", 4, Already lacks.Text)
-    ∷ (codes "ttlunits", 4, Never lacks.Text)
-    ∷ (codes "unknownformat", 3, Never lacks.Text)
-    ∷ (codes "vc", 1, Tcp)
-    ∷ (codes "yaml", 1, Never lacks.Text)
-    ∷ (codes "zflag", 1, Never lacks.Header)
+    (codes "aaflag", First 2, Flag flags.Authoritative)
+    ∷ (codes "aaonly", First 2, Flag flags.Authoritative)
+    ∷ (codes "adflag", First 2, Flag flags.Authentic)
+    ∷ (codes "additional", First 3, Part parts.Additional)
+    ∷ (codes "all", First 2, All)
+    ∷ (codes "answer", First 2, Part parts.Answer)
+    ∷ (codes "authority", First 2, Part parts.Authority)
+    ∷ (codes "badcookie", First 2, Never lacks.Cookie)
+    ∷ (codes "besteffort", First 2, Absent lacks.Transport)
+    ∷ (codes "bufsize", First 2, Absent lacks.Extension)
+    ∷ (codes "cdflag", First 2, Flag flags.Unchecked)
+    ∷ (codes "class", First 2, Part parts.Class)
+    ∷ (codes "cmd", First 2, Never lacks.Text)
+    ∷ (codes "comments", First 3, Part parts.Comments)
+    ∷ (codes "cookie", First 3, Never lacks.Cookie)
+    ∷ (codes "crypto", First 2, Already lacks.Text)
+    ∷ (codes "defname", First 3, Search)
+    ∷ (codes "dnssec", First 4, Flag flags.Dnssec)
+    ∷ (codes "do", First 2, Flag flags.Dnssec)
+    ∷ (codes "domain", First 3, Domain)
+    ∷ (codes "edns", First 2, Edns)
+    ∷ (codes "ednsflags", First 5, Absent lacks.Extension)
+    ∷ (codes "ednsnegotiation", First 5, Never lacks.Extension)
+    ∷ (codes "ednsopt", First 5, Absent lacks.Extension)
+    ∷ (codes "expandaaaa", First 4, Part parts.Expanded)
+    ∷ (codes "expire", First 4, Flag flags.Expire)
+    ∷ (codes "fail", First 1, Never lacks.Transport)
+    ∷ (codes "header-only", First 2, Never lacks.Header)
+    ∷ (codes "https", First 2, Never lacks.Encryption)
+    ∷ (codes "identify", First 3, Part parts.Identify)
+    ∷ (codes "idnin", First 4, Never lacks.Letters)
+    ∷ (codes "idnout", First 4, Never lacks.Letters)
+    ∷ (codes "ignore", First 2, Never lacks.Transport)
+    ∷ (codes "json", First 1, Part parts.Json)
+    ∷ (codes "keepalive", First 5, Absent lacks.Extension)
+    ∷ (codes "keepopen", First 5, Already lacks.Transport)
+    ∷ (codes "mapped", First 2, Never lacks.Transport)
+    ∷ (codes "multiline", First 2, Part parts.Multiline)
+    ∷ (codes "ndots", First 2, Dots)
+    ∷ (codes "nsid", First 3, Flag flags.Nsid)
+    ∷ (codes "nssearch", First 3, Never lacks.Walk)
+    ∷ (codes "onesoa", First 2, Absent lacks.Text)
+    ∷ (codes "opcode", First 2, Absent lacks.Header)
+    ∷ (codes "padding", First 1, Absent lacks.Extension)
+    ∷ (codes "qid", First 2, Absent lacks.Header)
+    ∷ (codes "qr", First 2, Part parts.Query)
+    ∷ (codes "question", First 2, Part parts.Question)
+    ∷ (codes "quic", First 4, Never lacks.Encryption)
+    ∷ (codes "raflag", First 2, Flag flags.Available)
+    ∷ (codes "rdflag", First 2, Flag flags.Recursion)
+    ∷ (codes "recurse", First 3, Flag flags.Recursion)
+    ∷ (codes "retry", First 3, Absent lacks.Tries)
+    ∷ (codes "rrcomments", First 2, Never lacks.Text)
+    ∷ (codes "search", First 2, Search)
+    ∷ (codes "short", First 4, Part parts.Short)
+    ∷ (codes "showsearch", First 5, Never lacks.Suffixes)
+    ∷ (codes "split", First 2, Never lacks.Text)
+    ∷ (codes "stats", First 2, Part parts.Stats)
+    ∷ (codes "subnet", First 2, Never lacks.Subnet)
+    ∷ (codes "tcflag", First 3, Flag flags.Truncated)
+    ∷ (codes "tcp", First 2, Tcp)
+    ∷ (codes "time", First 2, Time)
+    ∷ (codes "timeout", First 5, Time)
+    ∷ (codes "tls", First 2, Never lacks.Encryption)
+    ∷ (codes "trace", First 3, Walk)
+    ∷ (codes "tries", First 3, Absent lacks.Tries)
+    ∷ (codes "ttlid", First 4, Part parts.Ttl)
+    ∷ (codes "ttlunits", First 4, Part parts.Units)
+    ∷ (codes "unknownformat", First 3, Never lacks.Text)
+    ∷ (codes "vc", First 1, Tcp)
+    ∷ (codes "yaml", First 1, Part parts.Yaml)
+    ∷ (codes "zflag", First 1, Flag flags.Reserved)
     ∷ []
-
--- whether a text is a name cut short, in any case, and has letters enough
-abbrev pub is_short_for : ℕ → (name text : List ℕ) → Bool
-is_short_for least name text =
-    nat_le least (length text) && (nat_le (length text) (length name) && str_eq_ignore_ascii_case (take (length text) name) text)
-
-abbrev pub sets_of : List Entry → List ℕ → Option Sets
-sets_of [] text = None
-sets_of (e ∷ entries) text = if is_short_for e.1 e.0 text then Some e.2 else sets_of entries text
 
 -- `no` before a name turns it off
 abbrev pub is_off : List ℕ → Bool

@@ -6,15 +6,16 @@ use Rattle.std.specs.Str.{bytes_eq, str_eq_ignore_ascii_case}
 use Rattle.std.specs.String.{string_bytes}
 use Rattle.std.specs.declared.alloc.Global.{Global}
 use Rattle.dns_names.specs.Name.{Labels}
-use Rattle.dns_names.specs.Text.{name_of_text}
+use Rattle.dns_names.specs.Text.{name_of_text, relative_of_text}
 use Rattle.dns_values.specs.Address.{IsAddressText}
 use Rattle.dns_values.specs.NumberNames.{begins_with, class_of_text}
 use Rattle.dns_values.specs.declared.address.IpAddr.{IpAddr}
 use Rattle.dns_values.specs.declared.address.IpAddr.TheVariants.{V4}
 use Rattle.dns_values.specs.declared.numbers.Rtype.{Rtype}
 use Rattle.resolv_conf.specs.Number.{number_of}
-use Rattle.dns_lookup_words.specs.Asks.{all_set, asks_of, flag_set, part_set, usual_asking}
-use Rattle.dns_lookup_words.specs.Options.{is_off, plus_options, sets_of, without_no}
+use Rattle.dns_lookup_words.specs.Asks.{all_set, asks_of, flag_set, part_set, usual_asking, walking}
+use Rattle.program_words.specs.Rows.{said_in}
+use Rattle.dns_lookup_words.specs.Options.{is_off, plus_options, without_no}
 use Rattle.dns_lookup_words.specs.ShortAddress.{IsNoAddress, IsShortAddress, short_labels}
 use Rattle.dns_lookup_words.specs.Types.{type_number}
 use Rattle.dns_lookup_words.specs.declared.lacking.Lack.{Lack}
@@ -48,6 +49,10 @@ nothing_said = record {
   family = None;
   tcp = false;
   seconds = None;
+  search = false;
+  domain = None;
+  dots = None;
+  walk = false;
   asks = [];
   name = None;
   asking = usual_asking;
@@ -65,6 +70,13 @@ unfoldable pub behind_first : ℕ → List ℕ → Option (List ℕ)
 behind_first sign text =
     if nat_lt (position_or_len (λ c. c == sign) text) (length text) then Some (after_first (λ c. c == sign) text) else None
 
+-- a number up to the greatest
+abbrev pub up_to : ℕ → ℕ → Option ℕ
+up_to most n = if nat_lt most n then None else Some n
+
+abbrev pub number_up_to : ℕ → List ℕ → Option ℕ
+number_up_to most word = option_and_then (up_to most) (number_of word)
+
 -- a number from 1 to the greatest
 abbrev pub in_range : ℕ → ℕ → Option ℕ
 in_range most n = if n == 0 || nat_lt most n then None else Some n
@@ -80,13 +92,29 @@ port_given (Some port) said = Ok (record said { port = Some port })
 abbrev pub port_said : List ℕ → Said → Result Said Wrong
 port_said word said = port_given (number_in 65535 word) said
 
--- `+time=SECONDS`, the last of which counts
+-- `+time=SECONDS`, the last of which counts, and 0 as 1
 abbrev pub time_given : Option ℕ → Said → Result Said Wrong
 time_given None said = Err wrongs.Time
-time_given (Some seconds) said = Ok (record said { seconds = Some seconds })
+time_given (Some seconds) said = Ok (record said { seconds = Some (if seconds == 0 then 1 else seconds) })
 
 abbrev pub time_said : List ℕ → Said → Result Said Wrong
-time_said text said = time_given (number_in 600 text) said
+time_said text said = time_given (number_up_to 600 text) said
+
+-- `+ndots=COUNT`, the last of which counts
+abbrev pub dots_given : Option ℕ → Said → Result Said Wrong
+dots_given None said = Err wrongs.Dots
+dots_given (Some dots) said = Ok (record said { dots = Some dots })
+
+abbrev pub dots_said : List ℕ → Said → Result Said Wrong
+dots_said text said = dots_given (number_up_to 65535 text) said
+
+-- `+domain=NAME`, the last of which counts: this suffix is searched
+abbrev pub domain_given : Option Labels → Said → Result Said Wrong
+domain_given None said = Err wrongs.Suffix
+domain_given (Some name) said = Ok (record said { search = true; domain = Some name })
+
+abbrev pub domain_said : List ℕ → Said → Result Said Wrong
+domain_said text said = domain_given (result_ok (name_of_text text)) said
 
 -- `@ADDRESS`, behind those that were said before
 abbrev pub with_server : IpAddr → Option ℕ → Said → Said
@@ -166,8 +194,12 @@ or_ptr (Some rtype) = Some rtype
 abbrev pub with_ptr : Said → Said
 with_ptr said = record said { asking = record said.asking { rtype = or_ptr said.asking.rtype } }
 
+-- whether the name ends in its root, so that no suffix is searched for it
+abbrev pub with_root : Bool → Said → Said
+with_root rooted said = record said { asking = record said.asking { rooted = rooted } }
+
 abbrev pub with_address : (missing : ℕ) → IpAddr → Said → Said
-with_address missing ip said = with_ptr (begun (short_labels missing ip) said)
+with_address missing ip said = with_ptr (with_root true (begun (short_labels missing ip) said))
 
 -- no name begins behind a server that stands behind a name
 abbrev pub AddressAt : Bool → List ℕ → Said → Result Said Wrong → Type 0
@@ -182,9 +214,13 @@ AddressGives word said answer = AddressAt said.late word said answer
 abbrev pub wrong_name : List ℕ → Wrong
 wrong_name word = if list_any (λ c. nat_lt 127 c) word then wrongs.Idn else wrongs.Name
 
+-- a text with a final dot, which no relative name has
+abbrev pub is_rooted : List ℕ → Bool
+is_rooted word = not (is_some (result_ok (relative_of_text word)))
+
 abbrev pub name_given : Option Labels → List ℕ → Said → Result Said Wrong
 name_given None word said = Err (wrong_name word)
-name_given (Some name) word said = Ok (begun name said)
+name_given (Some name) word said = Ok (with_root (is_rooted word) (begun name said))
 
 abbrev pub name_said : List ℕ → Said → Result Said Wrong
 name_said word said = if said.late then Err wrongs.Parted else name_given (result_ok (name_of_text word)) word said
@@ -295,21 +331,36 @@ with_flags flags said = record said { asking = record said.asking { manner = rec
 abbrev pub with_layout : Layout → Said → Said
 with_layout layout said = record said { asking = record said.asking { manner = record said.asking.manner { layout = layout } } }
 
+-- `+[no]trace`: each name as it stands is asked for from the root on
+abbrev pub with_walk : Bool → Said → Said
+with_walk true said = record said { walk = true; search = false; asking = record said.asking { manner = walking said.asking.manner } }
+with_walk false said = record said { walk = false }
+
 -- an option without a value
 abbrev pub set_bare : Sets → Bool → Said → Result Said Wrong
 set_bare sets.Tcp on said = Ok (record said { tcp = on })
 set_bare sets.Time on said = Err wrongs.Time
 set_bare (sets.Flag flag) on said = Ok (with_flags (flag_set flag on said.asking.manner.flags) said)
 set_bare (sets.Part part) on said = Ok (with_layout (part_set part on said.asking.manner.layout) said)
+set_bare sets.Search on said = Ok (record said { search = on })
+set_bare sets.Domain on said = Err wrongs.Suffix
+set_bare sets.Dots on said = Err wrongs.Dots
+set_bare sets.Walk on said = Ok (with_walk on said)
 set_bare sets.All on said = Ok (with_layout (all_set on said.asking.manner.layout) said)
 set_bare sets.Edns on said = only_on lacks.Extension on said
 set_bare (sets.Already lack) on said = only_on lack on said
 set_bare (sets.Never lack) on said = only_off lack on said
 set_bare (sets.Absent lack) on said = Err (wrongs.Lacking lack)
 
--- and with one, which time has, and the version of EDNS
+-- and with one, which time, a suffix, a count of dots and the version of EDNS have
 abbrev pub time_valued : Bool → List ℕ → Said → Result Said Wrong
 time_valued on text said = if on then time_said text said else Err wrongs.Time
+
+abbrev pub domain_valued : Bool → List ℕ → Said → Result Said Wrong
+domain_valued on text said = if on then domain_said text said else Err wrongs.Suffix
+
+abbrev pub dots_valued : Bool → List ℕ → Said → Result Said Wrong
+dots_valued on text said = if on then dots_said text said else Err wrongs.Dots
 
 abbrev pub version_said : List ℕ → Bool → Said → Result Said Wrong
 version_said text on said = only_on lacks.Extension (on && bytes_eq text (codes "0")) said
@@ -319,6 +370,10 @@ set_valued sets.Tcp on text said = Err wrongs.Valued
 set_valued sets.Time on text said = time_valued on text said
 set_valued (sets.Flag flag) on text said = Err wrongs.Valued
 set_valued (sets.Part part) on text said = Err wrongs.Valued
+set_valued sets.Search on text said = Err wrongs.Valued
+set_valued sets.Domain on text said = domain_valued on text said
+set_valued sets.Dots on text said = dots_valued on text said
+set_valued sets.Walk on text said = Err wrongs.Valued
 set_valued sets.All on text said = Err wrongs.Valued
 set_valued sets.Edns on text said = version_said text on said
 set_valued (sets.Already lack) on text said = Err wrongs.Valued
@@ -335,7 +390,7 @@ plus_at (Some s) on value said = set_by s on value said
 
 -- `+[no]NAME` or `+NAME=VALUE`, by the table of names
 abbrev pub plus_named : (name : List ℕ) → Option (List ℕ) → Said → Result Said Wrong
-plus_named name value said = plus_at (sets_of plus_options (without_no name)) (not (is_off name)) value said
+plus_named name value said = plus_at (said_in plus_options (without_no name)) (not (is_off name)) value said
 
 abbrev pub plus_said : List ℕ → Said → Result Said Wrong
 plus_said text said = plus_named (before_first (λ c. c == 61) text) (behind_first 61 text) said
@@ -389,6 +444,10 @@ named (Some name) said = Ok (record {
   family = said.family;
   tcp = said.tcp;
   seconds = said.seconds;
+  search = said.search;
+  domain = said.domain;
+  dots = said.dots;
+  walk = said.walk;
   asks = said.asks ++ asks_of name said.asking;
 })
 

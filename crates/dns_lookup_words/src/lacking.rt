@@ -14,15 +14,15 @@ pub enum Lack {
     Subnet,
     /// Another OPT record, or none (RFC 6891).
     Extension,
-    /// Another header.
+    /// Another id or opcode, or no question.
     Header,
     /// How often a server is asked.
     Tries,
     /// What is done with an answer that is truncated or broken, or with a stream.
     Transport,
-    /// Suffixes behind a name.
+    /// What is answered while suffixes are tried.
     Suffixes,
-    /// A walk from the servers of the root, or to all servers of a zone.
+    /// A walk to all servers of a zone.
     Walk,
     /// Another text of an answer.
     Text,
@@ -48,7 +48,7 @@ pub(crate) fn lack_text(lack: Lack) -> &'static str
             "asks for another OPT record than EDNS version 0 with the size that is always said"
         }
         Lack::Header => {
-            "asks for a header of which more is set than recursion, +adflag and +cdflag say"
+            "asks for another id or opcode, or for no question, and each request is a query with one"
         }
         Lack::Tries => {
             "asks for a number of tries, which attempts in the configuration alone says"
@@ -56,8 +56,12 @@ pub(crate) fn lack_text(lack: Lack) -> &'static str
         Lack::Transport => {
             "asks for another way with truncated or broken answers or with streams than the usual"
         }
-        Lack::Suffixes => "asks for suffixes, and a name is asked for as it stands",
-        Lack::Walk => "asks for a walk from server to server, and one answer is asked for",
+        Lack::Suffixes => {
+            "asks for what is answered on the way of a search, and one answer is written for a name"
+        }
+        Lack::Walk => {
+            "asks for the start of a zone at each of its servers, and one answer is asked for"
+        }
         Lack::Text => "asks for a text of records that is not written",
         Lack::Letters => {
             "asks for names in letters past ASCII, which are asked for and written as xn-- has them"

@@ -27,6 +27,10 @@
 //!   refused. An option of `dig` whose state can't be changed is taken in that state alone. AXFR is no type of a lookup,
 //!   since no one message answers it. The form with `xn--` of a name past ASCII is not made, since that stands on tables of
 //!   Unicode.
+//! - **Options are the rows of one table**, whose first row counts that a word is short for, as in the table of any program
+//!   here (`program_words`). `+trace` is one of them: names are walked to from the root, and what stands then is how `dig`
+//!   asks and writes each step, until a later word says otherwise. Suffixes, dots and walks are of all names, since one
+//!   client with one configuration asks for all.
 #![tactic(auto)]
 
 mod lacking;

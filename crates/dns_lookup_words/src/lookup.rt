@@ -6,6 +6,7 @@ ghost use Rattle.dns_lookup_words.specs.Words.{Gives, IsJudged, IsSaidBy, asked,
 use crate::manner::{Ask, Family};
 use crate::said::{Next, Said, push_asks};
 use crate::wrong::{Fault, Refusal};
+use dns_names::Name;
 use dns_values::{IpAddr, Seq};
 use std::alloc::Global;
 
@@ -22,6 +23,14 @@ pub struct Lookup {
     pub tcp: bool,
     /// How long a request may take, in seconds, in place of what the configuration says.
     pub seconds: Option<u64>,
+    /// Whether suffixes are searched for names.
+    pub search: bool,
+    /// The suffix that is searched, in place of those of the configuration.
+    pub domain: Option<Name>,
+    /// How many dots a name has that is asked for as it stands first, in place of what the configuration says.
+    pub dots: Option<usize>,
+    /// Whether each name is asked for from the root on, zone by zone, at the servers of each zone.
+    pub walk: bool,
     /// The requests, in order, one at least: of a name without a type one for A, and then one for AAAA.
     pub asks: Seq<Ask>,
 }
@@ -38,6 +47,10 @@ fn named(alloc: Global, said: Said) -> Result<Lookup, Fault>
         family,
         tcp,
         seconds,
+        search,
+        domain,
+        dots,
+        walk,
         mut asks,
         name,
         asking,
@@ -54,6 +67,10 @@ fn named(alloc: Global, said: Said) -> Result<Lookup, Fault>
             family,
             tcp,
             seconds,
+            search,
+            domain,
+            dots,
+            walk,
             asks,
         }),
         Err(_) => Err(Fault::NoMemory),
@@ -91,8 +108,9 @@ fn said_by(alloc: Global, words: &[String]) -> Result<Said, Fault>
 /// is the type or the class, where it names one, and else a name. Of several ports, types, classes or times the last counts.
 ///
 /// What is said before the first name is said of all names, and what is said behind one of that name alone; but servers, the port,
-/// `-4` and `-6`, `+tcp` and `+time` are of all names wherever they stand, and servers behind a name are refused where another name
-/// stands behind that. `Refused` names the first word that is wrong, or says which value or that a name is missing.
+/// `-4` and `-6`, `+tcp`, `+time`, `+search`, `+domain`, `+ndots` and `+trace` are of all names wherever they stand, and servers behind a
+/// name are refused where another name stands behind that. `Refused` names the first word that is wrong, or says which value or that a
+/// name is missing.
 pub fn lookup_of(alloc: Global, words: &[String]) -> Result<Lookup, Fault>
     ensures judged { IsJudged words.now result }
     ensures some { IfOk result (λ lookup. 0 < length lookup.asks) }

@@ -12,10 +12,20 @@ pub struct Flags {
     pub authentic: bool,
     /// Whether it may give what it could not validate (CD, RFC 4035 3.2.2).
     pub unchecked: bool,
+    /// The bit by which an answer says that it is authoritative (AA), which no query needs.
+    pub authoritative: bool,
+    /// The bit by which a message says that it is cut (TC), which no query needs.
+    pub truncated: bool,
+    /// The bit by which an answer says that recursion is to be had (RA), which no query needs.
+    pub available: bool,
+    /// The bit of the header that has no meaning yet (Z).
+    pub reserved: bool,
     /// Whether records of DNSSEC are asked for (DO, RFC 3225).
     pub dnssec: bool,
     /// Whether the server is asked for its name (NSID, RFC 5001).
     pub nsid: bool,
+    /// Whether it is asked when its copy of the zone expires (EXPIRE, RFC 7314).
+    pub expire: bool,
 }
 
 /// What is written of an answer.
@@ -27,8 +37,18 @@ pub struct Layout {
     pub identify: bool,
     /// The message as an object of JSON alone (RFC 8427).
     pub json: bool,
+    /// What the message says as a document of YAML.
+    pub yaml: bool,
     /// Records on several lines where one would be long.
     pub multiline: bool,
+    /// For how long each record may be kept.
+    pub ttl: bool,
+    /// The class of each record.
+    pub class: bool,
+    /// That time in weeks, days, hours, minutes and seconds.
+    pub units: bool,
+    /// Addresses of IPv6 with all their digits.
+    pub expanded: bool,
     /// The request, before the answer.
     pub query: bool,
     /// The question section.
@@ -59,6 +79,8 @@ pub struct Manner {
 pub struct Ask {
     pub name: Name,
     pub rtype: Rtype,
+    /// Whether the name has its final dot, or is an address's, so that no suffix is searched for it.
+    pub rooted: bool,
     pub manner: Manner,
 }
 

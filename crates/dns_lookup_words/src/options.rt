@@ -1,9 +1,11 @@
 //! The options that begin with a plus.
 
 ghost use Rattle.std.specs.Prelude.{◌≡◌, ◌≤◌, length, IsTrue};
-ghost use Rattle.dns_lookup_words.specs.Options.{is_off, is_short_for, plus_options, sets_of, told, without_no};
+ghost use Rattle.program_words.specs.Rows.{said_in};
+ghost use Rattle.dns_lookup_words.specs.Options.{is_off, plus_options, without_no};
 
 use crate::lacking::Lack;
+use program_words::{Letters, Row, said_in};
 
 /// A part of what a request says.
 #[derive(Clone, Copy)]
@@ -14,10 +16,20 @@ pub(crate) enum Flag {
     Authentic,
     /// Whether it may give what it could not validate.
     Unchecked,
+    /// The bit AA.
+    Authoritative,
+    /// The bit TC.
+    Truncated,
+    /// The bit RA.
+    Available,
+    /// The bit without a meaning.
+    Reserved,
     /// Whether records of DNSSEC are asked for.
     Dnssec,
     /// Whether the server is asked for its name.
     Nsid,
+    /// Whether it is asked when its copy of the zone expires.
+    Expire,
 }
 
 /// A part of what is written of an answer.
@@ -26,7 +38,12 @@ pub(crate) enum Part {
     Short,
     Identify,
     Json,
+    Yaml,
     Multiline,
+    Ttl,
+    Class,
+    Units,
+    Expanded,
     Query,
     Question,
     Answer,
@@ -47,6 +64,14 @@ pub(crate) enum Sets {
     Flag(Flag),
     /// What is written of an answer.
     Part(Part),
+    /// Whether suffixes are searched.
+    Search,
+    /// The suffix that is searched.
+    Domain,
+    /// How many dots a name has that is asked for as it stands first.
+    Dots,
+    /// Whether names are asked for from the root on.
+    Walk,
     /// Whether sections, comments and statistics are written.
     All,
     /// EDNS version 0 (RFC 6891), which requests have.
@@ -59,112 +84,112 @@ pub(crate) enum Sets {
     Absent(Lack),
 }
 
-/// A name, how many of its first letters are enough, and what the option sets.
-type Entry = (&'static str, usize, Sets);
-
 /// The options of dig, of which the first that a word is short for counts.
-const PLUS_OPTIONS: [Entry; 72] = [
-    ("aaflag", 2, Sets::Never(Lack::Header)),
-    ("aaonly", 2, Sets::Never(Lack::Header)),
-    ("adflag", 2, Sets::Flag(Flag::Authentic)),
-    ("additional", 3, Sets::Part(Part::Additional)),
-    ("all", 2, Sets::All),
-    ("answer", 2, Sets::Part(Part::Answer)),
-    ("authority", 2, Sets::Part(Part::Authority)),
-    ("badcookie", 2, Sets::Absent(Lack::Cookie)),
-    ("besteffort", 2, Sets::Absent(Lack::Transport)),
-    ("bufsize", 2, Sets::Absent(Lack::Extension)),
-    ("cdflag", 2, Sets::Flag(Flag::Unchecked)),
-    ("class", 2, Sets::Already(Lack::Text)),
-    ("cmd", 2, Sets::Never(Lack::Text)),
-    ("comments", 3, Sets::Part(Part::Comments)),
-    ("cookie", 3, Sets::Never(Lack::Cookie)),
-    ("crypto", 2, Sets::Already(Lack::Text)),
-    ("defname", 3, Sets::Never(Lack::Suffixes)),
-    ("dnssec", 4, Sets::Flag(Flag::Dnssec)),
-    ("do", 2, Sets::Flag(Flag::Dnssec)),
-    ("domain", 3, Sets::Absent(Lack::Suffixes)),
-    ("edns", 2, Sets::Edns),
-    ("ednsflags", 5, Sets::Absent(Lack::Extension)),
-    ("ednsnegotiation", 5, Sets::Absent(Lack::Extension)),
-    ("ednsopt", 5, Sets::Absent(Lack::Extension)),
-    ("expandaaaa", 4, Sets::Never(Lack::Text)),
-    ("expire", 4, Sets::Never(Lack::Extension)),
-    ("fail", 1, Sets::Never(Lack::Transport)),
-    ("header-only", 2, Sets::Never(Lack::Header)),
-    ("https", 2, Sets::Never(Lack::Encryption)),
-    ("identify", 3, Sets::Part(Part::Identify)),
-    ("idnin", 4, Sets::Never(Lack::Letters)),
-    ("idnout", 4, Sets::Never(Lack::Letters)),
-    ("ignore", 2, Sets::Never(Lack::Transport)),
-    ("json", 1, Sets::Part(Part::Json)),
-    ("keepalive", 5, Sets::Absent(Lack::Extension)),
-    ("keepopen", 5, Sets::Absent(Lack::Transport)),
-    ("mapped", 2, Sets::Absent(Lack::Transport)),
-    ("multiline", 2, Sets::Part(Part::Multiline)),
-    ("ndots", 2, Sets::Absent(Lack::Suffixes)),
-    ("nsid", 3, Sets::Flag(Flag::Nsid)),
-    ("nssearch", 3, Sets::Never(Lack::Walk)),
-    ("onesoa", 2, Sets::Absent(Lack::Text)),
-    ("opcode", 2, Sets::Absent(Lack::Header)),
-    ("padding", 1, Sets::Absent(Lack::Extension)),
-    ("qid", 2, Sets::Absent(Lack::Header)),
-    ("qr", 2, Sets::Part(Part::Query)),
-    ("question", 2, Sets::Part(Part::Question)),
-    ("quic", 4, Sets::Never(Lack::Encryption)),
-    ("raflag", 2, Sets::Never(Lack::Header)),
-    ("rdflag", 2, Sets::Flag(Flag::Recursion)),
-    ("recurse", 3, Sets::Flag(Flag::Recursion)),
-    ("retry", 3, Sets::Absent(Lack::Tries)),
-    ("rrcomments", 2, Sets::Never(Lack::Text)),
-    ("search", 2, Sets::Never(Lack::Suffixes)),
-    ("short", 4, Sets::Part(Part::Short)),
-    ("showsearch", 5, Sets::Never(Lack::Suffixes)),
-    ("split", 2, Sets::Absent(Lack::Text)),
-    ("stats", 2, Sets::Part(Part::Stats)),
-    ("subnet", 2, Sets::Never(Lack::Subnet)),
-    ("tcflag", 3, Sets::Never(Lack::Header)),
-    ("tcp", 2, Sets::Tcp),
-    ("time", 2, Sets::Time),
-    ("timeout", 5, Sets::Time),
-    ("tls", 2, Sets::Never(Lack::Encryption)),
-    ("trace", 3, Sets::Never(Lack::Walk)),
-    ("tries", 3, Sets::Absent(Lack::Tries)),
-    ("ttlid", 4, Sets::Already(Lack::Text)),
-    ("ttlunits", 4, Sets::Never(Lack::Text)),
-    ("unknownformat", 3, Sets::Never(Lack::Text)),
-    ("vc", 1, Sets::Tcp),
-    ("yaml", 1, Sets::Never(Lack::Text)),
-    ("zflag", 1, Sets::Never(Lack::Header)),
+const PLUS_OPTIONS: [Row<Sets>; 72] = [
+    ("aaflag", Letters::First(2), Sets::Flag(Flag::Authoritative)),
+    ("aaonly", Letters::First(2), Sets::Flag(Flag::Authoritative)),
+    ("adflag", Letters::First(2), Sets::Flag(Flag::Authentic)),
+    (
+        "additional",
+        Letters::First(3),
+        Sets::Part(Part::Additional),
+    ),
+    ("all", Letters::First(2), Sets::All),
+    ("answer", Letters::First(2), Sets::Part(Part::Answer)),
+    ("authority", Letters::First(2), Sets::Part(Part::Authority)),
+    ("badcookie", Letters::First(2), Sets::Never(Lack::Cookie)),
+    (
+        "besteffort",
+        Letters::First(2),
+        Sets::Absent(Lack::Transport),
+    ),
+    ("bufsize", Letters::First(2), Sets::Absent(Lack::Extension)),
+    ("cdflag", Letters::First(2), Sets::Flag(Flag::Unchecked)),
+    ("class", Letters::First(2), Sets::Part(Part::Class)),
+    ("cmd", Letters::First(2), Sets::Never(Lack::Text)),
+    ("comments", Letters::First(3), Sets::Part(Part::Comments)),
+    ("cookie", Letters::First(3), Sets::Never(Lack::Cookie)),
+    ("crypto", Letters::First(2), Sets::Already(Lack::Text)),
+    ("defname", Letters::First(3), Sets::Search),
+    ("dnssec", Letters::First(4), Sets::Flag(Flag::Dnssec)),
+    ("do", Letters::First(2), Sets::Flag(Flag::Dnssec)),
+    ("domain", Letters::First(3), Sets::Domain),
+    ("edns", Letters::First(2), Sets::Edns),
+    (
+        "ednsflags",
+        Letters::First(5),
+        Sets::Absent(Lack::Extension),
+    ),
+    (
+        "ednsnegotiation",
+        Letters::First(5),
+        Sets::Never(Lack::Extension),
+    ),
+    ("ednsopt", Letters::First(5), Sets::Absent(Lack::Extension)),
+    ("expandaaaa", Letters::First(4), Sets::Part(Part::Expanded)),
+    ("expire", Letters::First(4), Sets::Flag(Flag::Expire)),
+    ("fail", Letters::First(1), Sets::Never(Lack::Transport)),
+    ("header-only", Letters::First(2), Sets::Never(Lack::Header)),
+    ("https", Letters::First(2), Sets::Never(Lack::Encryption)),
+    ("identify", Letters::First(3), Sets::Part(Part::Identify)),
+    ("idnin", Letters::First(4), Sets::Never(Lack::Letters)),
+    ("idnout", Letters::First(4), Sets::Never(Lack::Letters)),
+    ("ignore", Letters::First(2), Sets::Never(Lack::Transport)),
+    ("json", Letters::First(1), Sets::Part(Part::Json)),
+    (
+        "keepalive",
+        Letters::First(5),
+        Sets::Absent(Lack::Extension),
+    ),
+    (
+        "keepopen",
+        Letters::First(5),
+        Sets::Already(Lack::Transport),
+    ),
+    ("mapped", Letters::First(2), Sets::Never(Lack::Transport)),
+    ("multiline", Letters::First(2), Sets::Part(Part::Multiline)),
+    ("ndots", Letters::First(2), Sets::Dots),
+    ("nsid", Letters::First(3), Sets::Flag(Flag::Nsid)),
+    ("nssearch", Letters::First(3), Sets::Never(Lack::Walk)),
+    ("onesoa", Letters::First(2), Sets::Absent(Lack::Text)),
+    ("opcode", Letters::First(2), Sets::Absent(Lack::Header)),
+    ("padding", Letters::First(1), Sets::Absent(Lack::Extension)),
+    ("qid", Letters::First(2), Sets::Absent(Lack::Header)),
+    ("qr", Letters::First(2), Sets::Part(Part::Query)),
+    ("question", Letters::First(2), Sets::Part(Part::Question)),
+    ("quic", Letters::First(4), Sets::Never(Lack::Encryption)),
+    ("raflag", Letters::First(2), Sets::Flag(Flag::Available)),
+    ("rdflag", Letters::First(2), Sets::Flag(Flag::Recursion)),
+    ("recurse", Letters::First(3), Sets::Flag(Flag::Recursion)),
+    ("retry", Letters::First(3), Sets::Absent(Lack::Tries)),
+    ("rrcomments", Letters::First(2), Sets::Never(Lack::Text)),
+    ("search", Letters::First(2), Sets::Search),
+    ("short", Letters::First(4), Sets::Part(Part::Short)),
+    ("showsearch", Letters::First(5), Sets::Never(Lack::Suffixes)),
+    ("split", Letters::First(2), Sets::Never(Lack::Text)),
+    ("stats", Letters::First(2), Sets::Part(Part::Stats)),
+    ("subnet", Letters::First(2), Sets::Never(Lack::Subnet)),
+    ("tcflag", Letters::First(3), Sets::Flag(Flag::Truncated)),
+    ("tcp", Letters::First(2), Sets::Tcp),
+    ("time", Letters::First(2), Sets::Time),
+    ("timeout", Letters::First(5), Sets::Time),
+    ("tls", Letters::First(2), Sets::Never(Lack::Encryption)),
+    ("trace", Letters::First(3), Sets::Walk),
+    ("tries", Letters::First(3), Sets::Absent(Lack::Tries)),
+    ("ttlid", Letters::First(4), Sets::Part(Part::Ttl)),
+    ("ttlunits", Letters::First(4), Sets::Part(Part::Units)),
+    ("unknownformat", Letters::First(3), Sets::Never(Lack::Text)),
+    ("vc", Letters::First(1), Sets::Tcp),
+    ("yaml", Letters::First(1), Sets::Part(Part::Yaml)),
+    ("zflag", Letters::First(1), Sets::Flag(Flag::Reserved)),
 ];
-
-/// Whether a text is a name cut short, in any case, and has letters enough.
-fn is_short_for(least: usize, name: &str, text: &[u8]) -> bool
-    ensures { result ≡ is_short_for least name.now text.now }
-{
-    least <= text.len()
-        && text.len() <= name.len()
-        && name.as_bytes()[..text.len()].eq_ignore_ascii_case(text)
-}
-
-/// What the first entry sets that a text is short for.
-fn sets_in(entries: &[Entry], text: &[u8]) -> Option<Sets>
-    ensures { result ≡ sets_of (told entries.now) text.now }
-{
-    for entry in entries {
-        if is_short_for(entry.1, entry.0, text) {
-            return Some(entry.2);
-        }
-    }
-    None
-}
 
 /// What the option sets that a text is short for.
 #[tactic(auto, unfolding(crate::specs::Options::plus_options))]
 pub(crate) fn sets_of(text: &[u8]) -> Option<Sets>
-    ensures { result ≡ sets_of plus_options text.now }
+    ensures { result ≡ said_in plus_options text.now }
 {
-    sets_in(&PLUS_OPTIONS, text)
+    said_in(&PLUS_OPTIONS, text)
 }
 
 /// Whether `no` stands before the name of an option, in any case.

@@ -27,6 +27,8 @@ pub(crate) struct Asking {
     pub(crate) rtype: Option<Rtype>,
     /// Whether the type was said behind `-t`, so that a word alone is none.
     pub(crate) typed: bool,
+    /// Whether the name ends in its root, so that no suffix is searched for it.
+    pub(crate) rooted: bool,
     pub(crate) manner: Manner,
 }
 
@@ -40,6 +42,12 @@ pub(crate) struct Said {
     pub(crate) family: Option<Family>,
     pub(crate) tcp: bool,
     pub(crate) seconds: Option<u64>,
+    pub(crate) search: bool,
+    /// The suffix that is searched, in place of those of the configuration.
+    pub(crate) domain: Option<Name>,
+    /// How many dots a name has that is asked for as it stands first, in place of what the configuration says.
+    pub(crate) dots: Option<usize>,
+    pub(crate) walk: bool,
     /// The requests of the names that stand before the last.
     pub(crate) asks: Seq<Ask>,
     /// The last name.
@@ -61,14 +69,24 @@ fn usual() -> Manner
             recursion: true,
             authentic: false,
             unchecked: false,
+            authoritative: false,
+            truncated: false,
+            available: false,
+            reserved: false,
             dnssec: false,
             nsid: false,
+            expire: false,
         },
         layout: Layout {
             short: false,
             identify: false,
             json: false,
+            yaml: false,
             multiline: false,
+            ttl: true,
+            class: true,
+            units: false,
+            expanded: false,
             query: false,
             question: true,
             answer: true,
@@ -87,6 +105,7 @@ fn usual_asking() -> Asking
     Asking {
         rtype: None,
         typed: false,
+        rooted: false,
         manner: usual(),
     }
 }
@@ -101,11 +120,12 @@ pub(crate) fn push_asks(
     ensures asked { OnOk result (asks.new ≡ asks.old ++ asks_of name asking) }
     ensures some { OnOk result (0 < length asks.new) }
 {
-    let manner = asking.manner;
+    let Asking { rooted, manner, .. } = asking;
     if let Some(rtype) = asking.rtype {
         asks.push(Ask {
             name,
             rtype,
+            rooted,
             manner,
         })?;
         return Ok(());
@@ -114,11 +134,13 @@ pub(crate) fn push_asks(
     asks.push(Ask {
         name: again,
         rtype: Rtype::A,
+        rooted,
         manner,
     })?;
     asks.push(Ask {
         name,
         rtype: Rtype::AAAA,
+        rooted,
         manner,
     })?;
     Ok(())
@@ -136,6 +158,10 @@ impl Said {
             family: None,
             tcp: false,
             seconds: None,
+            search: false,
+            domain: None,
+            dots: None,
+            walk: false,
             asks: Seq::new(alloc),
             name: None,
             asking: usual_asking(),

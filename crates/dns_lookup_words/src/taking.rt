@@ -1,8 +1,8 @@
 //! Words that are taken, one after another.
 
-ghost use Rattle.std.specs.Prelude.{◌≡◌, ◌==◌, length, option_map, OnOk};
+ghost use Rattle.std.specs.Prelude.{◌≡◌, ◌==◌, length, option_map, OnOk, IfOk};
 ghost use Rattle.std.specs.Result.{result_ok};
-ghost use Rattle.dns_lookup_words.specs.Words.{AddressGives, AllAnswer, Answers, DashGives, GluedGives, ServerAt, ServerGives, ServerIn, ServerOf, SignGives, ValueGives, WordGives, WordsGive, begun, behind, class_given, class_set, dash_said, fault_at, is_localhost, is_other, lack_of, lacking, name_alone, name_given, name_said, open_type, plain_said, plus_said, port_said, type_said, type_set, wrong_name, wrong_server};
+ghost use Rattle.dns_lookup_words.specs.Words.{AddressGives, AllAnswer, Answers, DashGives, GluedGives, ServerAt, ServerGives, ServerIn, ServerOf, SignGives, ValueGives, WordGives, WordsGive, begun, behind, class_given, class_set, dash_said, fault_at, is_localhost, is_other, is_rooted, lack_of, lacking, name_alone, name_given, name_said, open_type, plain_said, plus_said, port_said, type_said, type_set, wrong_name, wrong_server};
 ghost use Rattle.dns_names.specs.Text.{name_of_text};
 ghost use Rattle.dns_values.specs.NumberNames.{class_of_text};
 ghost use Rattle.dns_lookup_words.specs.Types.{type_number};
@@ -18,7 +18,7 @@ use crate::said::{Next, Said, push_asks};
 use crate::short_address::short_address;
 use crate::types::{class_in, type_in};
 use crate::wrong::{Fault, Refusal, Value, WordFault, Wrong};
-use dns_names::{Name, NameFault};
+use dns_names::{Name, NameFault, RelativeName};
 use dns_values::{Class, IpAddr, NoMemory, Rtype};
 use std::alloc::Global;
 
@@ -54,6 +54,18 @@ fn wrong_name(word: &str) -> Wrong
         Wrong::Idn
     } else {
         Wrong::Name
+    }
+}
+
+/// Whether a text has a final dot, which no relative name has.
+fn is_rooted(alloc: Global, word: &str) -> Result<bool, NoMemory>
+    ensures { IfOk result (λ rooted. rooted ≡ is_rooted word.now) }
+{
+    match RelativeName::from_text(alloc, word) {
+        Ok(_) => Ok(false),
+        Err(NameFault::NoMemory) => Err(NoMemory),
+        Err(NameFault::Parse) => Ok(true),
+        Err(NameFault::Long) => Ok(true),
     }
 }
 
@@ -169,6 +181,7 @@ impl Said {
         };
         let name = short.name(alloc)?;
         self.begin(alloc, name)?;
+        self.asking.rooted = true;
         if self.asking.rtype.is_none() {
             self.asking.rtype = Some(Rtype::PTR);
         }
@@ -180,7 +193,9 @@ impl Said {
     {
         match Name::from_text(alloc, word) {
             Ok(name) => {
+                let rooted = is_rooted(alloc, word)?;
                 self.begin(alloc, name)?;
+                self.asking.rooted = rooted;
                 Ok(())
             }
             Err(NameFault::NoMemory) => Err(WordFault::NoMemory),
@@ -331,7 +346,7 @@ impl Said {
     }
 
     /// Takes what stands behind a plus.
-    fn take_plus(&mut self, text: &str) -> Result<(), WordFault>
+    fn take_plus(&mut self, alloc: Global, text: &str) -> Result<(), WordFault>
         ensures { Answers (λ o. o ≡ plus_said text.now self.old) result self.new }
     {
         let name = name_text(text).as_bytes();
@@ -341,7 +356,7 @@ impl Said {
         let on = !is_off(name);
         match value_text(text) {
             None => self.set_bare(sets, on),
-            Some(value) => self.set_valued(sets, on, value),
+            Some(value) => self.set_valued(alloc, sets, on, value),
         }
     }
 
@@ -352,7 +367,7 @@ impl Said {
             return self.take_server(text);
         }
         if let Some(text) = behind('+', word) {
-            return self.take_plus(text);
+            return self.take_plus(alloc, text);
         }
         if let Some(text) = behind('-', word) {
             return self.take_dash(alloc, text);

@@ -36,8 +36,12 @@ pub enum Wrong {
     Class,
     /// It is a class, and not IN, CH or HS.
     OtherClass,
-    /// What stands behind its `+time=` is no number from 1 to 600.
+    /// What stands behind its `+time=` is no number from 0 to 600.
     Time,
+    /// No name stands behind its `+domain=`.
+    Suffix,
+    /// What stands behind its `+ndots=` is no number from 0 to 65535.
+    Dots,
     /// It begins as an option does, and is none.
     Option,
     /// It is an option that dig has, and that is not to be had here.

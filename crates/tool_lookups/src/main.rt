@@ -9,6 +9,9 @@
 //! `search SUFFIXES ANSWER..` searches it. `service SERVICE WORDS ANSWER` looks a service up, `resolve LISTING ANSWER..` its first
 //! server, and `merge LISTING LISTING` orders servers together. `late` stands for an answer that comes too late.
 //!
+//! `walk NAME TYPE SERVER SAID..` prints what is done in a walk from the root down: the server and others say these, one after another, a
+//! message for a question and addresses between commas for a name that is looked up.
+//!
 //! What a cache makes of messages: `view FROM TO CLEARS SECONDS MESSAGE` and `under MESSAGE` print as what one is given later, `validity
 //! TRUNCATED MESSAGE` for how long it may be kept, `key FLAGS DO MESSAGE` and `asking FLAGS DO MESSAGE` the key of a request, and `same`
 //! and `changed` whether two keys with a slash between them are the same.
@@ -27,6 +30,7 @@ mod names;
 mod servers;
 mod services;
 mod trouble;
+mod walks;
 
 use front::Front;
 use std::alloc::Global;
@@ -42,6 +46,7 @@ fn looked_up(alloc: Global, kind: &str, rest: &str) -> Option<String> {
         "service" => services::service_text(alloc, rest),
         "resolve" => services::resolved_text(alloc, rest),
         "merge" => services::merged_text(alloc, rest),
+        "walk" => walks::walk_text(alloc, rest),
         _ => kept_text(alloc, kind, rest),
     }
 }

@@ -4,6 +4,6 @@ use Rattle.dns_lookup_run.proofs.reports.tries_of.Given as goal
 
 abbrev pub invariant-loop-one : goal.invariant-loop-one
 invariant-loop-one l = record {
-  counted : l.tries + tries_of l.server (drop l.one-index l.opened) ≡ tries_of l.server l.opened;
+  counted : l.tries + tries_of l.servers l.address (drop l.one-index l.opened) ≡ tries_of l.servers l.address l.opened;
   few : l.tries ≤ l.one-index;
 }
