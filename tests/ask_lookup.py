@@ -27,6 +27,7 @@ import time
 from pathlib import Path
 
 from ask_servers import expect, free_port, skipped
+from compare_presentation import alike
 
 ZONE = r"""$ORIGIN example.
 $TTL 300
@@ -169,7 +170,7 @@ def read(text):
     sections = {}
     for title in ("QUESTION", "ANSWER", "AUTHORITY", "ADDITIONAL"):
         part = re.search(r";; %s SECTION:\n(.*?)(\n\n|\Z)" % title, text, re.S)
-        sections[title] = sorted(" ".join(line.split()) for line in part.group(1).splitlines()) if part else []
+        sections[title] = sorted(alike(" ".join(line.split())) for line in part.group(1).splitlines()) if part else []
     return status, flags, counts, sections
 
 

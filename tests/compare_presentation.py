@@ -10,8 +10,8 @@ answers it; without kdig nothing is compared, and that is said. Texts are compar
 message that differs, or how many were the same.
 
 Made even before: six types that are printed here by their numbers; kdig's NOTIMPL, which is IANA's NOTIMP, and its names of
-codes that only signatures of transactions have; the decimals that it prints of some whole metres; the flags for which it has
-no room; and the empty data outside the class IN, which it leaves out.
+codes that only signatures of transactions have; the decimals of whole metres and seconds and the quotes around alpn, which are dig's;
+the flags for which it has no room; and the empty data outside the class IN, which it leaves out.
 No random message has what kdig prints in a form of its own: moments past 2038 as if they were before 1970, types that it
 doesn't know, data that can't be read, where it stops, and kinds and algorithms of certificates that have a name, which it
 prints by number.
@@ -74,11 +74,17 @@ def six_flags(line):
     return line
 
 
+def alike(line):
+    """A record without the decimals of whole metres and seconds, and without the quotes around alpn, which dig prints and kdig doesn't."""
+    line = re.sub(r"\.000 ([NSEW])\b", r" \1", line.replace(".00m", "m"))
+    return re.sub(r'\balpn="((?:[^"\\]|\\.)*)"', r"alpn=\1", line)
+
+
 def even(lines):
     """Lines without the blanks in them, the id, and empty ones."""
     out = []
     for line in map(six_flags, lines):
-        line = re.sub(r"; id: \d+$", "", line).replace(".00m", "m")
+        line = alike(re.sub(r"; id: \d+$", "", line))
         line = re.sub(r"(status|ext-rcode): (\w+)$", lambda found: found[1] + ": " + NAMES.get(found[2], found[2]), line)
         line = re.sub(r"\bTYPE10[4-9]\b", lambda found: TYPES[found[0]], line)
         line = re.sub(r"((CH|NONE|ANY|CLASS\d+)\sTYPE\d+)\s\\# 0$", r"\1", line)

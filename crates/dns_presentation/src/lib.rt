@@ -27,9 +27,10 @@
 //!   begins with `#` is `\035`, since `\#` begins generic data. Codes and types print by their IANA names, where kdig has
 //!   some of its own.
 //! - **Where kdig has no form or prints numbers, dig's stands**: X25, ISDN, NSAP, PX and GPOS, and the mnemonics of CERT,
-//!   whose algorithms 6, 7 and 12 stay numbers, since readers name them otherwise. Data that doesn't fit its form is
-//!   generic: APL with a last octet of 0 or an unknown family, a bit map's window of no octet or more than 32, CERT or
-//!   ZONEMD without an octet behind the numbers.
+//!   whose algorithms 6, 7 and 12 stay numbers, since readers name them otherwise. So do the decimals of LOC and the quotes
+//!   around `alpn`, by which whole zones and lookups are compared with dig's. Data that doesn't fit its form is generic: APL
+//!   with a last octet of 0 or an unknown family, a bit map's window of no octet or more than 32, CERT or ZONEMD without an
+//!   octet behind the numbers.
 //! - **What can't be read is still printed**: data that its type doesn't fit as generic data, and a message up to the first
 //!   entry that can't be read, with a line that says so.
 #![tactic(auto)]

@@ -7,6 +7,8 @@ use std::fmt::{self, Display};
 #[derive(Clone, Copy)]
 struct Extent {
     centimetres: u64,
+    /// Whether the power is a hundred or more, so that the metres are whole.
+    is_whole: bool,
 }
 
 impl Extent {
@@ -18,23 +20,28 @@ impl Extent {
         for _ in 0..octet % 16 {
             centimetres = centimetres.saturating_mul(10);
         }
-        Some(Extent { centimetres })
+        let is_whole = octet % 16 > 1;
+        Some(Extent {
+            centimetres,
+            is_whole,
+        })
     }
 }
 
-/// Centimetres as metres, with two decimals where they aren't whole.
+/// Centimetres as metres, with two decimals.
 fn write_metres<W: fmt::Write>(centimetres: u64, f: &mut fmt::Formatter<W>) -> fmt::Result {
     let metres = centimetres / 100;
     let rest = centimetres % 100;
-    if rest == 0 {
-        return write!(f, "{metres}m");
-    }
     write!(f, "{metres}.{rest:02}m")
 }
 
 impl Display for Extent {
     fn fmt<W: fmt::Write>(&self, f: &mut fmt::Formatter<W>) -> fmt::Result {
-        write_metres(self.centimetres, f)
+        if !self.is_whole {
+            return write_metres(self.centimetres, f);
+        }
+        let metres = self.centimetres / 100;
+        write!(f, "{metres}m")
     }
 }
 
@@ -42,7 +49,7 @@ impl Display for Extent {
 #[derive(Clone, Copy)]
 struct Angle(u32);
 
-/// Degrees, minutes and seconds, with three decimals where they aren't whole.
+/// Degrees, minutes and seconds, with three decimals.
 impl Display for Angle {
     fn fmt<W: fmt::Write>(&self, f: &mut fmt::Formatter<W>) -> fmt::Result {
         let size = self.0.abs_diff(0x8000_0000);
@@ -50,9 +57,6 @@ impl Display for Angle {
         let minutes = size / 60_000 % 60;
         let seconds = size / 1000 % 60;
         let thousandths = size % 1000;
-        if thousandths == 0 {
-            return write!(f, "{degrees} {minutes} {seconds}");
-        }
         write!(f, "{degrees} {minutes} {seconds}.{thousandths:03}")
     }
 }
@@ -66,7 +70,8 @@ impl Display for Height {
         if self.0 < 10_000_000 {
             write!(f, "-")?;
         }
-        write_metres(u64::from(self.0.abs_diff(10_000_000)), f)
+        let centimetres = self.0.abs_diff(10_000_000);
+        write_metres(u64::from(centimetres), f)
     }
 }
 

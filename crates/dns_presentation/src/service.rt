@@ -108,17 +108,17 @@ fn write_keys<W: fmt::Write>(value: &[u8], f: &mut fmt::Formatter<W>) -> fmt::Re
     Ok(())
 }
 
-/// Strings with commas between.
+/// Strings between quotes, with commas between.
 fn write_items<W: fmt::Write>(value: &[u8], f: &mut fmt::Formatter<W>) -> fmt::Result {
-    let mut separator = '=';
+    let mut before = "=\"";
     let mut rest = value;
     while let Some((string, behind)) = parts::string_front(rest) {
         let item = Item(string);
-        write!(f, "{separator}{item}")?;
-        separator = ',';
+        write!(f, "{before}{item}")?;
+        before = ",";
         rest = behind;
     }
-    Ok(())
+    write!(f, "\"")
 }
 
 /// IPv4 addresses with commas between.
