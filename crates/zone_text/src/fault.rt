@@ -24,9 +24,15 @@ pub enum LinePart {
     Type,
     /// The data is not in pairs of hexadecimal digits.
     Data,
+    /// It is an SOA of another zone.
+    Apex,
+    /// It is an SOA, and not the first.
+    SecondSoa,
+    /// It is an SOA whose data is too short for a serial.
+    Serial,
 }
 
-/// A line that is no record.
+/// A line that is no record, or an SOA that is not the zone's.
 #[derive(Clone, Copy, Debug, PartialEq, Eq)]
 pub struct WrongLine {
     /// Its number, counted from 1.

@@ -1,26 +1,23 @@
 //! The zone that a text has.
 
-ghost use Rattle.std.specs.Prelude.{◌≡◌, ◌++◌, [], ◌∷◌, count_by, find, None, Some, IfErr, IfOk, MatchOption};
-ghost use Rattle.std.specs.Option.{option_copied};
-ghost use Rattle.zone_reading.specs.declared.steps.Update.TheVariants.{Finished};
-ghost use Rattle.zone_records.specs.Records.{is_soa};
-ghost use Rattle.zone_text.specs.Zones.{HasFlaw, IsZoneIn, IsZoneOf, LacksSerial, all_added, serial_among, serial_of};
+ghost use Rattle.std.specs.Prelude.{◌≡◌, IfErr, IfOk};
+ghost use Rattle.zone_text.specs.Zones.{HasFlaw, IsZoneIn, IsZoneOf, LacksZone, is_at, serial_after, serial_among, serial_of, soa_says};
 
-use crate::fault::{TextFault, WrongLine};
+use crate::fault::{LinePart, TextFault, WrongLine};
 use crate::reading::records_of;
-use dns_base::{Name, NoMemory};
+use dns_base::{Name, NoMemory, ParsedName, Serial, ToName, is_same_name};
 use std::alloc::Global;
 use std::str;
-use zone_records::{Update, Zone, ZoneRecord};
+use zone_records::{Zone, ZoneRecord};
 
 /// Why octets have no zone.
 #[derive(Clone, Copy, Debug, PartialEq, Eq)]
 pub enum Flaw {
     /// They are no text in UTF-8.
     Text,
-    /// A line is no record.
+    /// A line is no record, or an SOA that is not the zone's one.
     Line(WrongLine),
-    /// Not one record alone is an SOA, or it has no serial.
+    /// No record is an SOA.
     Soa,
 }
 
@@ -49,102 +46,89 @@ fn serial_of(rdata: &[u8]) -> Option<u32>
     Some(u32::from_be_bytes([rdata[at], rdata[at + 1], rdata[at + 2], rdata[at + 3]]))
 }
 
-/// How many records are SOAs.
-fn soa_count(records: &[ZoneRecord]) -> usize
-    ensures { result ≡ count_by is_soa records.now }
+/// Whether a record's owner is this name.
+fn is_at(apex: &Name, item: &ZoneRecord) -> bool
+    ensures { result ≡ is_at apex.now item.now }
 {
-    let mut count = 0;
-    for item in records {
-        if item.is_soa() {
-            count += 1;
+    match ParsedName::parse(item.owner.as_slice(), 0) {
+        Some((owner, _)) => is_same_name(&owner, &apex.parsed()),
+        None => false,
+    }
+}
+
+/// The serial of an SOA, where none stands before it but one of this serial, if there is one.
+fn soa_says(apex: &Name, found: Option<u32>, soa: &ZoneRecord) -> Result<u32, LinePart>
+    ensures { result ≡ soa_says apex.now found soa.now }
+{
+    if found.is_some() {
+        return Err(LinePart::SecondSoa);
+    }
+    if !is_at(apex, soa) {
+        return Err(LinePart::Apex);
+    }
+    match serial_of(soa.rdata.as_slice()) {
+        Some(serial) => Ok(serial),
+        None => Err(LinePart::Serial),
+    }
+}
+
+/// The serial of the zone as far as a record, where it is this one before that, or none.
+fn serial_after(
+    apex: &Name,
+    found: Option<u32>,
+    item: &ZoneRecord,
+) -> Result<Option<u32>, LinePart>
+    ensures { result ≡ serial_after apex.now found item.now }
+{
+    if !item.is_soa() {
+        return Ok(found);
+    }
+    match soa_says(apex, found, item) {
+        Ok(serial) => Ok(Some(serial)),
+        Err(part) => Err(part),
+    }
+}
+
+/// The serial of the one SOA among the records of lines, if there is one; or the first line that has an SOA which is not that of
+/// the zone.
+#[tactic(auto, using(crate::proofs::Zones::serial_on, crate::proofs::Zones::serial_wrong, crate::proofs::Zones::serial_last))]
+fn serial_among(apex: &Name, records: &[ZoneRecord]) -> Result<Option<u32>, WrongLine>
+    ensures { result ≡ serial_among apex.now records.now }
+{
+    let mut found = None;
+    let mut line = 0;
+    let mut rest = records;
+    while let Some((item, behind)) = rest.split_first() {
+        line += 1;
+        match serial_after(apex, found, item) {
+            Ok(serial) => found = serial,
+            Err(part) => return Err(WrongLine { line, part }),
         }
+        rest = behind;
     }
-    count
+    Ok(found)
 }
 
-/// The first SOA among records.
-fn soa_among(records: &[ZoneRecord]) -> Option<&ZoneRecord>
-    ensures { option_copied result ≡ find is_soa records.now }
-{
-    records.iter().find(|item| item.is_soa())
-}
-
-/// The SOA that is one alone among records, and its serial.
-#[tactic(auto, using(crate::proofs::Zones::not_one, crate::proofs::Zones::none_found, crate::proofs::Zones::no_serial, crate::proofs::Zones::one_serial))]
-fn soa_of(records: &[ZoneRecord]) -> Option<(&ZoneRecord, u32)>
-    ensures { MatchOption result (serial_among records.now ≡ None) (λ x. (find is_soa records.now ≡ Some x.0.now) × (serial_among records.now ≡ Some x.1)) }
-{
-    if soa_count(records) != 1 {
-        return None;
-    }
-    let Some(soa) = soa_among(records) else {
-        return None;
-    };
-    let Some(serial) = serial_of(soa.rdata.as_slice()) else {
-        return None;
-    };
-    Some((soa, serial))
-}
-
-/// The updates that add records to an empty zone, and end it by an SOA and its serial.
-#[tactic(auto, using(crate::proofs::Zones::none_added, crate::proofs::Zones::one_added, crate::proofs::Zones::each_added))]
-fn updates_of(
-    alloc: Global,
-    records: Vec<ZoneRecord>,
-    soa: ZoneRecord,
-    serial: u32,
-) -> Result<Vec<Update>, NoMemory>
-    ensures { IfOk result (λ us. us.items ≡ all_added records.items ++ Finished serial soa ∷ []) }
-{
-    let mut updates = Vec::new(alloc);
-    for item in records {
-        updates.push(Update::AddRecord(item))?;
-    }
-    updates.push(Update::Finished { serial, soa })?;
-    Ok(updates)
-}
-
-/// The zone of records, of which one alone is an SOA, with this serial.
+/// The zone of the records of lines.
 #[tactic(auto, using(crate::proofs::Zones::is_zone))]
-fn zone_with(
-    alloc: Global,
-    apex: Name,
-    records: Vec<ZoneRecord>,
-    soa: ZoneRecord,
-    serial: u32,
-) -> Result<Zone, NoMemory>
-    requires found { find is_soa records.items ≡ Some soa }
-    requires has_serial { serial_among records.items ≡ Some serial }
-    ensures { IfOk result (IsZoneOf apex records.items) }
-{
-    let updates = updates_of(alloc, records, soa, serial)?;
-    let mut zone = Zone::empty(alloc, apex);
-    match zone.apply(updates) {
-        Ok(_) => Ok(zone),
-        Err(_) => Err(NoMemory),
-    }
-}
-
-/// The zone of the records of a text.
-fn zone_from(alloc: Global, records: Vec<ZoneRecord>, apex: Name) -> Result<Zone, Unread>
+fn zone_from(alloc: Global, apex: Name, records: Vec<ZoneRecord>) -> Result<Zone, Flaw>
     ensures zone { IfOk result (IsZoneOf apex records.items) }
-    ensures flaw { IfErr result (LacksSerial records.items) }
+    ensures flaw { IfErr result (LacksZone apex records.items) }
 {
-    let Some((soa, serial)) = soa_of(records.as_slice()) else {
-        return Err(Unread::NoZone(Flaw::Soa));
-    };
-    let soa = soa.try_clone(alloc)?;
-    match zone_with(alloc, apex, records, soa, serial) {
-        Ok(zone) => Ok(zone),
-        Err(NoMemory) => Err(Unread::NoMemory),
+    let found = serial_among(&apex, records.as_slice());
+    match found {
+        Ok(Some(serial)) => Ok(Zone::of_records(alloc, apex, Some(Serial(serial)), records)),
+        Ok(None) => Err(Flaw::Soa),
+        Err(at) => Err(Flaw::Line(at)),
     }
 }
 
-/// The zone that octets have, as it was printed: in the form that name servers load, or in numbers and hexadecimal digits.
-#[tactic(auto, using(crate::proofs::Zones::zone_is_in, crate::proofs::Zones::lacks_serial))]
+/// The zone with this apex that octets have, as it was printed: in the form that name servers load, or in numbers and hexadecimal
+/// digits. Its lines may stand in any order.
+#[tactic(auto, using(crate::proofs::Zones::zone_is_in, crate::proofs::Zones::line_is_wrong, crate::proofs::Zones::lacks_zone))]
 pub fn zone_of(alloc: Global, octets: &[u8], apex: Name) -> Result<Zone, Unread>
     ensures zone { IfOk result (IsZoneIn octets.now apex) }
-    ensures flaw { IfErr result (HasFlaw octets.now) }
+    ensures flaw { IfErr result (HasFlaw octets.now apex) }
 {
     let Ok(text) = str::from_utf8(octets) else {
         return Err(Unread::NoZone(Flaw::Text));
@@ -154,5 +138,8 @@ pub fn zone_of(alloc: Global, octets: &[u8], apex: Name) -> Result<Zone, Unread>
         Err(TextFault::Wrong(at)) => return Err(Unread::NoZone(Flaw::Line(at))),
         Err(TextFault::NoMemory) => return Err(Unread::NoMemory),
     };
-    zone_from(alloc, records, apex)
+    match zone_from(alloc, apex, records) {
+        Ok(zone) => Ok(zone),
+        Err(flaw) => Err(Unread::NoZone(flaw)),
+    }
 }
