@@ -48,12 +48,12 @@
 //! its first octets and that sink's count of faults rose; and it was handed on, or that count rose (`handed_on`).
 //!
 //! *There is a zone*: the words are a command, the zone before is none, or the one with this name whose records and serial
-//! the file's text says (`IsFiled`); and it was brought to what the server has (`IsBrought`). Without
-//! a serial the whole zone is asked for. With one its changes are, and what comes of them is a function of that serial and
-//! of what came (`course_of_changes`, `course_of_fault`): the zone that they lead to, if it is newer; or the whole zone is
-//! asked for over the later edge, where the server refuses changes, has none up to a greater serial, or sends some that do
-//! not fit; or the fault. No zone is taken but one with a greater serial (`judged`). Each transfer is `IsFetched` of
-//! `zone_transfer` behind the server's address, which the edge learned first.
+//! the file's text says (`IsFiled`); and it was brought to what the server has (`IsBrought`). Without a serial the whole zone
+//! is asked for. With one its changes are, and what comes of them is a function of that serial and of what came
+//! (`course_of_changes`, `course_of_fault`): the zone that they lead to, if it is newer; or the whole zone is asked for over
+//! the later edge, where the server refuses changes, has none up to a greater serial, or sends some that do not fit; or the
+//! fault. No zone is taken but one with a greater serial (`judged`). Each transfer is `IsFetched` of `zone_transfer` behind
+//! the server's address, which the edge learned first.
 //!
 //! # Why it is so
 //!
