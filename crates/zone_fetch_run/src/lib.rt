@@ -79,7 +79,6 @@ mod fetching;
 mod help;
 mod leading;
 mod lines;
-mod number;
 mod progress_line;
 mod putting;
 mod replacing;
