@@ -316,7 +316,9 @@ def main():
             if n % 2:
                 before = None
             else:
-                path.write_text("".join(line(k) + "\n" for k in sorted(before)))
+                rows = [line(k) + "\n" for k in sorted(before)]
+                rng.shuffle(rows)
+                path.write_text("".join(rows))
             status, zone, again = expected(before, server.sent)
             got, text, said = run(program, server.port, *([] if before is None else ["--from", str(path)]))
             if not agrees(server, status, zone, again, got, text, said):

@@ -5,7 +5,7 @@ ghost use Rattle.zone_text.specs.Zones.{HasFlaw, IsZoneIn, IsZoneOf, LacksZone, 
 
 use crate::fault::{LinePart, TextFault, WrongLine};
 use crate::reading::records_of;
-use dns_base::{Name, NoMemory, ParsedName, Serial, ToName, is_same_name};
+use dns_base::{Name, ParsedName, Serial, ToName, is_same_name};
 use std::alloc::Global;
 use std::str;
 use zone_records::{Zone, ZoneRecord};
@@ -26,16 +26,6 @@ pub enum Flaw {
 pub enum Unread {
     NoZone(Flaw),
     NoMemory,
-}
-
-impl From<NoMemory> for Unread {
-    ghost use Rattle.zone_text.specs.declared.zone.Unread.{Unread};
-
-    ghost from_gives = { λ _ e. e ≡ Unread.NoMemory };
-
-    fn from(_e: NoMemory) -> Unread {
-        Unread::NoMemory
-    }
 }
 
 /// The serial in the data of an SOA without compression, which 16 octets follow (RFC 1035 3.3.13).
