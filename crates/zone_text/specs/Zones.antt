@@ -30,10 +30,14 @@ is_name apex (Some found) = same_name found.labels apex
 abbrev pub is_at : Labels → ZoneRecord → Bool
 is_at apex item = is_name apex (name_at item.owner 0)
 
--- the serial of an SOA, which is to be the apex's, and the first
+-- the serial of an SOA, which is to be the apex's
+abbrev pub own_soa_says : Labels → ZoneRecord → Result ℕ LinePart
+own_soa_says apex soa = if is_at apex soa then or_wrong parts.Serial (serial_of soa.rdata) else Err parts.Apex
+
+-- and the first: one of this serial stands before it, or none
 abbrev pub soa_says : Labels → (found : Option ℕ) → ZoneRecord → Result ℕ LinePart
 soa_says apex (Some serial) soa = Err parts.SecondSoa
-soa_says apex None soa = if is_at apex soa then or_wrong parts.Serial (serial_of soa.rdata) else Err parts.Apex
+soa_says apex None soa = own_soa_says apex soa
 
 abbrev pub found_one : Result ℕ LinePart → Result (Option ℕ) LinePart
 found_one (Err part) = Err part

@@ -1,7 +1,7 @@
 //! The zone that a text has.
 
 ghost use Rattle.std.specs.Prelude.{◌≡◌, IfErr, IfOk};
-ghost use Rattle.zone_text.specs.Zones.{HasFlaw, IsZoneIn, IsZoneOf, LacksZone, is_at, serial_after, serial_among, serial_of, soa_says};
+ghost use Rattle.zone_text.specs.Zones.{HasFlaw, IsZoneIn, IsZoneOf, LacksZone, is_at, own_soa_says, serial_after, serial_among, serial_of, soa_says};
 
 use crate::fault::{LinePart, TextFault, WrongLine};
 use crate::reading::records_of;
@@ -46,19 +46,26 @@ fn is_at(apex: &Name, item: &ZoneRecord) -> bool
     }
 }
 
-/// The serial of an SOA, where none stands before it but one of this serial, if there is one.
-fn soa_says(apex: &Name, found: Option<u32>, soa: &ZoneRecord) -> Result<u32, LinePart>
-    ensures { result ≡ soa_says apex.now found soa.now }
+/// The serial of an SOA, which is to be the apex's.
+fn own_soa_says(apex: &Name, soa: &ZoneRecord) -> Result<u32, LinePart>
+    ensures { result ≡ own_soa_says apex.now soa.now }
 {
-    if found.is_some() {
-        return Err(LinePart::SecondSoa);
-    }
     if !is_at(apex, soa) {
         return Err(LinePart::Apex);
     }
     match serial_of(soa.rdata.as_slice()) {
         Some(serial) => Ok(serial),
         None => Err(LinePart::Serial),
+    }
+}
+
+/// The serial of an SOA, which is to be the first: one of this serial stands before it, or none.
+fn soa_says(apex: &Name, found: Option<u32>, soa: &ZoneRecord) -> Result<u32, LinePart>
+    ensures { result ≡ soa_says apex.now found soa.now }
+{
+    match found {
+        Some(_) => Err(LinePart::SecondSoa),
+        None => own_soa_says(apex, soa),
     }
 }
 
