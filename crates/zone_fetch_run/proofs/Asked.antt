@@ -36,13 +36,13 @@ unread_there asked stop faults faults_after is h = subst (λ (r : Result Zone St
 
 -- ---- the zone before
 
-module _ (apex named : Labels) (path text : List ℕ) (files : Files) (at : IfSome files (λ file_at. file_at path ≡ Some text)) (is : named ≡ apex) where
-  pub is_filed : (zone : Zone) → IsZoneIn text named zone → IsFiled apex path files zone
-  is_filed zone h = record { text = text; at = at; is_zone = subst (λ (a : Labels). IsZoneIn text a zone) is h }
+module _ (apex named : Labels) (path text told : List ℕ) (files : Files) (at : IfSome files (λ file_at. file_at path ≡ Some text)) (is : named ≡ apex) (same : told ≡ text) where
+  pub is_filed : (zone : Zone) → IsZoneIn told named zone → IsFiled apex path files zone
+  is_filed zone h = record { text = text; at = at; is_zone = subst (λ (a : Labels). IsZoneIn text a zone) is (subst (λ (t : List ℕ). IsZoneIn t named zone) same h) }
 
-  pub is_flawed : (flaw : Flaw) → HasFlaw text named (NoZone flaw) → IsOfFile apex path files (stops.NotPrinted flaw)
+  pub is_flawed : (flaw : Flaw) → HasFlaw told named (NoZone flaw) → IsOfFile apex path files (stops.NotPrinted flaw)
   is_flawed flaw h =
-      let flawed = subst (λ (a : Labels). HasFlaw text a (NoZone flaw)) is h in
+      let flawed : HasFlaw text apex (NoZone flaw) = subst (λ (a : Labels). HasFlaw text a (NoZone flaw)) is (subst (λ (t : List ℕ). HasFlaw t named (NoZone flaw)) same h) in
       record { text = text; at = at; flawed = flawed; none = λ zone. no_zone text apex flaw zone flawed }
 
 pub of_reading : (apex : Labels) (path : List ℕ) (files : Files) (stop : Stop) → IsOfReading stop → IsOfFile apex path files stop

@@ -43,7 +43,6 @@ fn octets_at<O: OpenFile>(alloc: Global, opener: &mut O, path: &str) -> Result<V
 }
 
 /// The zone of the text that the file at a path has.
-#[tactic(auto, using(crate::proofs::Asked::of_reading, crate::proofs::Asked::is_filed, crate::proofs::Asked::is_flawed))]
 fn zone_at<O: OpenFile>(
     alloc: Global,
     command: &Command,
