@@ -2,10 +2,10 @@
 use Rattle.std.proofs.Common.{◌≡◌, ◌≢◌, ℕ, ◌+◌, List, [], ◌∷◌, ◌++◌, length, refl, ap, sym, ◌∙◌, arith, append_assoc, Option, None, Some, Result, Ok, Err}
 use Rattle.zone_records.specs.declared.record.ZoneRecord.{ZoneRecord}
 use Rattle.zone_text.specs.Words.{cut_at, pieces_at}
-use Rattle.zone_text.specs.Saying.{Said, beside, end_says, first_says, line_says, lines_say, or_wrong, says_from, with_line, with_record, wrong, ◌>>=◌}
+use Rattle.zone_text.specs.Saying.{Said, beside, end_says, first_says, line_says, lines_say, says_from, with_line, with_record, wrong}
 use Rattle.zone_text.specs.declared.fault.LinePart.{LinePart}
 use Rattle.zone_text.specs.declared.fault.LinePart.TheVariants as parts
-use Rattle.zone_text.proofs.Cuts.{cut_shorter, pieces_cut, pieces_some, pieces_whole}
+use Rattle.zone_text.proofs.Cuts.{pieces_cut, pieces_some, pieces_whole}
 
 -- records before those that are said
 abbrev pub put_records : List ZoneRecord → Said → Said

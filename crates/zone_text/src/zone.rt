@@ -70,11 +70,7 @@ fn soa_says(apex: &Name, found: Option<u32>, soa: &ZoneRecord) -> Result<u32, Li
 }
 
 /// The serial of the zone as far as a record, where it is this one before that, or none.
-fn serial_after(
-    apex: &Name,
-    found: Option<u32>,
-    item: &ZoneRecord,
-) -> Result<Option<u32>, LinePart>
+fn serial_after(apex: &Name, found: Option<u32>, item: &ZoneRecord) -> Result<Option<u32>, LinePart>
     ensures { result ≡ serial_after apex.now found item.now }
 {
     if !item.is_soa() {
