@@ -8,7 +8,7 @@ use Rattle.zone_text.specs.declared.zone.Flaw.{Flaw}
 use Rattle.zone_text.specs.declared.zone.Unread.TheVariants.{NoZone}
 use Rattle.zone_text.proofs.Zones.{no_zone}
 use Rattle.zone_transfer.specs.Turning.{Scene}
-use Rattle.zone_fetch_run.specs.Ends.{Files, HasStopped, HasZone, IsBase, IsFiled, IsFlawed, IsOfFile, IsOfReading, RoseUnread, is_left}
+use Rattle.zone_fetch_run.specs.Ends.{Files, HasStopped, HasZone, IsBase, IsFiled, IsOfFile, IsOfReading, RoseUnread, is_left}
 use Rattle.zone_fetch_run.specs.Fetching.{IsBrought}
 use Rattle.zone_fetch_run.specs.declared.command.Command.{Command}
 use Rattle.zone_fetch_run.specs.declared.leading.Detour.{Detour}

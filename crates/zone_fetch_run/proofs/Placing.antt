@@ -2,7 +2,7 @@
 use Rattle.std.proofs.Common.{◌≡◌, ◌≢◌, ℕ, ◌<◌, List, [], ◌++◌, Bool, Option, None, Some, refl, ap, sym, subst, ◌∙◌, arith}
 use Rattle.std.specs.Prelude.{IfSome}
 use Rattle.dns_values.specs.Sink.{with_octets}
-use Rattle.dns_values.specs.Source.{Rose, last_count}
+use Rattle.dns_values.specs.Source.{Rose}
 use Rattle.zone_records.specs.declared.record.ZoneRecord.{ZoneRecord}
 use Rattle.zone_fetch_run.specs.Lines.{WritesZone}
 use Rattle.zone_fetch_run.specs.Places.{IsPlaced, Placed, PlacesZone, with_place}

@@ -43,6 +43,7 @@ fn octets_at<O: OpenFile>(alloc: Global, opener: &mut O, path: &str) -> Result<V
 }
 
 /// The zone of the text that the file at a path has.
+#[tactic(auto, using(crate::proofs::Asked::of_reading))]
 fn zone_at<O: OpenFile>(
     alloc: Global,
     command: &Command,

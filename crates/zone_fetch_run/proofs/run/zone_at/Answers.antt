@@ -1,8 +1,5 @@
-use Rattle.zone_fetch_run.proofs.Asked.{is_filed, is_flawed, of_reading}
+use Rattle.zone_fetch_run.proofs.Asked.{is_filed, is_flawed}
 use Rattle.zone_fetch_run.proofs.run.zone_at.Goals as goal
-
-pub returns-in_err-octets-clause-stopped : goal.returns-in_err-octets-clause-stopped
-returns-in_err-octets-clause-stopped g c = of_reading _ _ _ _ c.in_err-octets.ensures.stopped
 
 pub returns-in-Ok-clause-zone : goal.returns-in-Ok-clause-zone
 returns-in-Ok-clause-zone g c = is_filed _ _ _ _ _ _ c.in_ok-octets.ensures.octets c.in_ok-apex.ensures c.as_slice.ensures.value c.in-Ok.zone c.in-Ok.ensures.zone
