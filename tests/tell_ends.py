@@ -101,7 +101,8 @@ def fetches(program, folder):
         (first + "a.test 1 IN A 192.0.2.1 ;\n" + other, "line 2: the data is not in pairs of hexadecimal digits"),
         (first + "a.test 1 1 1 00\n" + other, "line 3: a second SOA"),
         (other + first, "line 1: an SOA of another zone"),
-        (other + "\n", "line 2: fewer than five words"),
+        (other + "\n", "line 1: an SOA of another zone"),
+        ("\n" + other, "line 1: fewer than five words"),
         (f"a.test 1 1 6 {19 * '00'}\n", "line 1: an SOA without a serial"),
     ):
         file.write_bytes(text.encode("latin-1"))

@@ -30,8 +30,8 @@
 //!   the zone's records (`IsZoneText`), in numbers, or as `write_text` of `zone_text` has it.
 //! - **1** (`ends`): the words name a file, which was read, and what it has is no text of that zone by `zone_text`
 //!   (`IsFlawed`): no zone has it (`IsZoneIn`). That is told, with the file, and why (`flaw_text`): the first line that is no
-//!   record, or where all are records, the first with an SOA that is not the zone's one, and what is wrong with it
-//!   (`HasFlaw`). At each status but 1, 2, 3 and 6 the zone has the file's text, so that 1 is given exactly there.
+//!   record, or an SOA that is not the zone's one, and what is wrong with it (`HasFlaw`). At each status but 1, 2, 3 and 6
+//!   the zone before has the file's text, so that 1 is given exactly there.
 //! - **2** (`ends`): the words are no command (`IsCommand`), which names the first that is wrong, or what is missing; so
 //!   does the sentence (`refusal_sentence`).
 //! - **3** (`ends`, `unread`): the words name a file, and the count of faults of what opens files rose; the sentence has

@@ -6,11 +6,11 @@ use Rattle.dns_names.specs.Name.{Found, Labels, name_at, same_name}
 use Rattle.zone_records.specs.Folding.{Zone, has}
 use Rattle.zone_records.specs.Records.{is_soa}
 use Rattle.zone_records.specs.declared.record.ZoneRecord.{ZoneRecord}
-use Rattle.zone_text.specs.Saying.{Said, or_wrong, text_says, wrong}
+use Rattle.zone_text.specs.Saying.{first_says, line_says, or_wrong, text_says, wrong, ◌>>=◌}
+use Rattle.zone_text.specs.Words.{pieces_at}
 use Rattle.zone_text.specs.declared.fault.LinePart.{LinePart}
 use Rattle.zone_text.specs.declared.fault.LinePart.TheVariants as parts
 use Rattle.zone_text.specs.declared.fault.WrongLine.{WrongLine}
-use Rattle.zone_text.specs.declared.zone.Flaw.{Flaw}
 use Rattle.zone_text.specs.declared.zone.Flaw.TheVariants as flaws
 use Rattle.zone_text.specs.declared.zone.Unread.{Unread}
 use Rattle.zone_text.specs.declared.zone.Unread.TheVariants as unread
@@ -54,47 +54,49 @@ abbrev pub go_on : (line : ℕ) → Result (Option ℕ) LinePart → (Option ℕ
 go_on line (Err part) more = Err (wrong line part)
 go_on line (Ok found) more = more found
 
--- the same of the records of lines behind so many
-abbrev pub serial_from : Labels → (lines : ℕ) → (found : Option ℕ) → List ZoneRecord → SerialFound
-serial_from apex lines found [] = Ok found
-serial_from apex lines found (item ∷ items) = go_on (lines + 1) (serial_after apex found item) (λ serial. serial_from apex (lines + 1) serial items)
+-- ---- lines
 
--- The serial of the one SOA among the records of lines, which is the apex's, if there is one; or the first line that has another SOA.
-abbrev pub serial_among : Labels → List ZoneRecord → SerialFound
-serial_among apex records = serial_from apex 0 None records
+-- the serial as far as a line, which is to be a record
+abbrev pub line_serial : Labels → (found : Option ℕ) → List ℕ → Result (Option ℕ) LinePart
+line_serial apex found line = line_says line >>= λ item. serial_after apex found item
+
+-- the same of the line that begins a text
+abbrev pub first_serial : Labels → (found : Option ℕ) → List ℕ → Result (Option ℕ) LinePart
+first_serial apex found text = first_says text >>= λ first. serial_after apex found first.0
+
+-- nothing stands behind the last line feed
+abbrev pub end_serial : (line : ℕ) → (found : Option ℕ) → List ℕ → SerialFound
+end_serial line found [] = Ok found
+end_serial line found (c ∷ text) = Err (wrong line parts.End)
+
+-- lines in order, from the one of this number on
+abbrev pub serial_lines : Labels → (line : ℕ) → (found : Option ℕ) → List (List ℕ) → SerialFound
+serial_lines apex line found [] = Ok found
+serial_lines apex line found (last ∷ []) = end_serial line found last
+serial_lines apex line found (piece ∷ next ∷ pieces) = go_on line (line_serial apex found piece) (λ serial. serial_lines apex (line + 1) serial (next ∷ pieces))
+
+abbrev pub serial_from : Labels → (line : ℕ) → (found : Option ℕ) → List ℕ → SerialFound
+serial_from apex line found text = serial_lines apex line found (pieces_at 10 text)
+
+-- The serial of the one SOA among the lines of a text, which is the apex's, if there is one; or the first line that is no record, or has another SOA.
+abbrev pub serial_said : Labels → List ℕ → SerialFound
+serial_said apex text = serial_from apex 1 None text
 
 -- ---- the zone
 
--- A zone has these records, and the serial of the one SOA among them, which is its apex's.
-pub record IsZoneOf (apex : Labels) (records : List ZoneRecord) (zone : Zone) : Type 0 where
-  pub has_apex : zone.apex ≡ apex
-  pub holds : (r : ZoneRecord) → has zone.records r ≡ has records r
-  pub serial : serial_among apex records ≡ Ok zone.serial
-  pub has_serial : IsSome zone.serial
-
--- the same of the records that a text says
+-- A zone has the records that a text says, and the serial of the one SOA among them, which is its apex's.
 pub record IsZoneIn (text : List ℕ) (apex : Labels) (zone : Zone) : Type 0 where
   pub is_text : IsUtf8 text
   pub records : List ZoneRecord
   pub says : text_says text ≡ Ok records
-  pub is_zone : IsZoneOf apex records zone
-
--- ---- texts that have none
-
--- Why no zone with this apex has these records.
-abbrev pub LacksZone : Labels → List ZoneRecord → Flaw → Type 0
-LacksZone apex records flaws.Text = ⊥
-LacksZone apex records (flaws.Line at) = serial_among apex records ≡ Err at
-LacksZone apex records flaws.Soa = serial_among apex records ≡ Ok None
-
--- the serial among what a text says, or the first line that is wrong: one that is no record; or where all are records, one that has an SOA which is not that of the zone
-abbrev pub serial_said : Labels → Said → SerialFound
-serial_said apex (Err at) = Err at
-serial_said apex (Ok records) = serial_among apex records
+  pub holds : (r : ZoneRecord) → has zone.records r ≡ has records r
+  pub has_apex : zone.apex ≡ apex
+  pub serial : serial_said apex text ≡ Ok zone.serial
+  pub has_serial : IsSome zone.serial
 
 -- What a flaw tells of a text that is to have a zone with this apex.
 abbrev pub HasFlaw : List ℕ → Labels → Unread → Type 0
 HasFlaw text apex (unread.NoZone flaws.Text) = ¬ (IsUtf8 text)
-HasFlaw text apex (unread.NoZone (flaws.Line at)) = serial_said apex (text_says text) ≡ Err at
-HasFlaw text apex (unread.NoZone flaws.Soa) = serial_said apex (text_says text) ≡ Ok None
+HasFlaw text apex (unread.NoZone (flaws.Line at)) = serial_said apex text ≡ Err at
+HasFlaw text apex (unread.NoZone flaws.Soa) = serial_said apex text ≡ Ok None
 HasFlaw text apex unread.NoMemory = Unit {0}

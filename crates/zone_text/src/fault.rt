@@ -3,7 +3,6 @@
 ghost use Rattle.std.specs.Prelude.{◌≡◌};
 ghost use Rattle.zone_text.specs.Saying.{wrong};
 ghost use Rattle.zone_text.specs.declared.fault.PartFault.TheVariants as faults;
-ghost use Rattle.zone_text.specs.declared.fault.TextFault.TheVariants as texts;
 
 use dns_base::NoMemory;
 
@@ -40,19 +39,11 @@ pub struct WrongLine {
     pub part: LinePart,
 }
 
-/// Why the records of a text are not read.
-#[derive(Clone, Copy, Debug, PartialEq, Eq)]
-pub enum TextFault {
+/// Why the lines of a text are not read.
+#[derive(Clone, Copy)]
+pub(crate) enum TextFault {
     Wrong(WrongLine),
     NoMemory,
-}
-
-impl From<NoMemory> for TextFault {
-    ghost from_gives = { λ _ e. e ≡ texts.NoMemory };
-
-    fn from(_e: NoMemory) -> TextFault {
-        TextFault::NoMemory
-    }
 }
 
 /// Why a part of a line is not read.

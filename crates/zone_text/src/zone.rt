@@ -1,10 +1,11 @@
 //! The zone that a text has.
 
-ghost use Rattle.std.specs.Prelude.{◌≡◌, IfErr, IfOk};
-ghost use Rattle.zone_text.specs.Zones.{HasFlaw, IsZoneIn, IsZoneOf, LacksZone, is_at, own_soa_says, serial_after, serial_among, serial_of, soa_says};
+ghost use Rattle.std.specs.Prelude.{◌≡◌, ◌<◌, Ok, length, IfErr, IfOk};
+ghost use Rattle.zone_text.specs.Saying.{TellsFault, TellsPart, first_says, text_says};
+ghost use Rattle.zone_text.specs.Zones.{HasFlaw, IsZoneIn, first_serial, is_at, own_soa_says, serial_after, serial_of, serial_said, soa_says};
 
-use crate::fault::{LinePart, TextFault, WrongLine};
-use crate::reading::records_of;
+use crate::fault::{LinePart, PartFault, TextFault, WrongLine};
+use crate::reading::first_says;
 use dns_base::{Name, ParsedName, Serial, ToName, is_same_name};
 use std::alloc::Global;
 use std::str;
@@ -82,43 +83,64 @@ fn serial_after(apex: &Name, found: Option<u32>, item: &ZoneRecord) -> Result<Op
     }
 }
 
-/// The serial of the one SOA among the records of lines, if there is one; or the first line that has an SOA which is not that of
-/// the zone.
-#[tactic(auto, using(crate::proofs::Zones::serial_on, crate::proofs::Zones::serial_wrong, crate::proofs::Zones::serial_last))]
-fn serial_among(apex: &Name, records: &[ZoneRecord]) -> Result<Option<u32>, WrongLine>
-    ensures { result ≡ serial_among apex.now records.now }
+/// The record of the line that begins a text, the serial of the zone as far as that line, and what stands behind it.
+#[tactic(auto, using(crate::proofs::Zones::first_fault, crate::proofs::Zones::first_no_soa))]
+fn first_in<'a>(
+    alloc: Global,
+    apex: &Name,
+    found: Option<u32>,
+    text: &'a str,
+) -> Result<(ZoneRecord, Option<u32>, &'a str), PartFault>
+    ensures record { IfOk result (λ x. first_says text.now ≡ Ok (x.0, x.2.now)) }
+    ensures serial { IfOk result (λ x. serial_after apex.now found x.0 ≡ Ok x.1) }
+    ensures wrong { IfErr result (TellsPart (first_serial apex.now found text.now)) }
+    ensures shorter { IfOk result (λ x. length x.2.now < length text.now) }
 {
-    let mut found = None;
-    let mut line = 0;
-    let mut rest = records;
-    while let Some((item, behind)) = rest.split_first() {
-        line += 1;
-        match serial_after(apex, found, item) {
-            Ok(serial) => found = serial,
-            Err(part) => return Err(WrongLine { line, part }),
-        }
-        rest = behind;
+    let (item, behind) = match first_says(alloc, text) {
+        Ok(first) => first,
+        Err(fault) => return Err(fault),
+    };
+    match serial_after(apex, found, &item) {
+        Ok(serial) => Ok((item, serial, behind)),
+        Err(part) => Err(PartFault::Wrong(part)),
     }
-    Ok(found)
 }
 
-/// The zone of the records of lines.
-#[tactic(auto, using(crate::proofs::Zones::is_zone))]
-fn zone_from(alloc: Global, apex: Name, records: Vec<ZoneRecord>) -> Result<Zone, Flaw>
-    ensures zone { IfOk result (IsZoneOf apex records.items) }
-    ensures flaw { IfErr result (LacksZone apex records.items) }
+/// The records of the lines of a text in order, and the serial of the zone, if they have its SOA; or the first line that is wrong.
+#[tactic(auto, using(crate::proofs::Said::no_records, crate::proofs::Said::record_more, crate::proofs::Said::all_said, crate::proofs::Zones::serial_on, crate::proofs::Zones::serial_wrong, crate::proofs::Zones::serial_last))]
+fn lines_of(
+    alloc: Global,
+    apex: &Name,
+    text: &str,
+) -> Result<(Vec<ZoneRecord>, Option<u32>), TextFault>
+    ensures records { IfOk result (λ x. text_says text.now ≡ Ok x.0.items) }
+    ensures serial { IfOk result (λ x. serial_said apex.now text.now ≡ Ok x.1) }
+    ensures wrong { IfErr result (TellsFault (serial_said apex.now text.now)) }
 {
-    let found = serial_among(&apex, records.as_slice());
-    match found {
-        Ok(Some(serial)) => Ok(Zone::of_records(alloc, apex, Some(Serial(serial)), records)),
-        Ok(None) => Err(Flaw::Soa),
-        Err(at) => Err(Flaw::Line(at)),
+    let mut records = Vec::new(alloc);
+    let mut found = None;
+    let mut rest = text;
+    let mut line = 1;
+    while !rest.is_empty() {
+        match first_in(alloc, apex, found, rest) {
+            Ok((item, serial, behind)) => {
+                if records.push(item).is_err() {
+                    return Err(TextFault::NoMemory);
+                }
+                found = serial;
+                rest = behind;
+                line += 1;
+            }
+            Err(PartFault::Wrong(part)) => return Err(TextFault::Wrong(WrongLine { line, part })),
+            Err(PartFault::NoMemory) => return Err(TextFault::NoMemory),
+        }
     }
+    Ok((records, found))
 }
 
 /// The zone with this apex that octets have, as it was printed: in the form that name servers load, or in numbers and hexadecimal
 /// digits. Its lines may stand in any order.
-#[tactic(auto, using(crate::proofs::Zones::zone_is_in, crate::proofs::Zones::line_is_wrong, crate::proofs::Zones::lacks_zone))]
+#[tactic(auto, using(crate::proofs::Zones::is_zone))]
 pub fn zone_of(alloc: Global, octets: &[u8], apex: Name) -> Result<Zone, Unread>
     ensures zone { IfOk result (IsZoneIn octets.now apex) }
     ensures flaw { IfErr result (HasFlaw octets.now apex) }
@@ -126,13 +148,13 @@ pub fn zone_of(alloc: Global, octets: &[u8], apex: Name) -> Result<Zone, Unread>
     let Ok(text) = str::from_utf8(octets) else {
         return Err(Unread::NoZone(Flaw::Text));
     };
-    let records = match records_of(alloc, text) {
-        Ok(records) => records,
+    let (records, found) = match lines_of(alloc, &apex, text) {
+        Ok(lines) => lines,
         Err(TextFault::Wrong(at)) => return Err(Unread::NoZone(Flaw::Line(at))),
         Err(TextFault::NoMemory) => return Err(Unread::NoMemory),
     };
-    match zone_from(alloc, apex, records) {
-        Ok(zone) => Ok(zone),
-        Err(flaw) => Err(Unread::NoZone(flaw)),
+    match found {
+        Some(serial) => Ok(Zone::of_records(alloc, apex, Some(Serial(serial)), records)),
+        None => Err(Unread::NoZone(Flaw::Soa)),
     }
 }
