@@ -6,7 +6,7 @@
 PROGRAM is the built example_many. An NSD, a BIND and a Knot serve one zone on loopback, each behind a relay that drops a tenth of the
 datagrams, each way. Each host has its addresses, in the order of the names; and the last host, which is not there, is said to have none. Then
 come a server that drops all, at which each host has its fault, and one server half of whose answers are about another host, which are
-no answers. A server that is not installed is left out, and that is said. The first difference ends it with status 1.
+no answers: not each host is answered then, but with no other's addresses. A server that is not installed is left out, and that is said. The first difference ends it with status 1.
 """
 
 import os
@@ -31,6 +31,8 @@ $TTL 300
 ns A 127.0.0.1
 """
 LOST = 0.1
+# What six tries bring at least where four tenths of them bring an answer.
+LEAST = 0.85
 
 
 def addresses(number):
@@ -143,13 +145,17 @@ def compare(program, what, relay, count):
     names = ["h%d.example" % n for n in range(count)]
     status, out, said, took = ask(program, relay.port, names + ["missing.example"])
     expect(status == 0, "%s: status %d, %s" % (what, status, said))
-    expect(said == "missing.example: no address\n" or said == "", "%s: %s" % (what, said[:300]))
     due = ["%s %s" % (name, address) for n, name in enumerate(names) for address in addresses(n)]
     lines = out.splitlines()
-    expect(len(lines) == len(due), "%s: %d addresses, not %d" % (what, len(lines), len(due)))
-    for line, wanted in zip(lines, due):
-        expect(line == wanted, "%s: %s, not %s" % (what, line, wanted))
-    print("%s: %d hosts in %.1f s, %d of %d datagrams were dropped" % (what, count, took, relay.dropped, relay.sent), flush=True)
+    if not relay.changed:
+        expect(said == "missing.example: no address\n" or said == "", "%s: %s" % (what, said[:300]))
+        expect(len(lines) == len(due), "%s: %d addresses, not %d" % (what, len(lines), len(due)))
+    expect(len(lines) >= LEAST * len(due), "%s: %d addresses of %d" % (what, len(lines), len(due)))
+    left = iter(due)
+    for line in lines:
+        expect(line in left, "%s: %s is no address of its host, or not in order" % (what, line))
+    told = "%s: %d addresses of %d hosts in %.1f s, %d of %d datagrams were dropped"
+    print(told % (what, len(lines), count, took, relay.dropped, relay.sent), flush=True)
 
 
 def all_dropped(program):

@@ -1,11 +1,12 @@
-"""Says where docs/SCRIPTS.md and README.md name what the code does not have, or leave out what it has, and which figure of README.md
+"""Says where docs/SCRIPTS.md and docs/TOOLS.md name what the code does not have, or leave out what it has, and which figure of README.md
 stands in no measurement. It proves nothing.
 
 usage: python3 tests/documented.py
 
 The names of events, outs, faults, errors and settings stand in definitions as `codes "NAME"`, the exit statuses in
 crates/command_parts/src/statuses.rt; each must stand in the tables of the documents, and no other. A figure is a number with its unit, or
-one of thousands, in the table of README.md's "How fast"; it must stand in docs/MEASURED.md in the same digits.
+one of thousands, in the table of README.md's "How fast"; it must stand in docs/MEASURED.md in the same digits. A line of README.md's
+example of the library must stand in that example.
 """
 
 import pathlib
@@ -47,6 +48,13 @@ def unmeasured(readme, measured):
     return [f"README.md: the figure {it} stands in no row of docs/MEASURED.md" for it in sorted(figures("\n".join(table)) - there)]
 
 
+def unquoted(readme):
+    """The lines of README's example that do not stand in the example."""
+    there = (TOP / "crates/example_lookup/src/main.rt").read_text(encoding="utf-8").splitlines()
+    told = re.search(r"(?ms)^```rust\n(.*?)^```$", readme)[1].splitlines()
+    return [f"README.md: the example has no line `{line.strip()}`" for line in told if line not in there]
+
+
 def main():
     scripts = (TOP / "docs/SCRIPTS.md").read_text(encoding="utf-8")
     lines = names(SPECS / "Names.antt", "script_names")
@@ -61,15 +69,16 @@ def main():
     errors = {it.split(" ")[0] for it in re.findall(r"`([^`]+)`", told)} - {"KIND", "Connect", "Send", "Timeout", "Receive"}
     real = names(SPECS / "Names.antt", "error_names") | {"Dgram", "StreamReadError", "StreamWriteError"}
     faults += compared("error", errors, real)
-    readme = (TOP / "README.md").read_text(encoding="utf-8")
-    told = set(re.findall(r"^\| (\d) \|", readme, re.M))
+    told_of_dnsq = (TOP / "docs/TOOLS.md").read_text(encoding="utf-8").split("\n## dnsq\n", 1)[1].split("\n## ", 1)[0]
+    told = set(re.findall(r"^\| (\d) \|", told_of_dnsq, re.M))
     code = (TOP / "crates/command_parts/src/statuses.rt").read_text(encoding="utf-8")
     have = set(re.findall(r"Status\((\d)\)", code)) | {"0"}
-    faults += [f"README.md: the status {it} is not in both the document and the code" for it in sorted(told ^ have)]
-    commands = set(re.findall(r"^\| `(\w+)[^`]*` \|", readme.split("## dnsq", 1)[1].split("##", 1)[0], re.M))
+    faults += [f"docs/TOOLS.md: the status {it} is not in both the document and the code" for it in sorted(told ^ have)]
+    commands = set(re.findall(r"^\| `(\w+)[^`]*` \|", told_of_dnsq, re.M))
     usage = (TOP / "crates/dnsq_run/src/usage.rt").read_text(encoding="utf-8")
-    faults += [f"README.md: no command {it}" for it in sorted(commands) if f'"{it}"' not in usage and it not in usage]
-    faults += unmeasured(readme, (TOP / "docs/MEASURED.md").read_text(encoding="utf-8"))
+    faults += [f"docs/TOOLS.md: no command {it}" for it in sorted(commands) if f'"{it}"' not in usage and it not in usage]
+    readme = (TOP / "README.md").read_text(encoding="utf-8")
+    faults += unmeasured(readme, (TOP / "docs/MEASURED.md").read_text(encoding="utf-8")) + unquoted(readme)
     print(*faults, sep="\n", end="\n" if faults else "")
     return 1 if faults else 0
 

@@ -5,28 +5,39 @@ usage: python3 tests/house.py [--lower] [RULE..]      all rules, where none is n
 
 lines        No line of a document is longer than 160 characters; tools/wrap_documents wraps paragraphs and lists.
 names        A name in backticks in a document stands in a source or in a file's name, and both sides of a `::` in one file.
-files        What the rules of docs/MAP.md name lies in the crate that the row names, or in the one before the slash.
+files        What the rules of docs/MAP.md name lies in the crate that the row names, in one that the section names, or in the one before the
+             slash, and what docs/DEFINITIONS.md names so in that one's specs.
+questions    Where docs/TESTED.md says that a question is answered, the document has what stands between the quotes.
 parameters   A function has at most 7 parameters, `self` among them.
 types        A name is that of two types of the repository at most.
 comments     No comment is "The same." alone.
+twins        At most 60 pairs of files of two shipped crates share six lines to the letter. A comment, an import, an attribute and signs alone are
+             no line, and what stands in more than eight places counts for nothing.
+cost         docs/COST.md tells what its rows say of the crates of now.
 
-tests/house.txt has what breaks them today, a line for each, and each number may only sink: --lower takes from it what is gone. What it
-doesn't have is added by hand, where a reader sees it. Status 1 where a rule is broken.
+tests/house.txt has what breaks them today, a line for each, and how many twins there are. Each number may only sink: --lower takes from it what is
+gone, and one more is refused. What it doesn't have is added by hand, where a reader sees it. Status 1 where a rule is broken.
 """
 
+import itertools
 import os
 import pathlib
 import re
+import subprocess
 import sys
 
 TOP = pathlib.Path(__file__).resolve().parent.parent
 PASSED_OVER = TOP / "tests/house.txt"
-LONGEST, PARAMETERS, TYPES = 160, 7, 2
+LONGEST, PARAMETERS, TYPES, TWINS = 160, 7, 2, 60
+# How many lines two places share that are twins, and in how many places they stand at most.
+SHARED, PLACES = 6, 8
 SOURCES = ["crates", "tests", "tools", "bench", "examples", ".ci", "run", "crates.txt"]
 WORD = re.compile(r"[A-Za-z_][A-Za-z0-9_]*")
 FUNCTION = re.compile(r"^[ \t]*(?:pub(?:\([a-z ]+\))? )?(?:const |unsafe )*fn (\w+)", re.M)
 TYPE = re.compile(r"^(?:pub(?:\([a-z ]+\))? )?(?:unsafe )?(?:struct|enum|trait|union|type) (\w+)", re.M)
 SAME = re.compile(r"(?:^[ \t]*//.*\n)*", re.M)
+# A line that says nothing by itself.
+EMPTY = re.compile(r"\s*(?://|(?:ghost |pub )*use |(?:pub )?mod |#|\W*$)")
 RULES = "| You look for | Rule in | Crate | Definition | Code | Proof |"
 # What is no source of names: what is passed over, and the lies that are planted.
 APART = [PASSED_OVER, TOP / "tests/planted_lies.py"]
@@ -100,21 +111,50 @@ def unknown_names():
                     yield f"name {first}::{second}", 1, f"{name}: no file has both sides of `{first}::{second}`"
 
 
+def lies_there(name, crates, part, suffix):
+    """Whether a part of one of these crates, or of the crate before the slash, has the file."""
+    crate, _, below = name.partition("/")
+    paths = [f"{it}/{part}/{name}" for it in crates] + [f"{crate}/{part}/{below}"]
+    return any((TOP / f"crates/{it}.{suffix}").is_file() for it in paths)
+
+
+def files_of(cell):
+    """The files that a cell names: those before a colon, behind which stand names in them. "refused" has laws alone."""
+    for piece in cell.split(";"):
+        if not piece.strip().startswith("refused"):
+            yield from re.findall(r"`([\w/]+)`", piece.partition(":")[0])
+
+
 def lost_files():
-    """Each file that the rules of docs/MAP.md name and that is not there."""
-    tables = read(TOP / "docs/MAP.md").split(RULES)[1:]
-    rows = [row for table in tables for row in table.partition("\n\n")[0].splitlines()[2:]]
-    if not rows:
+    """Each file that the rules of docs/MAP.md name, or docs/DEFINITIONS.md behind a crate, and that is not there."""
+    sections = [it.partition(RULES) for it in read(TOP / "docs/MAP.md").split("\n### ")]
+    if not any(rows for _, rows, _ in sections):
         yield "", 1, f"docs/MAP.md: there is no table `{RULES}`"
+    for head, _, rest in sections:
+        for row in rest.partition("\n\n")[0].splitlines()[2:]:
+            cells = [it.strip() for it in re.split(r"(?<!\\)\|", row)[1:-1]]
+            crates = re.findall(r"`(\w+)`", cells[2] + head)
+            for cell, part, suffix in zip(cells[3:], ("specs", "src", "proofs"), ("antt", "rt", "antt")):
+                for name in files_of(cell):
+                    if not lies_there(name, crates, part, suffix):
+                        yield f"file {name}", 1, f"docs/MAP.md: {cells[0]}: there is no `{name}`"
+    for name in re.findall(r"`(?!crates/)(\w+/[\w/]+)\.antt`", read(TOP / "docs/DEFINITIONS.md")):
+        if not lies_there(name, [], "specs", "antt"):
+            yield f"file {name}", 1, f"docs/DEFINITIONS.md: there is no `{name}.antt`"
+
+
+def lost_answers():
+    """Each place of an answer that is not there."""
+    rows = read(TOP / "docs/TESTED.md").partition("| Question | Where |\n")[2].partition("\n\n")[0].splitlines()[1:]
+    if not rows:
+        yield "", 1, "docs/TESTED.md: there is no table of questions"
     for row in rows:
-        cells = [it.strip() for it in re.split(r"(?<!\\)\|", row)[1:-1]]
-        for cell, part in zip(cells[3:], ("specs", "src", "proofs")):
-            for name in re.findall(r"`([^`]+\.(?:antt|rt))`", cell):
-                crate, _, rest = name.partition("/")
-                folders = [cells[2].strip("`"), crate]
-                paths = [f"crates/{folders[0]}/{part}/{name}", f"crates/{crate}/{part}/{rest}", f"crates/{crate}/src/{rest}", name]
-                if not any((TOP / it).is_file() for it in paths):
-                    yield f"file {name}", 1, f"docs/MAP.md: {cells[0]}: there is no `{name}`"
+        for place in row.rpartition(" | ")[2].split(";"):
+            document = re.search(r"[\w/]+\.md", place)
+            text = read(TOP / document[0]) if document else ""
+            for part in re.findall(r'"([^"]+)"', place):
+                if part not in text:
+                    yield "", 1, f"docs/TESTED.md: {document[0] if document else place.strip()} has no `{part}`"
 
 
 def parts_of(text, at):
@@ -164,13 +204,49 @@ def empty_comments():
             yield f"same {path.relative_to(TOP)}", count, f"{path.relative_to(TOP)}: {count} comments say \"The same.\" alone"
 
 
+def like_places():
+    """The pairs of files of two shipped crates that have like places."""
+    found = {}
+    for path in sorted((TOP / "crates").glob("*/src/**/*.rt")):
+        crate = path.relative_to(TOP / "crates").parts[0]
+        if crate.startswith(("test_", "tool_", "example_")):
+            continue
+        lines = [" ".join(it.partition("//")[0].split()) for it in read(path).splitlines() if not EMPTY.match(it)]
+        for at in range(len(lines) - SHARED + 1):
+            found.setdefault(tuple(lines[at : at + SHARED]), []).append((crate, str(path.relative_to(TOP))))
+    pairs = set()
+    for places in found.values():
+        if len(places) <= PLACES:
+            pairs |= {tuple(sorted((one[1], other[1]))) for one, other in itertools.combinations(places, 2) if one[0] != other[0]}
+    return sorted(pairs)
+
+
+def twins():
+    """How many there are, where tests/house.txt has a number or they are too many, and which is the first."""
+    pairs = like_places()
+    if pairs and (len(pairs) > TWINS or passed_over(["pairs"])):
+        yield "pairs", len(pairs), f"{len(pairs)} pairs of files of two shipped crates share {SHARED} lines, as {' and '.join(pairs[0])}"
+
+
+def old_cost():
+    """Whether docs/COST.md tells its own rows otherwise than tools/good_minutes does."""
+    if "Made by `tools/good_minutes`" in read(TOP / "docs/COST.md"):
+        words = [sys.executable, str(TOP / "tools/good_minutes"), "--again", str(TOP / "docs/COST.md")]
+        ran = subprocess.run(words, capture_output=True, text=True, check=False)
+        if ran.returncode or ran.stdout != read(TOP / "docs/COST.md"):
+            yield "", 1, "docs/COST.md is not what its rows say: `tools/good_minutes --again docs/COST.md` tells them"
+
+
 HELD = {
     "lines": (long_lines, ("prose", "rows", "code")),
     "names": (unknown_names, ("name",)),
     "files": (lost_files, ("file",)),
+    "questions": (lost_answers, ()),
     "parameters": (long_signatures, ("parameters",)),
     "types": (shared_names, ("type",)),
     "comments": (empty_comments, ("same",)),
+    "twins": (twins, ("pairs",)),
+    "cost": (old_cost, ()),
 }
 
 

@@ -9,6 +9,7 @@ something before the lie stands, or doesn't find it.
 
 import os
 import pathlib
+import re
 import shutil
 import subprocess
 import sys
@@ -16,6 +17,8 @@ import tempfile
 
 TOP = pathlib.Path(__file__).resolve().parent.parent
 FIRST = "#![tactic(auto)]\n"
+# A function of another crate, as it stands there.
+TWIN = re.search(r"(?ms)^fn open_next<.*?^}\n", (TOP / "crates/client_dgram/src/steps.rt").read_text(encoding="utf-8"))[0]
 LIES = [
     ("trusted_lines.py", "crates/dns_names/src/lib.rt", "#![tactic(auto)]\n", "#![tactic(auto)]\n\nuse std::fs;\n", "reaches the system"),
     ("trusted_lines.py", "crates/dns_values/src/octets.rt", "use std::marker::Model;\n", "use std::marker::Model;\nuse libc::net::poll;\n", "stands in no list"),
@@ -28,16 +31,27 @@ LIES = [
     ("tools/crates --check", "crates/dns_names/src/lib.rt", "//! Domain names", "//! Names", "is not what the crates say"),
     ("tools/crates --check", "crates.txt", "dns_names: dns_values", "dns_names:", "is not what the crates say"),
     ("documented.py", "README.md", "| 135 ns |", "| 1885 ns |", "the figure 1885"),
+    ("documented.py", "README.md", "    for address in find(", "    for address in found(", "the example has no line"),
     ("documented.py", "docs/SCRIPTS.md", "| `opened", "| `openned", "openned"),
+    ("commands.py --read", "README.md", "```sh\nrt ci\n", "```sh\nrt all check\n", "no block is what .ci/run runs"),
+    ("commands.py --read", "docs/OPERATING.md", "> reply 0 ok ..\n", "..\n", "a line that anything is like"),
     ("house.py lines", "README.md", "## License\n", "## License\n\n" + "word " * 40 + "\n", "lines (prose) over 160"),
     ("house.py lines", "docs/WRONG_BODIES.md", "| each trace is right |", f"| {'each trace is right ' * 10}|", "lines (rows) over 160"),
     ("house.py names", "README.md", "`client_core`", "`client_kore`", "`client_kore` stands in no source"),
     ("house.py names", "docs/DEFINITIONS.md", "`ResolvConf::parse_line`", "`ResolvConf::check_stream`", "no file has both sides of `ResolvConf::check_stream`"),
-    ("house.py files", "docs/MAP.md", "| `dns_names` | `Name.antt` |", "| `dns_names` | `Framer.antt` |", "there is no `Framer.antt`"),
+    ("house.py files", "docs/MAP.md", "| `dns_names` | `Name` |", "| `dns_names` | `Framer` |", "there is no `Framer`"),
+    ("house.py files", "docs/DEFINITIONS.md", "`dns_names/Name.antt`", "`dns_names/Frames.antt`", "there is no `dns_names/Frames.antt`"),
+    ("house.py questions", "docs/MAP.md", "**Run one test.**", "**A test.**", "has no `Run one test`"),
     ("house.py parameters", "crates/dns_names/src/lib.rt", FIRST, f"{FIRST}\nfn lie({', '.join(f'{it}: u8' for it in 'abcdefgh')}) {{}}\n", "has 8 parameters"),
     ("house.py parameters", "tests/house.txt", "parameters client_dgram::send 8", "parameters client_dgram::send 9", "is more than there is"),
     ("house.py types", "crates/dns_names/src/lib.rt", FIRST, f"{FIRST}\nstruct Answer;\n", "`Answer` is the name of"),
     ("house.py comments", "crates/dns_names/src/lib.rt", FIRST, f"{FIRST}\n/// The same.\nfn lie() {{}}\n", "say \"The same.\" alone"),
+    ("house.py twins", "crates/dns_names/src/lib.rt", FIRST, f"{FIRST}\n{TWIN}", "pairs of files of two shipped crates share"),
+    ("house.py twins", "tests/house.txt", "\npairs ", "\npairs 9", "is more than there is"),
+    ("house.py cost", "docs/COST.md", "| `dns_names` | ", "| `dns_names` | 9", "is not what its rows say"),
+    ("tools/measured", "docs/MEASURED.md", "| 135 ns |", "| 136 ns |", "is not what bench/measured.txt says"),
+    ("tools/measured", "bench/measured.txt", "| 135 ns |", "| 136 ns |", "is not what bench/measured.txt says"),
+    ("tools/measured", "bench/measured.txt", "bench/cache.py |", "bench/cash.py |", "no such script: bench/cash.py"),
 ]
 
 

@@ -44,7 +44,7 @@ commands() { # what a document gives as a command, and each script, can be read
     local bad=0 line script
     while IFS= read -r line; do
         bash -nc "$line" || { echo "no command: $line"; bad=1; }
-    done < <(sed -nE 's/^    ((\.\/run|rt|bash|python3) .*)/\1/p' README.md docs/*.md)
+    done < <(sed -nE -e '/^```sh$/,/^```$/{/^```/!p;d}' -e 's/^    ((\.\/run|rt|bash|python3) .*)/\1/p' README.md docs/*.md)
     for script in .ci/run tools/install tests/*.sh; do
         bash -n "$script" || bad=1
     done
@@ -81,10 +81,6 @@ units() { # how exposed a service is, of 100
     done
     return $bad
 }
-cost() { # what is told of the gate's cost is what its rows say
-    grep -q '^Made by `tools/good_minutes`' docs/COST.md || return 77
-    tools/good_minutes --again docs/COST.md | cmp - docs/COST.md
-}
 check "the examples' traces" examples
 check "the stored run is the example" stored
 check "the handles" handles
@@ -97,12 +93,13 @@ check "the pictures of traces" python3 tests/pictures.py
 check "the trusted lines" python3 tests/trusted_lines.py
 check "the crates that are cited" python3 tests/cited_crates.py
 check "the list of crates" tools/crates --check
+check "the tables of what was measured" tools/measured
 check "the rows that were tests" python3 tests/rows_of_tests.py
 check "the rules of the house" python3 tests/house.py
 check "lies that are planted" python3 tests/planted_lies.py
 check "man pages" pages
 check "units for systemd" units
-check "what the gate costs" cost
 check "a program that measures" measures
+check "what README's and OPERATING's commands print" python3 tests/commands.py --built
 echo "$passed passed, $failed failed, $skipped skipped"
 [ "$failed" -eq 0 ]
