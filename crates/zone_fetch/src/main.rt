@@ -47,16 +47,15 @@ fn fetch(
         return tell_no_random(&mut errors).0;
     };
     let files = FilesBeside::new(rt, rt.alloc(), random.next());
-    let means = Means {
-        clock: RealClock::new(rt),
-        random,
-        progress: ProgressLine::new(rt.alloc(), terminal(&rt)),
-    };
     let mut world = FetchWorld {
         opener: FileOpener::new(rt),
         edge,
         later,
-        means,
+        means: Means {
+            clock: RealClock::new(rt),
+            random,
+            progress: ProgressLine::new(rt.alloc(), terminal(&rt)),
+        },
         files,
     };
     let mut sink = StdSink::new(rt.stdout());
