@@ -5,14 +5,14 @@
 
 PROGRAM is the built zone_fetch, and COUNT the number of transfers, 2000 if it is left out: whole zones and changes, cut into
 messages anywhere, most of them then mangled: records dropped, doubled, swapped, with other serials, owners, cases, classes and
-types, SOAs in the middle or behind the end, messages dropped, refused, or cut off. A list of records is a transfer where it has one
-of the two forms (RFC 5936 2.2, RFC 1995 4), each record is of the class IN and of a type that a zone may hold, and a whole zone ends
-with the SOA it began with; then the zone is to be the set that the form says without what is outside it, in order, and else nothing
-of it is to be printed and the status to be 5. Where changes were asked for and the server answers FORMERR, NOTIMP or REFUSED, has none
-but a greater serial, or sends such that delete what is not there or add what is, the whole zone is to be asked for, and a sentence to
-say so. Nothing is to be printed of a zone with the serial of the one before (9), or one that is not greater (5). Behind these comes a
-transfer that never ends, which `--most` is to end. Prints how many ended with which status, how many of them behind a second
-request, or the first that differs.
+types, SOAs in the middle or behind the end, messages dropped, refused, or cut off. A list of records is a transfer where it has
+one of the two forms (RFC 5936 2.2, RFC 1995 4), each record is of the class IN and of a type that a zone may hold, and a whole
+zone ends with the SOA it began with; then the zone is to be the set that the form says without what is outside it, in order, and
+else nothing of it is to be printed and the status to be 5. The zone before is read from a file whose lines stand in any order.
+Where changes were asked for and the server answers FORMERR, NOTIMP or REFUSED, has none but a greater serial, or sends such that
+delete what is not there or add what is, the whole zone is to be asked for, and a sentence to say so. Nothing is to be printed of
+a zone with the serial of the one before (9), or one that is not greater (5). Behind these comes a transfer that never ends, which
+`--most` is to end. Prints how many ended with which status, how many of them behind a second request, or the first that differs.
 """
 
 import random
@@ -316,7 +316,9 @@ def main():
             if n % 2:
                 before = None
             else:
-                path.write_text("".join(line(k) + "\n" for k in sorted(before)))
+                rows = [line(k) + "\n" for k in sorted(before)]
+                rng.shuffle(rows)
+                path.write_text("".join(rows))
             status, zone, again = expected(before, server.sent)
             got, text, said = run(program, server.port, *([] if before is None else ["--from", str(path)]))
             if not agrees(server, status, zone, again, got, text, said):

@@ -10,7 +10,7 @@ PowerDNS' zone2json without a complaint, and an NSD, a BIND, a Knot and a PowerD
 octet for octet as it is printed without `--text`. Each line must end in a comment with the data in hexadecimal digits, as it is
 printed without `--text`. `--from` must read what either prints, and no text whose last comment or line feed is cut. What isn't
 installed is passed over, and that is said. The first difference ends it with status 1. (A BIND loads no MD and no MF in any form, and a
-PowerDNS no generic data of a type that it knows: it is told which, and what is left is compared.)
+PowerDNS no generic data of a type that it knows, and no mnemonics of CERT: it is told which, and what is left is compared.)
 """
 
 import shutil
@@ -236,10 +236,10 @@ def served(program, top, server, zone, text):
 
 
 def without_refused(program, top, server, zone, printed):
-    """The lines without those whose data is generic and that a server refuses one by one, and the types of these."""
+    """The lines without those that a server refuses beside the SOA, name servers and addresses, and the types of these."""
     lines = printed.splitlines(keepends=True)
-    plain = [line for line in lines if " \\# " not in line]
-    refused = [line for line in lines if " \\# " in line and attempt(program, top, server, zone, "".join([*plain, line]))[0] is None]
+    taken = [line for line in lines if line.split(" ")[3] in ("SOA", "NS", "A")]
+    refused = [line for line in lines if line not in taken and attempt(program, top, server, zone, "".join([*taken, line]))[0] is None]
     return "".join(line for line in lines if line not in refused), [line.split(" ")[3] for line in refused]
 
 
@@ -281,9 +281,9 @@ def try_zone(program, top, zone, text):
             continue
         text, wanted = printed, plain
         if server == "pdns_server" and attempt(program, top, server, zone, text)[0] is None:
-            # PowerDNS takes generic data only of types that it doesn't know.
+            # PowerDNS takes generic data only of types that it doesn't know, and no mnemonics of CERT.
             text, refused = without_refused(program, top, server, zone, printed)
-            print(f"{zone}: {server} refuses generic data of {' '.join(refused)}")
+            print(f"{zone}: {server} refuses {' '.join(refused)}")
             wanted = served(program, top, first, zone, text)[0]
         if served(program, top, server, zone, text)[0] != wanted:
             sys.exit(f"{zone}: {server} serves another zone")

@@ -86,9 +86,28 @@ def fetches(program, folder):
         expect(words, ran(program, words), (2, "", f"zone_fetch: {said}{see}"))
     file = folder / "before"
     expect("no file", ran(program, ["--from", str(file), "a.test", "127.0.0.1"]), (3, "", f"zone_fetch: {file} could not be read\n"))
-    file.write_text("a.test 1 1 1\n")
-    said = f"zone_fetch: {file}: no printed zone: line 1: fewer than five words\n"
-    expect("a bad file", ran(program, ["--from", str(file), "a.test", "127.0.0.1"]), (1, "", said))
+    first, other = f"A.test 300 IN SOA ; {22 * '00'}\n", f"b.a.test 300 1 6 {22 * '00'}\n"
+    for text, why in (
+        ("", "no SOA"),
+        ("a.test 1 1 1 00\n", "no SOA"),
+        ("\xff", "the file is no text"),
+        (first + "a.test 1 1 1\n", "line 2: fewer than five words"),
+        (first + "a.test 1 1 1 00", "line 2: no line feed behind it"),
+        (first + "a..test 1 1 1 00\n", "line 2: the owner is no name"),
+        (first + "a.test 4294967296 1 1 00\n", "line 2: the TTL is no number of 32 bits"),
+        (first + "a.test 1 INN 1 00\n", "line 2: the class has no such name, and is no number of 16 bits"),
+        (first + "a.test 1 1 TYPE65536 00\n", "line 2: the type has no such name, and is no number of 16 bits"),
+        (first + "a.test 1 1 1 0\n", "line 2: the data is not in pairs of hexadecimal digits"),
+        (first + "a.test 1 IN A 192.0.2.1 ;\n" + other, "line 2: the data is not in pairs of hexadecimal digits"),
+        (first + "a.test 1 1 1 00\n" + other, "line 3: a second SOA"),
+        (other + first, "line 1: an SOA of another zone"),
+        (other + "\n", "line 1: an SOA of another zone"),
+        ("\n" + other, "line 1: fewer than five words"),
+        (f"a.test 1 1 6 {19 * '00'}\n", "line 1: an SOA without a serial"),
+    ):
+        file.write_bytes(text.encode("latin-1"))
+        said = f"zone_fetch: {file}: no printed zone: {why}\n"
+        expect(text, ran(program, ["--from", str(file), "a.test", "127.0.0.1"]), (1, "", said))
     with socket.create_server(("127.0.0.1", 0)) as closed:
         port = closed.getsockname()[1]
     at = lambda port: ["--port", str(port), "a.test", "127.0.0.1"]

@@ -12,7 +12,9 @@ use rand::rngs::StdRng;
 use std::fs;
 use std::io::Stderr;
 use std::process::ExitCode;
-use zone_fetch_run::{ProgressLine, World, fetch_to, tell_no_memory, tell_no_random, tell_page};
+use zone_fetch_run::{
+    FetchWorld, Means, ProgressLine, fetch_to, tell_no_memory, tell_no_random, tell_page,
+};
 
 /// The system's random words, where they can be had.
 fn random_words(rt: &HostRuntime) -> Option<RandWords<StdRng>> {
@@ -45,13 +47,15 @@ fn fetch(
         return tell_no_random(&mut errors).0;
     };
     let files = FilesBeside::new(rt, rt.alloc(), random.next());
-    let mut world = World {
+    let mut world = FetchWorld {
         opener: FileOpener::new(rt),
         edge,
         later,
-        clock: RealClock::new(rt),
-        random,
-        progress: ProgressLine::new(rt.alloc(), terminal(&rt)),
+        means: Means {
+            clock: RealClock::new(rt),
+            random,
+            progress: ProgressLine::new(rt.alloc(), terminal(&rt)),
+        },
         files,
     };
     let mut sink = StdSink::new(rt.stdout());

@@ -1,5 +1,5 @@
 -- How a zone is brought to what a server has, in one step or two.
-use Rattle.std.proofs.Common.{◌≡◌, ℕ, List, Option, None, Some, Result, Ok, Err, refl, ap, subst, ◌∙◌}
+use Rattle.std.proofs.Common.{◌≡◌, ℕ, List, Option, None, Some, Result, Ok, refl, ap, subst, ◌∙◌}
 use Rattle.dns_names.specs.Name.{Labels}
 use Rattle.dns_values.specs.declared.numbers.Serial.{Serial}
 use Rattle.zone_records.specs.Folding.{Zone, empty_zone}

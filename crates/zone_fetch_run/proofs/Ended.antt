@@ -1,5 +1,5 @@
 -- How the program ends, from the parts that it ran.
-use Rattle.std.proofs.Common.{◌≡◌, ◌≢◌, ◌⊎◌, inl, inr, ℕ, List, Option, Ok, Err, subst, sym, ap, ◌∙◌, arith}
+use Rattle.std.proofs.Common.{◌≡◌, ◌≢◌, ◌⊎◌, inl, inr, ℕ, Option, Ok, Err, subst, sym, ap, ◌∙◌, arith}
 use Rattle.std.proofs.lemmas.Bool.Decides.{eqb_tells}
 use Rattle.dns_values.specs.Source.{Rose}
 use Rattle.dns_values.specs.declared.numbers.Status.{Status}
@@ -7,7 +7,6 @@ use Rattle.zone_records.specs.Folding.{Zone}
 use Rattle.zone_transfer.specs.Turning.{Scene}
 use Rattle.zone_fetch_run.specs.Ends.{End, FetchEnds, Files, HasStopped, HasZone, RoseUnread, Texts, is_out, is_refused, is_stopped, is_unread, is_unwritten, is_written}
 use Rattle.zone_fetch_run.specs.Ends as ends
-use Rattle.zone_fetch_run.specs.Lines.{zone_text}
 use Rattle.zone_fetch_run.specs.Stops.{status_of}
 use Rattle.zone_fetch_run.specs.Words.{IsCommand}
 use Rattle.zone_fetch_run.specs.declared.command.Command.{Command}
@@ -40,7 +39,7 @@ module _ (words : Texts) (files : Files) (random : ℕ → ℕ) (Told : End → 
   ]
 
   pub ended_written : (command : Command) (detour : Option Detour) (zone : Zone) → IsCommand words (Ok command) → HasZone command files random zone detour old new later later_new
-      → (status ≡ 0 → Told (ends.written command detour (zone_text command.text zone.records))) → (status ≡ 4 → Told (ends.unwritten command detour (zone_text command.text zone.records)))
+      → (status ≡ 0 → Told (ends.written command detour zone.records)) → (status ≡ 4 → Told (ends.unwritten command detour zone.records))
       → (status ≡ 6 → Told (ends.ran_out command)) → (status ≡ 0) ⊎ ((status ≡ 4) ⊎ (status ≡ 6)) → FetchEnds words files random Told status old new later later_new
   ended_written command detour zone judged h whole failed out (inl zero) = is_written command detour zone judged h zero (whole zero)
   ended_written command detour zone judged h whole failed out (inr (inl four)) = is_unwritten command detour zone judged h four (failed four)

@@ -1,7 +1,8 @@
 -- What is told by sentences where a zone may be put in the place of a file.
-use Rattle.std.proofs.Common.{◌≡◌, ◌≢◌, ◌⊎◌, inl, inr, ℕ, ◌≤◌, List, Option, None, Some, String, Global, refl, sym, subst, arith}
+use Rattle.std.proofs.Common.{◌≡◌, ◌≢◌, ◌⊎◌, inl, inr, ℕ, ◌≤◌, Bool, List, Option, None, Some, String, Global, refl, sym, subst, arith}
 use Rattle.dns_values.specs.Source.{Rose}
-use Rattle.zone_fetch_run.specs.Ends.{IsPutInPart, IsSpared}
+use Rattle.zone_records.specs.declared.record.ZoneRecord.{ZoneRecord}
+use Rattle.zone_fetch_run.specs.Ends.{IsSpared, PutsInPart}
 use Rattle.zone_fetch_run.specs.Stops.{Tells}
 use Rattle.zone_fetch_run.proofs.Writing.{rose_later}
 
@@ -15,9 +16,9 @@ pub spared_same : (output : Option (String Global)) (held : Option (List ℕ)) �
 spared_same None held = tt
 spared_same (Some path) held = refl
 
-pub spared_of : (output : Option (String Global)) (text : List ℕ) (before after : Option (List ℕ)) → IsPutInPart output text before after → IsSpared output before after
-spared_of None text before after part = tt
-spared_of (Some path) text before after part = part
+pub spared_of : (output : Option (String Global)) (is_loaded : Bool) (records : List ZoneRecord) (before after : Option (List ℕ)) → PutsInPart output is_loaded records before after → IsSpared output before after
+spared_of None is_loaded records before after part = tt
+spared_of (Some path) is_loaded records before after part = part
 
 -- a fault behind another call is one of both
 pub flushed_or_rose : (P : Type 0) (a b c : ℕ) → a ≤ b → P ⊎ Rose b c → P ⊎ Rose a c

@@ -1,5 +1,5 @@
 -- Words that are taken, one after another.
-use Rattle.std.proofs.Common.{◌≡◌, ◌+◌, ℕ, List, [], ◌∷◌, length, refl, sym, subst, arith, Option, Result, Ok, Err, String, Global}
+use Rattle.std.proofs.Common.{◌≡◌, ◌+◌, ℕ, List, [], ◌∷◌, length, refl, sym, subst, arith, Result, Ok, Err, String, Global}
 use Rattle.std.specs.String.{string_bytes}
 use Rattle.zone_fetch_run.specs.declared.command.Command.{Command}
 use Rattle.zone_fetch_run.specs.declared.command.Said.{Said}

@@ -1,66 +1,80 @@
 -- What the program ends with.
-use Rattle.std.specs.Prelude.{◌≡◌, ◌⊎◌, ℕ, List, Option, None, Some, Ok, Err, String, IfSome}
+use Rattle.std.specs.Prelude.{◌≡◌, ◌⊎◌, ℕ, Bool, List, Option, None, Some, Ok, Err, String, IfSome}
 use Rattle.std.specs.String.{string_bytes}
 use Rattle.std.specs.declared.alloc.Global.{Global}
 use Rattle.dns_names.specs.Name.{Labels}
 use Rattle.client_core.specs.declared.edge.Deed.{Deed}
-use Rattle.command_parts.specs.Ends.{IsBegun, IsSaid}
-use Rattle.dns_values.specs.Sink.{IsFlushed, with_octets}
+use Rattle.command_parts.specs.Ends.{IsSaid}
+use Rattle.dns_values.specs.Sink.{IsFlushed}
 use Rattle.dns_values.specs.Source.{Rose}
 use Rattle.dns_values.specs.declared.numbers.Status.{Status}
 use Rattle.zone_records.specs.Folding.{Zone, empty_zone}
+use Rattle.zone_records.specs.declared.record.ZoneRecord.{ZoneRecord}
+use Rattle.zone_text.specs.Zones.{HasFlaw, IsZoneIn}
+use Rattle.zone_text.specs.declared.zone.Flaw.{Flaw}
+use Rattle.zone_text.specs.declared.zone.Unread.TheVariants.{NoZone}
 use Rattle.zone_transfer.specs.Turning.{Scene}
 use Rattle.zone_fetch_run.specs.Fetching.{IsBrought, over}
-use Rattle.zone_fetch_run.specs.Lines.{zone_text}
-use Rattle.zone_fetch_run.specs.Places.{IsPlaced, Placed}
-use Rattle.zone_fetch_run.specs.Printed.{IsPrinted, StopsAt}
+use Rattle.zone_fetch_run.specs.Lines.{BeginsZone, WritesZone}
+use Rattle.zone_fetch_run.specs.Places.{Placed, PlacesZone}
 use Rattle.zone_fetch_run.specs.Sentences.{detour_sentence, refusal_sentence, stop_sentence, unwritten_sentence}
 use Rattle.zone_fetch_run.specs.Stops.{Tells, line_of, status_of}
 use Rattle.zone_fetch_run.specs.Words.{IsCommand}
 use Rattle.zone_fetch_run.specs.declared.command.Command.{Command}
 use Rattle.zone_fetch_run.specs.declared.leading.Detour.{Detour}
 use Rattle.zone_fetch_run.specs.declared.leading.Left.{Left}
-use Rattle.zone_fetch_run.specs.declared.printed.Flaw.{Flaw}
-use Rattle.zone_fetch_run.specs.declared.printed.Flaw.TheVariants.{Line}
-use Rattle.zone_fetch_run.specs.declared.run.World.{World}
 use Rattle.zone_fetch_run.specs.declared.stop.Stop.{Stop}
 use Rattle.zone_fetch_run.specs.declared.stop.Stop.TheVariants.{Unread, NotPrinted, NotBrought, NoMemory}
+use Rattle.zone_fetch_run.specs.declared.world.FetchWorld.{FetchWorld}
 use Rattle.zone_fetch_run.specs.declared.wrong.Refusal.{Refusal}
+
+-- what a file has at each path, where that is told
+abbrev pub Files : Type 0
+Files = Option (List ℕ → Option (List ℕ))
 
 -- ---- the zone before
 
--- A file has it, where the files are told.
-pub record IsFiled (apex : Labels) (path : List ℕ) (files : Option (List ℕ → Option (List ℕ))) (zone : Zone) : Type 0 where
+-- A file has a text of the zone with this apex, where the files are told.
+pub record IsFiled (apex : Labels) (path : List ℕ) (files : Files) (zone : Zone) : Type 0 where
   pub text : List ℕ
   pub at : IfSome files (λ file_at. file_at path ≡ Some text)
-  pub printed : IsPrinted text apex zone
+  pub is_zone : IsZoneIn text apex zone
 
-abbrev pub IsBaseAt : Option (String Global) → Labels → Option (List ℕ → Option (List ℕ)) → Zone → Type 0
+abbrev pub IsBaseAt : Option (String Global) → Labels → Files → Zone → Type 0
 IsBaseAt None apex files zone = zone ≡ empty_zone apex
 IsBaseAt (Some path) apex files zone = IsFiled apex (string_bytes path) files zone
 
 -- what a file has that the words name, or nothing
-abbrev pub IsBase : Command → Option (List ℕ → Option (List ℕ)) → Zone → Type 0
+abbrev pub IsBase : Command → Files → Zone → Type 0
 IsBase command files zone = IsBaseAt command.file command.apex files zone
 
--- Where a line is wrong, as many lines of the file before it as its number says are records.
-abbrev pub IsFlawIn : (path : List ℕ) → Option (List ℕ → Option (List ℕ)) → Flaw → Type 0
-IsFlawIn path files (Line line part) = (text : List ℕ) × IfSome files (λ file_at. file_at path ≡ Some text) × StopsAt text line
-IsFlawIn path files flaw = Unit {0}
+-- What a file has is no text of the zone with this apex, whatever zone, and this is why: which line is wrong first, and how.
+pub record IsFlawed (apex : Labels) (path : List ℕ) (files : Files) (flaw : Flaw) : Type 0 where
+  pub text : List ℕ
+  pub at : IfSome files (λ file_at. file_at path ≡ Some text)
+  pub flawed : HasFlaw text apex (NoZone flaw)
+  pub none : (zone : Zone) → ¬ (IsZoneIn text apex zone)
 
--- why the file at a path has none: it can't be read, it has no zone that was printed, or memory ran out
-abbrev pub IsOfFile : (path : List ℕ) → Option (List ℕ → Option (List ℕ)) → Stop → Type 0
-IsOfFile path files Unread = Unit {0}
-IsOfFile path files (NotPrinted flaw) = IsFlawIn path files flaw
-IsOfFile path files NoMemory = Unit {0}
-IsOfFile path files (NotBrought left) = ⊥
+-- why a file's octets are not there: it can't be read, or memory ran out
+abbrev pub IsOfReading : Stop → Type 0
+IsOfReading Unread = Unit {0}
+IsOfReading NoMemory = Unit {0}
+IsOfReading (NotPrinted flaw) = ⊥
+IsOfReading (NotBrought left) = ⊥
 
-abbrev pub IsUnbasedAt : Option (String Global) → Option (List ℕ → Option (List ℕ)) → Stop → Type 0
-IsUnbasedAt None files stop = ⊥
-IsUnbasedAt (Some path) files stop = IsOfFile (string_bytes path) files stop
+-- why the file at a path gives no zone: it can't be read, or has no text of that zone, or memory ran out
+abbrev pub IsOfFile : Labels → (path : List ℕ) → Files → Stop → Type 0
+IsOfFile apex path files Unread = Unit {0}
+IsOfFile apex path files (NotPrinted flaw) = IsFlawed apex path files flaw
+IsOfFile apex path files NoMemory = Unit {0}
+IsOfFile apex path files (NotBrought left) = ⊥
 
-abbrev pub IsUnbased : Command → Option (List ℕ → Option (List ℕ)) → Stop → Type 0
-IsUnbased command files stop = (stop ≡ NoMemory) ⊎ IsUnbasedAt command.file files stop
+abbrev pub IsUnbasedAt : Option (String Global) → Labels → Files → Stop → Type 0
+IsUnbasedAt None apex files stop = ⊥
+IsUnbasedAt (Some path) apex files stop = IsOfFile apex (string_bytes path) files stop
+
+abbrev pub IsUnbased : Command → Files → Stop → Type 0
+IsUnbased command files stop = (stop ≡ NoMemory) ⊎ IsUnbasedAt command.file command.apex files stop
 
 -- Where a file can't be read, the count of faults rose.
 abbrev pub RoseUnread : (faults faults_after : ℕ) → Stop → Type 0
@@ -73,10 +87,6 @@ RoseUnread faults faults_after (NotBrought left) = Unit {0}
 
 abbrev pub Texts : Type 0
 Texts = List (String Global)
-
--- what a file has at each path, where that is told
-abbrev pub Files : Type 0
-Files = Option (List ℕ → Option (List ℕ))
 
 -- There is one, by what the files and the random words tell, and by what the edges and the clock do; and why it was asked for whole, if its changes were asked for before.
 pub record HasZone (command : Command) (files : Files) (random : ℕ → ℕ) (after : Zone) (detour : Option Detour) (old new later later_new : Scene) : Type 0 where
@@ -92,13 +102,13 @@ pub data HasStopped (command : Command) (files : Files) (random : ℕ → ℕ) (
 
 -- ---- how the program ends
 
--- what it comes to: memory ran out before anything was asked; or the words are refused; or there is no zone; or one whose text is written whole, or not whole; or memory ran out then
+-- what it comes to: memory ran out before anything was asked; or the words are refused; or there is no zone; or one that is written whole, or not whole; or memory ran out then
 pub data End : Type 0 where
   unread : End
   refused : Refusal → End
   stopped : Command → Option Detour → Stop → End
-  written : Command → Option Detour → (text : List ℕ) → End
-  unwritten : Command → Option Detour → (text : List ℕ) → End
+  written : Command → Option Detour → List ZoneRecord → End
+  unwritten : Command → Option Detour → List ZoneRecord → End
   ran_out : Command → End
 
 -- how it ends, by its status, where this is what is told at each end
@@ -108,9 +118,9 @@ pub data FetchEnds (words : Texts) (files : Files) (random : ℕ → ℕ) (Tells
   is_stopped : (command : Command) (detour : Option Detour) (stop : Stop) → IsCommand words (Ok command) → HasStopped command files random detour stop old new later later_new
       → status ≡ status_of stop → Tells (stopped command detour stop) → FetchEnds words files random Tells status old new later later_new
   is_written : (command : Command) (detour : Option Detour) (zone : Zone) → IsCommand words (Ok command) → HasZone command files random zone detour old new later later_new
-      → status ≡ 0 → Tells (written command detour (zone_text command.text zone.records)) → FetchEnds words files random Tells status old new later later_new
+      → status ≡ 0 → Tells (written command detour zone.records) → FetchEnds words files random Tells status old new later later_new
   is_unwritten : (command : Command) (detour : Option Detour) (zone : Zone) → IsCommand words (Ok command) → HasZone command files random zone detour old new later later_new
-      → status ≡ 4 → Tells (unwritten command detour (zone_text command.text zone.records)) → FetchEnds words files random Tells status old new later later_new
+      → status ≡ 4 → Tells (unwritten command detour zone.records) → FetchEnds words files random Tells status old new later later_new
   is_out : (command : Command) → IsCommand words (Ok command) → status ≡ 6 → Tells (ran_out command) → FetchEnds words files random Tells status old new later later_new
 
 -- What a sink holds then, where lines are written to it that tell why there is no zone.
@@ -118,8 +128,8 @@ abbrev pub TellsByLine : {K : Type 0} → (K → Option (List ℕ)) → (K → �
 TellsByLine held faults before after unread = held after ≡ held before
 TellsByLine held faults before after (refused refusal) = held after ≡ held before
 TellsByLine held faults before after (stopped command detour stop) = Tells (line_of stop) (held before) (held after) (faults before) (faults after)
-TellsByLine held faults before after (written command detour text) = held after ≡ with_octets text (held before)
-TellsByLine held faults before after (unwritten command detour text) = IsBegun text (held before) (held after) × Rose (faults before) (faults after)
+TellsByLine held faults before after (written command detour records) = WritesZone command.text records (held before) (held after)
+TellsByLine held faults before after (unwritten command detour records) = BeginsZone command.text records (held before) (held after) × Rose (faults before) (faults after)
 TellsByLine held faults before after (ran_out command) = Unit {0}
 
 abbrev pub LineEnds : {K : Type 0} → (K → Option (List ℕ)) → (K → ℕ) → Texts → Files → (random : ℕ → ℕ) → Status → (before after : K) → (old new later later_new : Scene) → Type 0
@@ -127,17 +137,17 @@ LineEnds held faults words files random status before after old new later later_
 
 -- ---- what is told where a zone may be put in the place of a file, and sentences have a sink of their own
 
--- The text was written to a sink and handed on, and no file was replaced; or it was put in the place of the file, and the sink is as it was.
-abbrev pub IsPut : Option (String Global) → (text : List ℕ) → (before after : Option (List ℕ) × Placed) → (flushed : Option (List ℕ)) → Type 0
-IsPut None text before after flushed = (after.0 ≡ with_octets text before.0) × IsFlushed after.0 flushed × (after.1 ≡ before.1)
-IsPut (Some path) text before after flushed = (after.0 ≡ before.0) × IsPlaced (string_bytes path) text before.1 after.1
+-- The text of records was written to a sink and handed on, and no file was replaced; or it was put in the place of the file, and the sink is as it was.
+abbrev pub PutsZone : Option (String Global) → (is_loaded : Bool) → List ZoneRecord → (before after : Option (List ℕ) × Placed) → (flushed : Option (List ℕ)) → Type 0
+PutsZone None is_loaded records before after flushed = WritesZone is_loaded records before.0 after.0 × IsFlushed after.0 flushed × (after.1 ≡ before.1)
+PutsZone (Some path) is_loaded records before after flushed = (after.0 ≡ before.0) × PlacesZone is_loaded records (string_bytes path) before.1 after.1
 
--- The first octets of the text were written to a sink, or all; or none, where it was to be put in the place of a file.
-abbrev pub IsPutInPart : Option (String Global) → (text : List ℕ) → (before after : Option (List ℕ)) → Type 0
-IsPutInPart None text before after = IsBegun text before after
-IsPutInPart (Some path) text before after = after ≡ before
+-- Its first octets were written to a sink, or all; or none, where it was to be put in the place of a file.
+abbrev pub PutsInPart : Option (String Global) → (is_loaded : Bool) → List ZoneRecord → (before after : Option (List ℕ)) → Type 0
+PutsInPart None is_loaded records before after = BeginsZone is_loaded records before after
+PutsInPart (Some path) is_loaded records before after = after ≡ before
 
--- Nothing was written to a sink, where the text was to be put in the place of a file.
+-- Nothing was written to a sink, where the zone was to be put in the place of a file.
 abbrev pub IsSpared : Option (String Global) → (before after : Option (List ℕ)) → Type 0
 IsSpared None before after = Unit {0}
 IsSpared (Some path) before after = after ≡ before
@@ -190,15 +200,15 @@ TellsBySentence words before after (refused refusal) =
 TellsBySentence words before after (stopped command detour stop) =
     (after.held ≡ before.held) × (after.placed ≡ before.placed)
     × SaysBoth (detour_sentence command detour) (stop_sentence command stop) before.said after.said before.said_faults after.said_faults
-TellsBySentence words before after (written command detour text) =
-    IsPut command.output text (before.held, before.placed) (after.held, after.placed) after.flushed
+TellsBySentence words before after (written command detour records) =
+    PutsZone command.output command.text records (before.held, before.placed) (after.held, after.placed) after.flushed
     × Tells (detour_sentence command detour) before.said after.said before.said_faults after.said_faults
-TellsBySentence words before after (unwritten command detour text) =
-    Failed command.output (before.faults, before.file_faults) (after.faults, after.file_faults) × IsPutInPart command.output text before.held after.held × (after.placed ≡ before.placed)
+TellsBySentence words before after (unwritten command detour records) =
+    Failed command.output (before.faults, before.file_faults) (after.faults, after.file_faults) × PutsInPart command.output command.text records before.held after.held × (after.placed ≡ before.placed)
     × SaysBoth (detour_sentence command detour) (unwritten_sentence command) before.said after.said before.said_faults after.said_faults
 TellsBySentence words before after (ran_out command) = IsSpared command.output before.held after.held × (after.placed ≡ before.placed)
 
 -- how it ends in its world, by what the parts of that tell
-abbrev pub FetchEndsIn : {O E C W P F : Type 0} → (E → Option (List Deed)) → (E → ℕ) → (C → Option (List ℕ)) → (O → Files) → (W → ℕ → ℕ) → Texts → (End → Type 0) → (status : ℕ) → (old new : World O E C W P F) → Type 0
+abbrev pub FetchEndsIn : {O E C W P F : Type 0} → (E → Option (List Deed)) → (E → ℕ) → (C → Option (List ℕ)) → (O → Files) → (W → ℕ → ℕ) → Texts → (End → Type 0) → (status : ℕ) → (old new : FetchWorld O E C W P F) → Type 0
 FetchEndsIn deeds polls given files stream words Tells status old new =
-    over deeds polls given (old.edge, old.later, old.clock) (new.edge, new.later, new.clock) (FetchEnds words (files old.opener) (stream old.random) Tells status)
+    over deeds polls given (old.edge, old.later, old.means.clock) (new.edge, new.later, new.means.clock) (FetchEnds words (files old.opener) (stream old.means.random) Tells status)

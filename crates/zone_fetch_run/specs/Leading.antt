@@ -1,6 +1,5 @@
 -- Whether what a server sent leads on from a zone that has a serial.
 use Rattle.std.specs.Prelude.{ℕ, ◌-◌, ◌==◌, ◌&&◌, ◌||◌, Bool, nat_lt, if◌then◌else◌, Option, None, Some, Result, Ok, Err}
-use Rattle.dns_values.specs.declared.numbers.Rcode.{Rcode}
 use Rattle.dns_values.specs.declared.numbers.Serial.{Serial}
 use Rattle.zone_records.specs.declared.interpreter.XfrFault.{XfrFault}
 use Rattle.zone_records.specs.declared.interpreter.XfrFault.TheVariants as transfers

@@ -1,6 +1,5 @@
 pub mod Words
 pub mod Lines
-pub mod Printed
 pub mod Leading
 pub mod Fetching
 pub mod Stops

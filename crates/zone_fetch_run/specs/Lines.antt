@@ -1,40 +1,31 @@
 -- A zone as lines of text.
-use Rattle.std.specs.Prelude.{ℕ, ◌/◌, ◌%◌, Bool, true, false, List, [], ◌∷◌, ◌++◌, codes, decimal, Option, None, Some}
-use Rattle.std.specs.Char.{digit_char}
-use Rattle.std.specs.List.{flat_map}
-use Rattle.dns_names.specs.Name.{Found, Labels, name_at}
-use Rattle.dns_names.specs.Text.{name_text}
-use Rattle.dns_presentation.specs.Generic.{generic_text}
-use Rattle.dns_presentation.specs.Names.{absolute_text}
-use Rattle.dns_values.specs.NumberNames.{class_text, type_text}
+use Rattle.std.specs.Prelude.{◌≡◌, ℕ, Bool, true, false, List, ◌++◌, Option}
+use Rattle.command_parts.specs.Ends.{IsBegun}
+use Rattle.dns_values.specs.Sink.{with_octets}
 use Rattle.zone_records.specs.declared.record.ZoneRecord.{ZoneRecord}
+use Rattle.zone_text.specs.Lines.{IsText}
+use Rattle.zone_text.specs.Numbers.{numbers_text}
 
--- two lower-case hexadecimal digits
-abbrev pub octet_digits : ℕ → List ℕ
-octet_digits octet = digit_char (octet / 16) ∷ digit_char (octet % 16) ∷ []
+-- A text has the lines of records, in numbers and hexadecimal digits alone or in the form that name servers load.
+abbrev pub IsZoneText : (is_loaded : Bool) → List ZoneRecord → List ℕ → Type 0
+IsZoneText false records text = text ≡ numbers_text records
+IsZoneText true records text = IsText records text
 
--- two digits for each octet, and a hyphen for no octet
-abbrev pub hex_word : List ℕ → List ℕ
-hex_word [] = codes "-"
-hex_word (octet ∷ octets) = flat_map octet_digits (octet ∷ octets)
+-- It has the lines of the first of them, or of all.
+pub record IsFrontText (is_loaded : Bool) (records : List ZoneRecord) (text : List ℕ) : Type 0 where
+  pub first : List ZoneRecord
+  pub behind : List ZoneRecord
+  pub records_are : records ≡ first ++ behind
+  pub is_text : IsZoneText is_loaded first text
 
--- an owner as text, where its octets are a name
-abbrev pub named : (Labels → List ℕ) → Option Found → List ℕ
-named text None = []
-named text (Some found) = text found.labels
+-- The text of records is written behind what was.
+pub record WritesZone (is_loaded : Bool) (records : List ZoneRecord) (before after : Option (List ℕ)) : Type 0 where
+  pub text : List ℕ
+  pub is_text : IsZoneText is_loaded records text
+  pub written : after ≡ with_octets text before
 
-abbrev pub owner_text : (Labels → List ℕ) → ZoneRecord → List ℕ
-owner_text text item = named text (name_at item.owner 0)
-
--- the owner, the seconds, the class and the type, with a blank behind each
-abbrev pub head_of : ZoneRecord → List ℕ
-head_of item = owner_text name_text item ++ 32 ∷ decimal item.ttl.0 ++ 32 ∷ decimal item.class.0 ++ 32 ∷ decimal item.rtype.0 ++ 32 ∷ []
-
--- A record's line, in numbers and hexadecimal digits alone; or in the form that name servers load, which names the class and the type.
-abbrev pub record_line : Bool → ZoneRecord → List ℕ
-record_line false item = head_of item ++ hex_word item.rdata ++ 10 ∷ []
-record_line true item =
-    owner_text absolute_text item ++ 32 ∷ decimal item.ttl.0 ++ 32 ∷ class_text item.class.0 ++ 32 ∷ type_text item.rtype.0 ++ 32 ∷ generic_text item.rdata ++ 10 ∷ []
-
-abbrev pub zone_text : Bool → List ZoneRecord → List ℕ
-zone_text is_loaded records = flat_map (record_line is_loaded) records
+-- Its first octets are, or all.
+pub record BeginsZone (is_loaded : Bool) (records : List ZoneRecord) (before after : Option (List ℕ)) : Type 0 where
+  pub text : List ℕ
+  pub is_front : IsFrontText is_loaded records text
+  pub begun : IsBegun text before after

@@ -1,5 +1,7 @@
 -- Files that are put in the place of others.
-use Rattle.std.specs.Prelude.{◌≡◌, ℕ, List, [], ◌∷◌, ◌++◌, Option, None, Some}
+use Rattle.std.specs.Prelude.{◌≡◌, ℕ, Bool, List, [], ◌∷◌, ◌++◌, Option, None, Some}
+use Rattle.zone_records.specs.declared.record.ZoneRecord.{ZoneRecord}
+use Rattle.zone_fetch_run.specs.Lines.{IsZoneText}
 
 -- which octets were put in the place of the file at which path, in order, where that is told
 abbrev pub Placed : Type 0
@@ -15,3 +17,9 @@ abbrev pub IsPlaced : (path octets : List ℕ) → (before after : Placed) → T
 IsPlaced path octets (Some before) (Some after) = after ≡ before ++ (path, octets) ∷ []
 IsPlaced path octets (Some before) None = Unit {0}
 IsPlaced path octets None after = Unit {0}
+
+-- The text of records was put there.
+pub record PlacesZone (is_loaded : Bool) (records : List ZoneRecord) (path : List ℕ) (before after : Placed) : Type 0 where
+  pub text : List ℕ
+  pub is_text : IsZoneText is_loaded records text
+  pub placed : IsPlaced path text before after

@@ -15,15 +15,15 @@ use Rattle.zone_records.specs.declared.interpreter.XfrFault.{XfrFault}
 use Rattle.zone_records.specs.declared.interpreter.XfrFault.TheVariants as transfers
 use Rattle.zone_records.specs.declared.zone.ApplyFault.{ApplyFault}
 use Rattle.zone_records.specs.declared.zone.ApplyFault.TheVariants as applying
+use Rattle.zone_text.specs.Telling.{flaw_text}
+use Rattle.zone_text.specs.declared.zone.Flaw.{Flaw}
 use Rattle.zone_transfer.specs.declared.fault.FetchFault.{FetchFault}
 use Rattle.zone_transfer.specs.declared.fault.FetchFault.TheVariants as faults
-use Rattle.zone_fetch_run.specs.Stops.{flaw_text}
 use Rattle.zone_fetch_run.specs.declared.command.Command.{Command}
 use Rattle.zone_fetch_run.specs.declared.leading.Detour.{Detour}
 use Rattle.zone_fetch_run.specs.declared.leading.Detour.TheVariants as detours
 use Rattle.zone_fetch_run.specs.declared.leading.Left.{Left}
 use Rattle.zone_fetch_run.specs.declared.leading.Left.TheVariants as lefts
-use Rattle.zone_fetch_run.specs.declared.printed.Flaw.{Flaw}
 use Rattle.zone_fetch_run.specs.declared.stop.Stop.{Stop}
 use Rattle.zone_fetch_run.specs.declared.stop.Stop.TheVariants as stops
 use Rattle.zone_fetch_run.specs.declared.wrong.Refusal.{Refusal}

@@ -1,16 +1,13 @@
 -- How the program ends where no zone is written.
-use Rattle.std.specs.Prelude.{◌≡◌, ℕ, List, [], ◌∷◌, ◌++◌, codes, decimal, Option}
+use Rattle.std.specs.Prelude.{◌≡◌, ℕ, List, [], ◌∷◌, ◌++◌, codes, Option}
 use Rattle.client_request.specs.declared.error.Error.{Error}
 use Rattle.client_request.specs.declared.error.Error.TheVariants as errors
 use Rattle.command_parts.specs.Ends.{IsSaid}
+use Rattle.zone_text.specs.Telling.{flaw_text}
 use Rattle.zone_transfer.specs.declared.fault.FetchFault.{FetchFault}
 use Rattle.zone_transfer.specs.declared.fault.FetchFault.TheVariants as faults
 use Rattle.zone_fetch_run.specs.declared.leading.Left.{Left}
 use Rattle.zone_fetch_run.specs.declared.leading.Left.TheVariants as lefts
-use Rattle.zone_fetch_run.specs.declared.printed.Flaw.{Flaw}
-use Rattle.zone_fetch_run.specs.declared.printed.Flaw.TheVariants as flaws
-use Rattle.zone_fetch_run.specs.declared.printed.Part.{Part}
-use Rattle.zone_fetch_run.specs.declared.printed.Part.TheVariants as parts
 use Rattle.zone_fetch_run.specs.declared.stop.Stop.{Stop}
 use Rattle.zone_fetch_run.specs.declared.stop.Stop.TheVariants as stops
 
@@ -50,22 +47,6 @@ status_of stops.Unread = 3
 status_of (stops.NotPrinted flaw) = 1
 status_of (stops.NotBrought left) = left_status left
 status_of stops.NoMemory = 6
-
--- what is told of a file that has no printed zone
-abbrev pub part_text : Part → List ℕ
-part_text parts.End = codes "no line feed behind it"
-part_text parts.Words = codes "fewer than five words"
-part_text parts.Owner = codes "the owner is no name"
-part_text parts.Ttl = codes "the TTL is no number of 32 bits"
-part_text parts.Class = codes "the class is no number of 16 bits"
-part_text parts.«Type» = codes "the type is no number of 16 bits"
-part_text parts.Data = codes "the data is not in pairs of lower-case hexadecimal digits"
-
-abbrev pub flaw_text : Flaw → List ℕ
-flaw_text flaws.Text = codes "the file is no text"
-flaw_text flaws.Soa = codes "no SOA with a serial"
-flaw_text (flaws.Form line) = codes "line " ++ decimal line ++ codes ": in another order or spelling"
-flaw_text (flaws.Line line part) = codes "line " ++ decimal line ++ codes ": " ++ part_text part
 
 abbrev pub line_of : Stop → List ℕ
 line_of (stops.NotPrinted flaw) = codes "no printed zone: " ++ flaw_text flaw ++ 10 ∷ []

@@ -1,13 +1,13 @@
 -- The words of the command line: `[--text] [--port P] [--most OCTETS] [--from FILE] [--output FILE] ZONE ADDRESS`.
-use Rattle.std.specs.Prelude.{◌≡◌, ℕ, ◌+◌, ◌==◌, ◌||◌, ◌&&◌, not, Bool, true, false, if◌then◌else◌, List, [], ◌∷◌, codes, nat_lt, Option, None, Some, option_and_then, option_map, String, Result, Ok, Err}
+use Rattle.std.specs.Prelude.{◌≡◌, ℕ, ◌+◌, true, false, List, [], ◌∷◌, codes, Option, None, Some, option_map, String, Result, Ok, Err}
 use Rattle.std.specs.Result.{result_ok}
 use Rattle.std.specs.String.{string_bytes}
 use Rattle.std.specs.declared.alloc.Global.{Global}
+use Rattle.command_parts.specs.Numbers.{number_in}
 use Rattle.dns_names.specs.Name.{Labels}
 use Rattle.dns_names.specs.Text.{name_of_text}
 use Rattle.dns_values.specs.Address.{IsAddressText}
 use Rattle.dns_values.specs.declared.address.IpAddr.{IpAddr}
-use Rattle.resolv_conf.specs.Number.{number_of}
 use Rattle.program_words.specs.Rows.{Row, said_in}
 use Rattle.program_words.specs.declared.row.Letters.TheVariants.{Whole}
 use Rattle.zone_fetch_run.specs.declared.command.Meaning.{Meaning}
@@ -28,19 +28,6 @@ use Rattle.zone_fetch_run.specs.declared.wrong.Wrong.TheVariants as wrongs
 -- before the first word: port 53, and a billion octets of memory
 abbrev pub nothing_said : Said
 nothing_said = record { port = 53; most = 1000000000; file = None; output = None; text = false; zone = None; server = None; next = next.Any }
-
--- ---- numbers without a sign or a leading zero
-
-abbrev pub is_plain : List ℕ → Bool
-is_plain [] = true
-is_plain (c ∷ []) = true
-is_plain (c ∷ d ∷ more) = not (c == 43) && not (c == 48)
-
-abbrev pub in_range : (least greatest : ℕ) → ℕ → Option ℕ
-in_range least greatest n = if nat_lt n least || nat_lt greatest n then None else Some n
-
-abbrev pub number_in : (least greatest : ℕ) → List ℕ → Option ℕ
-number_in least greatest word = if is_plain word then option_and_then (in_range least greatest) (number_of word) else None
 
 -- ---- what one word makes of what is said: more is said, or the word is wrong
 

@@ -26,7 +26,7 @@ pub struct Command {
     pub file: Option<String>,
     /// The file in whose place the zone is put, if it is not written to the sink.
     pub output: Option<String>,
-    /// Whether the zone is written in the form that name servers load (RFC 3597 5).
+    /// Whether the zone is written in the form that name servers load.
     pub text: bool,
 }
 

@@ -7,6 +7,7 @@ ghost use Rattle.zone_fetch_run.specs.Fetching.{IsAnswered, IsBrought, IsFetched
 
 use crate::command::Command;
 use crate::leading::{Detour, Left, course_of_changes, course_of_fault, judged_by};
+use crate::world::Means;
 use client_core::{Clock, Edge};
 use client_request::Words;
 use dns_base::Serial;
@@ -22,12 +23,10 @@ fn fetch_by<E: Edge, C: Clock, W: Words, P: Progress>(
     kind: XfrKind,
     zone: &mut Zone,
     edge: &mut E,
-    clock: &mut C,
-    random: &mut W,
-    progress: &mut P,
+    means: &mut Means<C, W, P>,
 ) -> Result<u64, FetchFault>
-    ensures fetched { IfOk result (λ misfits. between E.deeds E.polls C.given (edge.old, clock.old) (edge.new, clock.new) (IsFetchedBy command.now kind (W.stream random.old) zone.old zone.new misfits)) }
-    ensures missed { IfErr result (λ fault. between E.deeds E.polls C.given (edge.old, clock.old) (edge.new, clock.new) (λ old new. IsMissed command.now kind (W.stream random.old) zone.old old new fault)) }
+    ensures fetched { IfOk result (λ misfits. between E.deeds E.polls C.given (edge.old, means.old.clock) (edge.new, means.new.clock) (IsFetchedBy command.now kind (W.stream means.old.random) zone.old zone.new misfits)) }
+    ensures missed { IfErr result (λ fault. between E.deeds E.polls C.given (edge.old, means.old.clock) (edge.new, means.new.clock) (λ old new. IsMissed command.now kind (W.stream means.old.random) zone.old old new fault)) }
     ensures serial { OnOk result (IsSome zone.new.serial) }
 {
     edge.learn_server(&ServerConf::new(command.server, Transport::Tcp))?;
@@ -37,9 +36,9 @@ fn fetch_by<E: Edge, C: Clock, W: Words, P: Progress>(
         kind,
         command.most,
         edge,
-        clock,
-        random,
-        progress,
+        &mut means.clock,
+        &mut means.random,
+        &mut means.progress,
     )
 }
 
@@ -61,22 +60,11 @@ fn fetch_changes<E: Edge, C: Clock, W: Words, P: Progress>(
     have: Serial,
     zone: &mut Zone,
     edge: &mut E,
-    clock: &mut C,
-    random: &mut W,
-    progress: &mut P,
+    means: &mut Means<C, W, P>,
 ) -> Result<Option<Detour>, Left>
-    ensures { between E.deeds E.polls C.given (edge.old, clock.old) (edge.new, clock.new) (IsAnswered command.now (W.stream random.old) have zone.old zone.new result) }
+    ensures { between E.deeds E.polls C.given (edge.old, means.old.clock) (edge.new, means.new.clock) (IsAnswered command.now (W.stream means.old.random) have zone.old zone.new result) }
 {
-    match fetch_by(
-        alloc,
-        command,
-        XfrKind::Ixfr,
-        zone,
-        edge,
-        clock,
-        random,
-        progress,
-    ) {
+    match fetch_by(alloc, command, XfrKind::Ixfr, zone, edge, means) {
         Ok(misfits) => course_of_changes(have, serial_of(zone), misfits),
         Err(fault) => course_of_fault(have, fault),
     }
@@ -89,22 +77,11 @@ fn fetch_whole<E: Edge, C: Clock, W: Words, P: Progress>(
     have: Option<Serial>,
     zone: &mut Zone,
     edge: &mut E,
-    clock: &mut C,
-    random: &mut W,
-    progress: &mut P,
+    means: &mut Means<C, W, P>,
 ) -> Result<(), Left>
-    ensures { between E.deeds E.polls C.given (edge.old, clock.old) (edge.new, clock.new) (IsWhole command.now (W.stream random.old) have zone.old zone.new result) }
+    ensures { between E.deeds E.polls C.given (edge.old, means.old.clock) (edge.new, means.new.clock) (IsWhole command.now (W.stream means.old.random) have zone.old zone.new result) }
 {
-    match fetch_by(
-        alloc,
-        command,
-        XfrKind::Axfr,
-        zone,
-        edge,
-        clock,
-        random,
-        progress,
-    ) {
+    match fetch_by(alloc, command, XfrKind::Axfr, zone, edge, means) {
         Ok(_) => judged_by(have, serial_of(zone)),
         Err(fault) => Err(Left::NotFetched(fault)),
     }
@@ -117,26 +94,15 @@ fn fetch_anew<E: Edge, C: Clock, W: Words, P: Progress>(
     have: Serial,
     zone: &mut Zone,
     edge: &mut E,
-    clock: &mut C,
-    random: &mut W,
-    progress: &mut P,
+    means: &mut Means<C, W, P>,
 ) -> Result<(), Left>
-    ensures { between E.deeds E.polls C.given (edge.old, clock.old) (edge.new, clock.new) (IsWhole command.now (W.stream random.old) (Some have) (empty_zone command.now.apex) zone.new result) }
+    ensures { between E.deeds E.polls C.given (edge.old, means.old.clock) (edge.new, means.new.clock) (IsWhole command.now (W.stream means.old.random) (Some have) (empty_zone command.now.apex) zone.new result) }
 {
     let Ok(apex) = command.apex.try_clone(alloc) else {
         return Err(Left::NotFetched(FetchFault::NoMemory));
     };
     *zone = Zone::empty(alloc, apex);
-    fetch_whole(
-        alloc,
-        command,
-        Some(have),
-        zone,
-        edge,
-        clock,
-        random,
-        progress,
-    )
+    fetch_whole(alloc, command, Some(have), zone, edge, means)
 }
 
 /// Brings a zone with this serial to what the server has: its changes are asked for, and where these do not lead on the whole zone over
@@ -148,17 +114,15 @@ fn bring_on<E: Edge, C: Clock, W: Words, P: Progress>(
     zone: &mut Zone,
     edge: &mut E,
     later: &mut E,
-    clock: &mut C,
-    random: &mut W,
-    progress: &mut P,
+    means: &mut Means<C, W, P>,
 ) -> (Option<Detour>, Result<(), Left>)
     requires { zone.old.serial ≡ Some have.0 }
-    ensures { over E.deeds E.polls C.given (edge.old, later.old, clock.old) (edge.new, later.new, clock.new) (IsBrought command.now (W.stream random.old) zone.old zone.new result.0 result.1) }
+    ensures { over E.deeds E.polls C.given (edge.old, later.old, means.old.clock) (edge.new, later.new, means.new.clock) (IsBrought command.now (W.stream means.old.random) zone.old zone.new result.0 result.1) }
 {
-    match fetch_changes(alloc, command, have, zone, edge, clock, random, progress) {
+    match fetch_changes(alloc, command, have, zone, edge, means) {
         Ok(None) => (None, Ok(())),
         Ok(Some(why)) => {
-            let end = fetch_anew(alloc, command, have, zone, later, clock, random, progress);
+            let end = fetch_anew(alloc, command, have, zone, later, means);
             (Some(why), end)
         }
         Err(left) => (None, Err(left)),
@@ -173,18 +137,14 @@ pub(crate) fn bring<E: Edge, C: Clock, W: Words, P: Progress>(
     zone: &mut Zone,
     edge: &mut E,
     later: &mut E,
-    clock: &mut C,
-    random: &mut W,
-    progress: &mut P,
+    means: &mut Means<C, W, P>,
 ) -> (Option<Detour>, Result<(), Left>)
-    ensures { over E.deeds E.polls C.given (edge.old, later.old, clock.old) (edge.new, later.new, clock.new) (IsBrought command.now (W.stream random.old) zone.old zone.new result.0 result.1) }
+    ensures { over E.deeds E.polls C.given (edge.old, later.old, means.old.clock) (edge.new, later.new, means.new.clock) (IsBrought command.now (W.stream means.old.random) zone.old zone.new result.0 result.1) }
 {
     match zone.serial() {
-        Some(have) => bring_on(
-            alloc, command, have, zone, edge, later, clock, random, progress,
-        ),
+        Some(have) => bring_on(alloc, command, have, zone, edge, later, means),
         None => {
-            let end = fetch_whole(alloc, command, None, zone, edge, clock, random, progress);
+            let end = fetch_whole(alloc, command, None, zone, edge, means);
             (None, end)
         }
     }

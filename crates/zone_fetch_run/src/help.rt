@@ -23,11 +23,11 @@ Asks a name server for a zone by stream (AXFR), and prints it, a record a line, 
 
   ZONE            the zone's name; the final dot may be left out
   ADDRESS         the server, an address alone, IPv4 or IPv6
-  --text          print in the form that name servers load, OWNER TTL CLASS TYPE \\# LENGTH HEX;
+  --text          print in the form that name servers load, OWNER TTL CLASS TYPE DATA ; HEX;
                   without it a line is OWNER TTL CLASS TYPE HEX, the class and the type as numbers
   --port P        ask at this port, from 1 to 65535, in place of 53
   --most OCTETS   refuse a zone whose records are reckoned to take more memory, 1000000000 octets without it
-  --from FILE     FILE has the zone as it was printed before without --text: ask for its changes alone (IXFR), and
+  --from FILE     FILE has the zone as it was printed before, in either form: ask for its changes alone (IXFR), and
                   for the whole zone where they do not lead on, which a sentence on standard error says
   --output FILE   put the zone in the place of FILE once it is whole, and print nothing; else FILE is as it was
 
@@ -35,7 +35,7 @@ Options stand before the zone, and the last of each counts.
 
 Exit status:
   0  the zone was printed whole
-  1  FILE has no zone that was printed without --text
+  1  FILE has not the zone: the sentence says which line is wrong first, and how
   2  the words are no command
   3  FILE could not be read
   4  standard output failed, or FILE of --output could not be written

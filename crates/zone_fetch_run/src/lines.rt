@@ -1,20 +1,20 @@
 //! A zone as lines of text.
 
-ghost use Rattle.std.specs.Prelude.{◌≡◌, ◌++◌, ◌∷◌, ◌<◌, true, OnOk, IfOk, IfErr, decimal};
+ghost use Rattle.std.specs.Prelude.{◌≡◌, ◌++◌, ◌∷◌, ◌<◌, OnOk, IfOk, IfErr, decimal};
 ghost use Rattle.std.specs.Char.{digit_char};
 ghost use Rattle.std.specs.List.{flat_map};
-ghost use Rattle.std.specs.String.{string_bytes};
 ghost use Rattle.command_parts.specs.Ends.{IsBegun};
 ghost use Rattle.dns_names.specs.Text.{label_text, name_text, octet_text};
 ghost use Rattle.dns_values.specs.Source.{Rose};
 ghost use Rattle.dns_values.specs.Sink.{IsFlushed, with_octets};
 ghost use Rattle.dns_values.specs.declared.sink.SinkFault.{SinkFault};
-ghost use Rattle.zone_fetch_run.specs.Lines.{head_of, hex_word, octet_digits, owner_text, record_line, zone_text};
+ghost use Rattle.zone_fetch_run.specs.Lines.{BeginsZone, WritesZone};
+ghost use Rattle.zone_text.specs.Numbers.{head_of, hex_word, numbers_text, octet_digits, record_line};
 
 use dns_base::{NoMemory, ParsedName, Sink, SinkFault, write_all};
-use dns_presentation::{Absolute, Generic};
 use std::alloc::Global;
 use zone_records::ZoneRecord;
+use zone_text::write_text;
 
 /// So many records are written at once.
 const WRITTEN: usize = 1024;
@@ -131,71 +131,41 @@ fn push_head(text: &mut Vec<u8>, item: &ZoneRecord) -> Result<(), NoMemory>
     Ok(())
 }
 
-/// The line that name servers load.
-fn loaded_line(alloc: Global, item: &ZoneRecord) -> Result<String, NoMemory>
-    ensures { IfOk result (λ s. string_bytes s ≡ record_line true item.now) }
-{
-    let (ttl, class, rtype) = (item.ttl.0, item.class, item.rtype);
-    let data = Generic(item.rdata.as_slice());
-    match ParsedName::parse(item.owner.as_slice(), 0) {
-        Some((owner, _)) => {
-            let owner = Absolute(&owner);
-            Ok(format!(in alloc; "{owner} {ttl} {class} {rtype} {data}\n")?)
-        }
-        None => Ok(format!(in alloc; " {ttl} {class} {rtype} {data}\n")?),
-    }
-}
-
 /// Adds the line of a record.
-fn push_line(
-    alloc: Global,
-    text: &mut Vec<u8>,
-    item: &ZoneRecord,
-    is_loaded: bool,
-) -> Result<(), NoMemory>
-    ensures { OnOk result (text.new.items ≡ text.old.items ++ record_line is_loaded item.now) }
+fn push_line(text: &mut Vec<u8>, item: &ZoneRecord) -> Result<(), NoMemory>
+    ensures { OnOk result (text.new.items ≡ text.old.items ++ record_line item.now) }
 {
-    if is_loaded {
-        let line = loaded_line(alloc, item)?;
-        text.extend_from_slice(line.as_bytes())?;
-        return Ok(());
-    }
     push_head(text, item)?;
     push_hex(text, item.rdata.as_slice())?;
     text.push(b'\n')?;
     Ok(())
 }
 
-/// The lines of records: in the form that name servers load (RFC 3597 5), or in numbers and hexadecimal digits alone.
-pub(crate) fn zone_text(
-    alloc: Global,
-    records: &[ZoneRecord],
-    is_loaded: bool,
-) -> Result<Vec<u8>, NoMemory>
-    ensures { IfOk result (λ v. v.items ≡ zone_text is_loaded records.now) }
+/// The lines of records, in numbers and hexadecimal digits alone.
+fn numbers_text(alloc: Global, records: &[ZoneRecord]) -> Result<Vec<u8>, NoMemory>
+    ensures { IfOk result (λ v. v.items ≡ numbers_text records.now) }
 {
     let mut text = Vec::new(alloc);
     for item in records {
-        push_line(alloc, &mut text, item, is_loaded)?;
+        push_line(&mut text, item)?;
     }
     Ok(text)
 }
 
-/// Writes the lines of records, so many at once, and hands them on.
+/// Writes the lines of records in numbers and hexadecimal digits alone, so many at once, and hands them on.
 #[tactic(auto, using(crate::proofs::Writing::none_yet, crate::proofs::Writing::piece_more, crate::proofs::Writing::all_written, crate::proofs::Writing::rose_later))]
-pub(crate) fn write_zone<K: Sink>(
+fn write_numbers<K: Sink>(
     alloc: Global,
     sink: &mut K,
     records: &[ZoneRecord],
-    is_loaded: bool,
 ) -> Result<(), SinkFault>
-    ensures whole { OnOk result (K.held sink.new ≡ with_octets (zone_text is_loaded records.now) (K.held sink.old)) }
-    ensures begun { IsBegun (zone_text is_loaded records.now) (K.held sink.old) (K.held sink.new) }
+    ensures whole { OnOk result (K.held sink.new ≡ with_octets (numbers_text records.now) (K.held sink.old)) }
+    ensures begun { IsBegun (numbers_text records.now) (K.held sink.old) (K.held sink.new) }
     ensures flushed { OnOk result (IsFlushed (K.held sink.new) (K.flushed sink.new)) }
     ensures failed { IfErr result (λ e. e ≡ SinkFault.Failed → Rose (K.faults sink.old) (K.faults sink.new)) }
 {
     for piece in records.chunks(WRITTEN) {
-        match zone_text(alloc, piece, is_loaded) {
+        match numbers_text(alloc, piece) {
             Ok(text) => write_all(sink, text.as_slice())?,
             Err(NoMemory) => return Err(SinkFault::NoMemory),
         }
@@ -204,4 +174,22 @@ pub(crate) fn write_zone<K: Sink>(
         Ok(()) => Ok(()),
         Err(_) => Err(SinkFault::Failed),
     }
+}
+
+/// Writes the lines of records, in the form that name servers load or in numbers and hexadecimal digits alone, and hands them on.
+pub(crate) fn write_zone<K: Sink>(
+    alloc: Global,
+    sink: &mut K,
+    records: &[ZoneRecord],
+    is_loaded: bool,
+) -> Result<(), SinkFault>
+    ensures whole { OnOk result (WritesZone is_loaded records.now (K.held sink.old) (K.held sink.new)) }
+    ensures begun { BeginsZone is_loaded records.now (K.held sink.old) (K.held sink.new) }
+    ensures flushed { OnOk result (IsFlushed (K.held sink.new) (K.flushed sink.new)) }
+    ensures failed { IfErr result (λ e. e ≡ SinkFault.Failed → Rose (K.faults sink.old) (K.faults sink.new)) }
+{
+    if is_loaded {
+        return write_text(alloc, sink, records);
+    }
+    write_numbers(alloc, sink, records)
 }

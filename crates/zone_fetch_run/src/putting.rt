@@ -1,12 +1,11 @@
 //! Where a zone goes: to a sink, or in the place of a file.
 
 ghost use Rattle.std.specs.Prelude.{◌≡◌, ◌≢◌, ◌⊎◌};
-ghost use Rattle.command_parts.specs.Ends.{IsBegun};
-ghost use Rattle.dns_values.specs.Sink.{IsFlushed, with_octets};
+ghost use Rattle.dns_values.specs.Sink.{IsFlushed};
 ghost use Rattle.dns_values.specs.Source.{Rose};
-ghost use Rattle.zone_fetch_run.specs.Ends.{Failed, IsPut, IsPutInPart};
-ghost use Rattle.zone_fetch_run.specs.Lines.{zone_text};
-ghost use Rattle.zone_fetch_run.specs.Places.{IsPlaced};
+ghost use Rattle.zone_fetch_run.specs.Ends.{Failed, PutsInPart, PutsZone};
+ghost use Rattle.zone_fetch_run.specs.Lines.{BeginsZone, WritesZone};
+ghost use Rattle.zone_fetch_run.specs.Places.{PlacesZone};
 
 use crate::command::Command;
 use crate::lines::write_zone;
@@ -23,8 +22,8 @@ pub(crate) fn tell_zone<K: Sink>(
     zone: &Zone,
     is_loaded: bool,
 ) -> Status
-    ensures whole { result.0 ≡ 0 → K.held sink.new ≡ with_octets (zone_text is_loaded zone.now.records) (K.held sink.old) }
-    ensures begun { IsBegun (zone_text is_loaded zone.now.records) (K.held sink.old) (K.held sink.new) }
+    ensures whole { result.0 ≡ 0 → WritesZone is_loaded zone.now.records (K.held sink.old) (K.held sink.new) }
+    ensures begun { BeginsZone is_loaded zone.now.records (K.held sink.old) (K.held sink.new) }
     ensures flushed { result.0 ≡ 0 → IsFlushed (K.held sink.new) (K.flushed sink.new) }
     ensures failed { result.0 ≡ 4 → Rose (K.faults sink.old) (K.faults sink.new) }
     ensures others { (result.0 ≡ 0) ⊎ ((result.0 ≡ 4) ⊎ (result.0 ≡ 6)) }
@@ -37,7 +36,7 @@ pub(crate) fn tell_zone<K: Sink>(
 }
 
 /// Writes a zone beside the file at a path, and puts it in its place once it is whole.
-#[tactic(auto, using(crate::proofs::Placing::is_placed, crate::proofs::Placing::is_hurt, crate::proofs::Writing::rose_later))]
+#[tactic(auto, using(crate::proofs::Placing::places_zone, crate::proofs::Placing::is_hurt, crate::proofs::Writing::rose_later))]
 fn replace<F: Replacing>(
     alloc: Global,
     files: &mut F,
@@ -45,7 +44,7 @@ fn replace<F: Replacing>(
     zone: &Zone,
     is_loaded: bool,
 ) -> Status
-    ensures placed { result.0 ≡ 0 → IsPlaced path.now (zone_text is_loaded zone.now.records) (F.placed files.old) (F.placed files.new) }
+    ensures placed { result.0 ≡ 0 → PlacesZone is_loaded zone.now.records path.now (F.placed files.old) (F.placed files.new) }
     ensures kept { result.0 ≢ 0 → F.placed files.new ≡ F.placed files.old }
     ensures failed { result.0 ≡ 4 → Rose (F.faults files.old) (F.faults files.new) }
     ensures others { (result.0 ≡ 0) ⊎ ((result.0 ≡ 4) ⊎ (result.0 ≡ 6)) }
@@ -72,8 +71,8 @@ pub(crate) fn put_zone<K: Sink, F: Replacing>(
     files: &mut F,
     zone: &Zone,
 ) -> Status
-    ensures whole { result.0 ≡ 0 → IsPut command.now.output (zone_text command.now.text zone.now.records) (K.held sink.old, F.placed files.old) (K.held sink.new, F.placed files.new) (K.flushed sink.new) }
-    ensures part { IsPutInPart command.now.output (zone_text command.now.text zone.now.records) (K.held sink.old) (K.held sink.new) }
+    ensures whole { result.0 ≡ 0 → PutsZone command.now.output command.now.text zone.now.records (K.held sink.old, F.placed files.old) (K.held sink.new, F.placed files.new) (K.flushed sink.new) }
+    ensures part { PutsInPart command.now.output command.now.text zone.now.records (K.held sink.old) (K.held sink.new) }
     ensures kept { result.0 ≢ 0 → F.placed files.new ≡ F.placed files.old }
     ensures failed { result.0 ≡ 4 → Failed command.now.output (K.faults sink.old, F.faults files.old) (K.faults sink.new, F.faults files.new) }
     ensures others { (result.0 ≡ 0) ⊎ ((result.0 ≡ 4) ⊎ (result.0 ≡ 6)) }

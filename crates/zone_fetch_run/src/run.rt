@@ -3,17 +3,17 @@
 ghost use Rattle.std.specs.Prelude.{◌≡◌, ◌≢◌, ◌⊎◌, Some, IfOk, IfErr, IfSome};
 ghost use Rattle.dns_values.specs.Sink.{IsFlushed};
 ghost use Rattle.dns_values.specs.Source.{Rose};
-ghost use Rattle.zone_fetch_run.specs.Ends.{FetchEndsIn, HasStopped, HasZone, IsBase, IsFiled, IsOfFile, IsUnbased, LineEnds, RoseUnread, TellsBySentence, seen};
+ghost use Rattle.zone_fetch_run.specs.Ends.{FetchEndsIn, HasStopped, HasZone, IsBase, IsFiled, IsOfFile, IsOfReading, IsUnbased, LineEnds, RoseUnread, TellsBySentence, seen};
 ghost use Rattle.zone_fetch_run.specs.Fetching.{over};
 
 use crate::command::{Command, command_of};
 use crate::explaining::{tell_detour, tell_no_memory, tell_refusal, tell_stop, tell_written};
 use crate::fetching::bring;
 use crate::leading::Detour;
-use crate::printed::{Flaw, Unread, zone_of};
 use crate::putting::{put_zone, tell_zone};
 use crate::replacing::Replacing;
 use crate::stop::{Stop, tell};
+use crate::world::{FetchWorld, Means};
 use crate::wrong::Fault;
 use client_core::{Clock, Edge};
 use client_request::Words;
@@ -22,12 +22,13 @@ use dns_base::{ReadFault, Sink, Status, read_to_end};
 use resolv_conf::OpenFile;
 use std::alloc::Global;
 use zone_records::Zone;
+use zone_text::{Unread, zone_of};
 use zone_transfer::Progress;
 
 /// The octets of the file at a path.
 fn octets_at<O: OpenFile>(alloc: Global, opener: &mut O, path: &str) -> Result<Vec<u8>, Stop>
     ensures octets { IfOk result (λ v. IfSome (O.files opener.old) (λ file_at. file_at path.now ≡ Some v.items)) }
-    ensures stopped { IfErr result (IsOfFile path.now (O.files opener.old)) }
+    ensures stopped { IfErr result IsOfReading }
     ensures unread { IfErr result (RoseUnread (O.faults opener.old) (O.faults opener.new)) }
 {
     if opener.open_file(path).is_err() {
@@ -36,12 +37,13 @@ fn octets_at<O: OpenFile>(alloc: Global, opener: &mut O, path: &str) -> Result<V
     match read_to_end(alloc, opener, usize::MAX) {
         Ok(octets) => Ok(octets),
         Err(ReadFault::Failed) => Err(Stop::Unread),
-        Err(ReadFault::TooLong) => Err(Stop::NotPrinted(Flaw::Text)),
+        Err(ReadFault::TooLong) => Err(Stop::NoMemory),
         Err(ReadFault::NoMemory) => Err(Stop::NoMemory),
     }
 }
 
-/// The zone that the file at a path has.
+/// The zone of the text that the file at a path has.
+#[tactic(auto, using(crate::proofs::Asked::of_reading))]
 fn zone_at<O: OpenFile>(
     alloc: Global,
     command: &Command,
@@ -49,14 +51,14 @@ fn zone_at<O: OpenFile>(
     path: &str,
 ) -> Result<Zone, Stop>
     ensures zone { IfOk result (IsFiled command.now.apex path.now (O.files opener.old)) }
-    ensures stopped { IfErr result (IsOfFile path.now (O.files opener.old)) }
+    ensures stopped { IfErr result (IsOfFile command.now.apex path.now (O.files opener.old)) }
     ensures unread { IfErr result (RoseUnread (O.faults opener.old) (O.faults opener.new)) }
 {
     let octets = octets_at(alloc, opener, path)?;
     let apex = command.apex.try_clone(alloc)?;
     match zone_of(alloc, octets.as_slice(), apex) {
         Ok(zone) => Ok(zone),
-        Err(Unread::NotPrinted(flaw)) => Err(Stop::NotPrinted(flaw)),
+        Err(Unread::NoZone(flaw)) => Err(Stop::NotPrinted(flaw)),
         Err(Unread::NoMemory) => Err(Stop::NoMemory),
     }
 }
@@ -83,22 +85,18 @@ fn zone_asked<O: OpenFile, E: Edge, C: Clock, W: Words, P: Progress>(
     opener: &mut O,
     edge: &mut E,
     later: &mut E,
-    clock: &mut C,
-    random: &mut W,
-    progress: &mut P,
+    means: &mut Means<C, W, P>,
 ) -> (Option<Detour>, Result<Zone, Stop>)
-    ensures zone { IfOk result.1 (λ zone. over E.deeds E.polls C.given (edge.old, later.old, clock.old) (edge.new, later.new, clock.new) (HasZone command.now (O.files opener.old) (W.stream random.old) zone result.0)) }
-    ensures stop { IfErr result.1 (λ stop. over E.deeds E.polls C.given (edge.old, later.old, clock.old) (edge.new, later.new, clock.new) (HasStopped command.now (O.files opener.old) (W.stream random.old) result.0 stop)) }
+    ensures zone { IfOk result.1 (λ zone. over E.deeds E.polls C.given (edge.old, later.old, means.old.clock) (edge.new, later.new, means.new.clock) (HasZone command.now (O.files opener.old) (W.stream means.old.random) zone result.0)) }
+    ensures stop { IfErr result.1 (λ stop. over E.deeds E.polls C.given (edge.old, later.old, means.old.clock) (edge.new, later.new, means.new.clock) (HasStopped command.now (O.files opener.old) (W.stream means.old.random) result.0 stop)) }
     ensures unread { IfErr result.1 (RoseUnread (O.faults opener.old) (O.faults opener.new)) }
 {
     let mut zone = match zone_before(alloc, command, opener) {
         Ok(zone) => zone,
         Err(stop) => return (None, Err(stop)),
     };
-    let (detour, end) = bring(
-        alloc, command, &mut zone, edge, later, clock, random, progress,
-    );
-    progress.end();
+    let (detour, end) = bring(alloc, command, &mut zone, edge, later, means);
+    means.progress.end();
     match end {
         Ok(()) => (detour, Ok(zone)),
         Err(left) => (detour, Err(Stop::NotBrought(left))),
@@ -108,13 +106,13 @@ fn zone_asked<O: OpenFile, E: Edge, C: Clock, W: Words, P: Progress>(
 /// Does what the words ask for, `[--text] [--port P] [--most OCTETS] [--from FILE] [--output FILE] ZONE ADDRESS`, and answers the exit
 /// status. What `--output` says is the caller's: the zone is written to the sink.
 ///
-/// 0: the zone was written whole, a line for each record. 1: the file has no zone that was printed in numbers and hexadecimal digits, and
-/// the line says which line of it is not, and why. 2: the words are others; nothing is written. 3: the file can't be read; nothing is
-/// written. 4: the sink failed. 5: the zone was not fetched, or its serial is not greater than the file's, and the line says why. 6:
-/// memory ran out. 7: numbers are used up. 9: the server's zone has the file's serial.
+/// 0: the zone was written whole, a line for each record. 1: the file has no text of the zone, and the line says which line of it is
+/// wrong first, and how. 2: the words are others; nothing is written. 3: the file can't be read; nothing is written. 4: the sink failed.
+/// 5: the zone was not fetched, or its serial is not greater than the file's, and the line says why. 6: memory ran out. 7: numbers are
+/// used up. 9: the server's zone has the file's serial.
 ///
-/// No edge was used before. The later one is used where changes were asked for and do not lead on (RFC 1995 4). While it turns,
-/// `progress` is told how far the transfer is.
+/// No edge was used before. The later one is used where changes were asked for and do not lead on (RFC 1995 4). While it turns, the
+/// means' `progress` is told how far the transfer is.
 pub fn run_fetch<O: OpenFile, K: Sink, E: Edge, C: Clock, W: Words, P: Progress>(
     alloc: Global,
     words: &[String],
@@ -122,11 +120,9 @@ pub fn run_fetch<O: OpenFile, K: Sink, E: Edge, C: Clock, W: Words, P: Progress>
     sink: &mut K,
     edge: &mut E,
     later: &mut E,
-    clock: &mut C,
-    random: &mut W,
-    progress: &mut P,
+    means: &mut Means<C, W, P>,
 ) -> Status
-    ensures ends { over E.deeds E.polls C.given (edge.old, later.old, clock.old) (edge.new, later.new, clock.new) (LineEnds K.held K.faults words.now (O.files opener.old) (W.stream random.old) result sink.old sink.new) }
+    ensures ends { over E.deeds E.polls C.given (edge.old, later.old, means.old.clock) (edge.new, later.new, means.new.clock) (LineEnds K.held K.faults words.now (O.files opener.old) (W.stream means.old.random) result sink.old sink.new) }
     ensures unread { result.0 ≡ 3 → Rose (O.faults opener.old) (O.faults opener.new) }
     ensures flushed { result.0 ≡ 0 → IsFlushed (K.held sink.new) (K.flushed sink.new) }
 {
@@ -135,34 +131,15 @@ pub fn run_fetch<O: OpenFile, K: Sink, E: Edge, C: Clock, W: Words, P: Progress>
         Err(Fault::Refused(_)) => return statuses::USAGE,
         Err(Fault::NoMemory) => return statuses::NO_MEMORY,
     };
-    let (_, asked) = zone_asked(
-        alloc, &command, opener, edge, later, clock, random, progress,
-    );
+    let (_, asked) = zone_asked(alloc, &command, opener, edge, later, means);
     match asked {
         Ok(zone) => tell_zone(alloc, sink, &zone, command.text),
         Err(stop) => tell(alloc, sink, stop),
     }
 }
 
-/// What is around a fetch. No edge was used before.
-#[derive(Drop)]
-pub struct World<O, E, C, W, P, F> {
-    /// What opens the file that has the zone as it was printed before.
-    pub opener: O,
-    /// What is asked.
-    pub edge: E,
-    /// What is asked for the whole zone where changes were asked for and do not lead on.
-    pub later: E,
-    pub clock: C,
-    pub random: W,
-    /// What is told how far the transfer is.
-    pub progress: P,
-    /// What puts the zone in the place of a file.
-    pub files: F,
-}
-
 /// Does the same as `run_fetch`, but puts the zone in the place of a file where the words say so, and tells in a sentence to `errors` why
-/// the status is another than 0: which word is wrong, or what is missing; which file can't be read or has no printed zone, and why; which
+/// the status is another than 0: which word is wrong, or what is missing; which file can't be read or has no text of the zone, and why; which
 /// zone was not fetched of which server, and why; or that the sink or the file could not be written, or memory ran out. Nothing is
 /// written to the sink then, but what it took of a zone, and no file is replaced. Where changes did not lead on, a sentence before says
 /// why the zone was asked for whole, on status 0 too. A fault of `errors` changes no status.
@@ -180,7 +157,7 @@ pub fn fetch_to<
     words: &[String],
     sink: &mut K,
     errors: &mut L,
-    world: &mut World<O, E, C, W, P, F>,
+    world: &mut FetchWorld<O, E, C, W, P, F>,
 ) -> Status
     ensures ends { FetchEndsIn E.deeds E.polls C.given O.files W.stream words.now (seen K.held K.flushed K.faults F.placed F.faults L.held L.faults (sink.old, world.old.files, errors.old) (sink.new, world.new.files, errors.new) (TellsBySentence words.now)) result.0 world.old world.new }
     ensures unread { result.0 ≡ 3 → Rose (O.faults world.old.opener) (O.faults world.new.opener) }
@@ -198,9 +175,7 @@ pub fn fetch_to<
         &mut world.opener,
         &mut world.edge,
         &mut world.later,
-        &mut world.clock,
-        &mut world.random,
-        &mut world.progress,
+        &mut world.means,
     );
     let Ok(()) = tell_detour(alloc, &command, detour, errors) else {
         return tell_no_memory(errors);

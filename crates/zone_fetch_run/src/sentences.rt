@@ -6,7 +6,6 @@ ghost use Rattle.zone_fetch_run.specs.Sentences as spec;
 
 use crate::command::Command;
 use crate::leading::{Detour, Left};
-use crate::printed::Flaw;
 use crate::stop::Stop;
 use crate::wrong::{Refusal, Wrong};
 use client_request::{Error, Fault};
@@ -14,6 +13,7 @@ use dns_base::NoMemory;
 use std::alloc::Global;
 use std::fmt::{self, Display};
 use zone_records::{ApplyFault, XfrFault};
+use zone_text::Flaw;
 use zone_transfer::FetchFault;
 
 /// What is told where memory ran out.

@@ -1,17 +1,16 @@
 //! How the program ends where no zone is written.
 
-ghost use Rattle.std.specs.Prelude.{◌≡◌, ◌≢◌, ◌⊎◌, IfOk, Some};
+ghost use Rattle.std.specs.Prelude.{◌≡◌, ◌≢◌, ◌⊎◌, IfOk};
 ghost use Rattle.std.specs.String.{string_bytes};
 ghost use Rattle.zone_fetch_run.specs.declared.stop.Stop.{Stop};
-ghost use Rattle.zone_fetch_run.specs.Stops.{Tells, fault_line, fault_status, flaw_text, left_line, left_status, line_of, part_text, status_of};
+ghost use Rattle.zone_fetch_run.specs.Stops.{Tells, fault_line, fault_status, left_line, left_status, line_of, status_of};
 
 use crate::leading::Left;
-use crate::printed::{Flaw, Part};
 use client_request::Error;
 use command_parts::{end_by, statuses};
 use dns_base::{NoMemory, Sink, Status};
 use std::alloc::Global;
-use std::fmt::{self, Display};
+use zone_text::Flaw;
 use zone_transfer::FetchFault;
 
 /// Why no zone is written.
@@ -19,7 +18,7 @@ use zone_transfer::FetchFault;
 pub(crate) enum Stop {
     /// The file can't be read.
     Unread,
-    /// The file has no zone that was printed.
+    /// The file has no text of the zone.
     NotPrinted(Flaw),
     /// The zone is left as it was.
     NotBrought(Left),
@@ -100,36 +99,6 @@ pub(crate) fn status_of(stop: Stop) -> Status
         Stop::NotPrinted(_) => statuses::REFUSED,
         Stop::NotBrought(left) => left_status(left),
         Stop::NoMemory => statuses::NO_MEMORY,
-    }
-}
-
-fn part_text(part: Part) -> &'static str
-    ensures { result.now ≡ part_text part }
-{
-    match part {
-        Part::End => "no line feed behind it",
-        Part::Words => "fewer than five words",
-        Part::Owner => "the owner is no name",
-        Part::Ttl => "the TTL is no number of 32 bits",
-        Part::Class => "the class is no number of 16 bits",
-        Part::Type => "the type is no number of 16 bits",
-        Part::Data => "the data is not in pairs of lower-case hexadecimal digits",
-    }
-}
-
-impl Display for Flaw {
-    ghost output = { λ flaw. Some (flaw_text flaw) };
-
-    fn fmt<W: fmt::Write>(&self, f: &mut fmt::Formatter<W>) -> fmt::Result {
-        match self {
-            Flaw::Text => f.write_str("the file is no text"),
-            Flaw::Soa => f.write_str("no SOA with a serial"),
-            Flaw::Form(line) => write!(f, "line {line}: in another order or spelling"),
-            Flaw::Line(line, part) => {
-                let wrong = part_text(*part);
-                write!(f, "line {line}: {wrong}")
-            }
-        }
     }
 }
 

@@ -1,20 +1,21 @@
 //! Words that are taken, one after another.
 
 ghost use Rattle.std.specs.Prelude.{◌≡◌, Ok, Err};
+ghost use Rattle.command_parts.specs.Numbers.{number_in};
 ghost use Rattle.dns_names.specs.Text.{name_of_text};
 ghost use Rattle.std.specs.Result.{result_ok};
 ghost use Rattle.program_words.specs.Rows.{said_in};
-ghost use Rattle.zone_fetch_run.specs.Words.{AddressGives, AllAnswer, Answers, FileGives, OutputGives, WordGives, WordsGive, any_said, with_meaning, fault_at, most_given, number_in, option_rows, port_given, zone_given};
+ghost use Rattle.zone_fetch_run.specs.Words.{AddressGives, AllAnswer, Answers, FileGives, OutputGives, WordGives, WordsGive, any_said, with_meaning, fault_at, most_given, option_rows, port_given, zone_given};
 
 use crate::command::{Meaning, Next, Said};
-use crate::number::number_in;
 use crate::wrong::{Fault, Refusal, WordFault, Wrong};
+use command_parts::number_in;
 use dns_base::{IpAddr, Name, NameFault};
 use program_words::{Letters, Row, said_in};
 use std::alloc::Global;
 
 /// The greatest port.
-const MOST_PORT: usize = 65535;
+const MOST_PORT: u64 = 65535;
 
 /// The options, each by its whole name.
 const OPTIONS: [Row<Meaning>; 5] = [
@@ -60,9 +61,9 @@ impl Said {
     fn take_most(&mut self, word: &str) -> Result<(), WordFault>
         ensures { Answers (λ o. o ≡ most_given (number_in 0 18446744073709551615 word.now) self.old) result self.new }
     {
-        match number_in(0, usize::MAX, word) {
+        match number_in(0, u64::MAX, word) {
             Some(most) => {
-                self.most = most as u64;
+                self.most = most;
                 self.next = Next::Any;
                 Ok(())
             }

@@ -1,7 +1,7 @@
 -- Words without blanks, and digits without semicolons.
-use Rattle.std.proofs.Common.{◌≡◌, ◌<◌, ◌≤◌, ◌^◌, ℕ, ◌+◌, ◌/◌, ◌%◌, List, [], ◌∷◌, ◌++◌, Bool, true, false, refl, ap, sym, subst, ◌∙◌, arith, decimal, Option, None, Some}
-use Rattle.std.specs.Prelude.{◌==◌, ◌||◌, ◌&&◌, nat_lt, nat_le, codes, unwrap_or}
-use Rattle.std.specs.List.{AllByRecursion, flat_map, list_all, list_any}
+use Rattle.std.proofs.Common.{◌≡◌, ◌<◌, ◌≤◌, ◌^◌, ℕ, ◌+◌, ◌/◌, ◌%◌, List, [], ◌∷◌, ◌++◌, Bool, true, false, refl, arith, decimal}
+use Rattle.std.specs.Prelude.{◌==◌, ◌&&◌, nat_lt, nat_le, codes, unwrap_or}
+use Rattle.std.specs.List.{AllByRecursion, flat_map, list_all}
 use Rattle.std.specs.Char.{is_ascii_digit}
 use Rattle.std.specs.Str.{all_ascii_digits}
 use Rattle.std.proofs.lemmas.Bool.{eqb-true, leb-true, lt-leb, lt-ltb, ltb-true, ltb-false}
@@ -10,7 +10,7 @@ use Rattle.dns_names.specs.Name.{AreOctets, Labels}
 use Rattle.dns_presentation.specs.Names.{absolute_text, ended_label, is_plain, name_octet}
 use Rattle.dns_presentation.specs.Octets.{hex_digit, hex_text, numbered_octet}
 use Rattle.zone_text.specs.Lines.{is_rare, type_word}
-use Rattle.zone_text.proofs.Lacking.{Lacks, decimal_digits, lacks_append, lacks_more, not_octet}
+use Rattle.zone_text.proofs.Lacking.{Lacks, decimal_digits, lacks_more, not_octet}
 
 -- each octet is above the blank
 abbrev pub is_above : List ℕ → Bool

@@ -1,5 +1,5 @@
 -- Lines in numbers are read.
-use Rattle.std.proofs.Common.{◌≡◌, ◌<◌, ◌≤◌, ◌^◌, ℕ, ◌+◌, ◌/◌, ◌%◌, List, [], ◌∷◌, ◌++◌, Bool, true, false, inl, inr, ◌⊎◌, refl, ap, sym, ◌∙◌, arith, append_assoc, decimal, Option, None, Some, Ok, Result, IsSome}
+use Rattle.std.proofs.Common.{◌≡◌, ◌<◌, ◌≤◌, ◌^◌, ℕ, ◌+◌, ◌/◌, ◌%◌, List, [], ◌∷◌, ◌++◌, Bool, true, false, inl, inr, ◌⊎◌, refl, ap, sym, ◌∙◌, arith, append_assoc, decimal, Option, None, Some, Ok, IsSome}
 use Rattle.std.specs.Prelude.{◌==◌, ◌||◌, ◌&&◌, map, nat_le, nat_lt}
 use Rattle.std.specs.Char.{digit_char, to_ascii_lowercase}
 use Rattle.std.specs.List.{AllByRecursion, flat_map, list_any}
@@ -10,11 +10,10 @@ use Rattle.dns_names.specs.Name.{AreOctets, Found, Labels, name_at, spelling}
 use Rattle.dns_names.specs.Text.{label_text, name_text, octet_text}
 use Rattle.dns_names.proofs.NameLaws.{spelled_alone}
 use Rattle.dns_names.proofs.Shown.{name_read}
-use Rattle.dns_presentation.specs.Octets.{octets_of_hex}
 use Rattle.zone_records.specs.declared.record.ZoneRecord.{ZoneRecord}
 use Rattle.zone_text.specs.Laws.{IsWritable, NumbersBackLaw}
-use Rattle.zone_text.specs.Numbers.{head_of, hex_word, named, numbers_text, octet_digits, record_line}
-use Rattle.zone_text.specs.Saying.{class_says, data_says, line_says, owner_says, record_says, says_from, ttl_says, type_says, with_record}
+use Rattle.zone_text.specs.Numbers.{head_of, hex_word, named, numbers_text, octet_digits}
+use Rattle.zone_text.specs.Saying.{class_says, data_says, line_says, owner_says, record_says, says_from, type_says, with_record}
 use Rattle.zone_text.specs.Words.{behind_last}
 use Rattle.zone_text.proofs.Above.{above_append, above_lacks, above_more, below_octet, decimal_above, is_above, numbered_above}
 use Rattle.zone_text.proofs.OnlyDigits.{digits_back, no_class, no_type}

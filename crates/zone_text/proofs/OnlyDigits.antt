@@ -1,6 +1,6 @@
 -- Digits are no name of a class or a type, and lower-case digits are read.
-use Rattle.std.proofs.Common.{◌≡◌, ◌<◌, ◌≤◌, ◌^◌, ℕ, ◌+◌, ◌/◌, ◌%◌, List, [], ◌∷◌, ◌++◌, length, Bool, true, false, refl, ap, sym, ◌∙◌, arith, codes, decimal, take, Option, None, Some}
-use Rattle.std.specs.Prelude.{◌==◌, ◌&&◌, cond, nat_le, nat_lt}
+use Rattle.std.proofs.Common.{◌≡◌, ◌<◌, ◌≤◌, ◌^◌, ℕ, ◌+◌, ◌/◌, ◌%◌, List, [], ◌∷◌, length, Bool, true, false, refl, ap, ◌∙◌, arith, codes, decimal, take, None, Some}
+use Rattle.std.specs.Prelude.{◌==◌, ◌&&◌, nat_le, nat_lt}
 use Rattle.std.specs.Char.{digit_char, is_ascii_digit, to_ascii_lowercase}
 use Rattle.std.specs.List.{AllByRecursion, flat_map, list_all}
 use Rattle.std.specs.Str.{all_ascii_digits, str_eq_ignore_ascii_case}

@@ -1,5 +1,5 @@
 -- The data of a record, as it stands on a line.
-use Rattle.std.proofs.Common.{◌≡◌, ◌<◌, ◌≤◌, ℕ, List, Bool, true, false, refl, ap, sym, subst, ◌∙◌, arith, length, Option, None, Some}
+use Rattle.std.proofs.Common.{◌≡◌, ◌<◌, ◌≤◌, ℕ, List, true, false, refl, ap, sym, subst, ◌∙◌, arith, length, Option, None, Some}
 use Rattle.std.specs.Prelude.{IfSome, nat_lt}
 use Rattle.std.proofs.lemmas.Bool.Decides.{nat_tests}
 use Rattle.dns_base.specs.Message.{Known, answer_items}

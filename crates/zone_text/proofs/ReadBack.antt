@@ -1,27 +1,24 @@
 -- What was printed is read.
-use Rattle.std.proofs.Common.{◌≡◌, ◌<◌, ◌≤◌, ◌^◌, ℕ, ◌+◌, List, [], ◌∷◌, ◌++◌, length, Bool, true, false, refl, ap, sym, subst, ◌∙◌, arith, append_assoc, decimal, Option, None, Some, Ok, Result, IsSome}
-use Rattle.std.specs.Prelude.{◌==◌, map, option_map}
+use Rattle.std.proofs.Common.{◌≡◌, ◌<◌, ◌≤◌, ◌^◌, ℕ, ◌+◌, List, [], ◌∷◌, ◌++◌, Bool, true, false, refl, ap, sym, ◌∙◌, arith, append_assoc, decimal, Option, None, Some, Ok, IsSome}
+use Rattle.std.specs.Prelude.{◌==◌, map}
 use Rattle.std.specs.Char.{to_ascii_lowercase}
 use Rattle.std.specs.List.{AllByRecursion, list_any}
 use Rattle.std.specs.Option.{option_map_or}
-use Rattle.std.specs.Result.{result_ok}
 use Rattle.std.proofs.lemmas.Bool.{eq-eqb}
 use Rattle.dns_values.proofs.Decimals.{decimal_is_read}
 use Rattle.dns_values.proofs.NumberNames.{number_names}
-use Rattle.dns_values.specs.NumberNames.{class_of_text, class_text, type_of_text}
-use Rattle.dns_names.specs.Name.{Found, Labels, labels_at, name_at, spelling}
-use Rattle.dns_names.specs.Text.{name_of_text}
+use Rattle.dns_values.specs.NumberNames.{class_text}
+use Rattle.dns_names.specs.Name.{Found, Labels, name_at, spelling}
 use Rattle.dns_names.proofs.NameLaws.{spelled_alone}
 use Rattle.dns_presentation.specs.Names.{absolute_text}
-use Rattle.dns_presentation.specs.Octets.{hex_text, octets_of_hex}
+use Rattle.dns_presentation.specs.Octets.{hex_text}
 use Rattle.dns_presentation.proofs.NameTexts.{name_read}
 use Rattle.dns_presentation.proofs.OctetTexts.{hex_back}
 use Rattle.zone_records.specs.declared.record.ZoneRecord.{ZoneRecord}
 use Rattle.zone_text.specs.Laws.{IsWritable}
-use Rattle.zone_text.specs.Lines.{IsLine, IsText, front_text, is_rare, line_more, line_text, no_line, owner_text, type_word}
-use Rattle.zone_text.specs.Saying.{class_says, data_says, line_says, owner_says, record_says, says_from, ttl_says, type_says, with_record, Said}
+use Rattle.zone_text.specs.Lines.{IsText, is_rare, line_more, line_text, no_line, owner_text, type_word}
+use Rattle.zone_text.specs.Saying.{class_says, data_says, line_says, owner_says, record_says, says_from, ttl_says, type_says, with_record}
 use Rattle.zone_text.specs.Words.{behind_last, cut_at}
-use Rattle.zone_text.specs.declared.fault.LinePart.{LinePart}
 use Rattle.zone_text.proofs.Above.{above_lacks, class_above, decimal_above, hex_lacks_semicolon, name_above, word_above}
 use Rattle.zone_text.proofs.Said.{first_cut, said_first}
 use Rattle.zone_text.proofs.Lacking.{Lacks, hex_no_feed, lacks_append}

@@ -2,10 +2,10 @@
 use Rattle.std.proofs.Common.{◌≡◌, ◌≢◌, ℕ, ◌+◌, List, [], ◌∷◌, ◌++◌, length, refl, ap, sym, ◌∙◌, arith, append_assoc, Option, None, Some, Result, Ok, Err}
 use Rattle.zone_records.specs.declared.record.ZoneRecord.{ZoneRecord}
 use Rattle.zone_text.specs.Words.{cut_at, pieces_at}
-use Rattle.zone_text.specs.Saying.{Said, beside, end_says, first_says, line_says, lines_say, or_wrong, says_from, with_line, with_record, wrong, ◌>>=◌}
+use Rattle.zone_text.specs.Saying.{Said, beside, end_says, first_says, line_says, lines_say, says_from, with_line, with_record, wrong}
 use Rattle.zone_text.specs.declared.fault.LinePart.{LinePart}
 use Rattle.zone_text.specs.declared.fault.LinePart.TheVariants as parts
-use Rattle.zone_text.proofs.Cuts.{cut_shorter, pieces_cut, pieces_some, pieces_whole}
+use Rattle.zone_text.proofs.Cuts.{pieces_cut, pieces_some, pieces_whole}
 
 -- records before those that are said
 abbrev pub put_records : List ZoneRecord → Said → Said
@@ -22,14 +22,14 @@ one_more records item (Ok more) = ap Ok (sym (append_assoc records (item ∷ [])
 
 -- ---- the first line
 
-found_same : (x y : ZoneRecord × List ℕ) → ◌≡◌ {A = Result (ZoneRecord × List ℕ) LinePart} (Ok x) (Ok y) → (x.0 ≡ y.0) × (x.1 ≡ y.1)
+pub found_same : (x y : ZoneRecord × List ℕ) → ◌≡◌ {A = Result (ZoneRecord × List ℕ) LinePart} (Ok x) (Ok y) → (x.0 ≡ y.0) × (x.1 ≡ y.1)
 found_same x y e = let same : x ≡ y = cc in (ap (λ (p : ZoneRecord × List ℕ). p.0) same, ap (λ (p : ZoneRecord × List ℕ). p.1) same)
 
-beside_ok : (said : Result ZoneRecord LinePart) (cut behind : List ℕ) (item : ZoneRecord) → beside cut said ≡ Ok (item, behind) → (said ≡ Ok item) × (cut ≡ behind)
+pub beside_ok : (said : Result ZoneRecord LinePart) (cut behind : List ℕ) (item : ZoneRecord) → beside cut said ≡ Ok (item, behind) → (said ≡ Ok item) × (cut ≡ behind)
 beside_ok (Err part) cut behind item e = absurd cc
 beside_ok (Ok it) cut behind item e = let same = found_same (it, cut) (item, behind) e in (ap (λ (r : ZoneRecord). Ok r) same.0, same.1)
 
-beside_err : (said : Result ZoneRecord LinePart) (cut : List ℕ) (part : LinePart) → beside cut said ≡ Err part → said ≡ Err part
+pub beside_err : (said : Result ZoneRecord LinePart) (cut : List ℕ) (part : LinePart) → beside cut said ≡ Err part → said ≡ Err part
 beside_err (Err other) cut part e = let same : other ≡ part = cc in ap Err same
 beside_err (Ok it) cut part e = absurd cc
 

@@ -1,12 +1,11 @@
 -- Worked lines and texts, computed.
-use Rattle.std.proofs.Common.{◌≡◌, ℕ, List, [], ◌∷◌, ◌++◌, refl, codes, Ok, Err}
+use Rattle.std.proofs.Common.{◌≡◌, [], ◌∷◌, ◌++◌, refl, codes, Ok, Err}
 use Rattle.dns_values.specs.Decimal.{decimal_number}
 use Rattle.dns_values.specs.NumberNames.{class_names, number_of_text, type_names}
 use Rattle.dns_names.specs.Text.{cut_text, escaped, name_labels}
 use Rattle.dns_presentation.specs.Octets.{octets_of_hex}
 use Rattle.zone_records.specs.declared.record.ZoneRecord.{ZoneRecord}
 use Rattle.zone_text.specs.Saying.{data_says, line_says, text_says}
-use Rattle.zone_text.specs.Words.{behind_last, cut_at, pieces_at}
 use Rattle.zone_text.specs.declared.fault.LinePart.TheVariants as parts
 
 abbrev address : ZoneRecord

@@ -7,7 +7,7 @@ use Rattle.dns_values.specs.Sink.{with_octets}
 use Rattle.dns_values.specs.Source.{Rose, last_count}
 use Rattle.dns_presentation.specs.Octets.{hex_text}
 use Rattle.zone_records.specs.declared.record.ZoneRecord.{ZoneRecord}
-use Rattle.zone_text.specs.Lines.{IsLine, IsText, PutsLine, Writes, WritesFront, data_text, front_text, has_feed, in_line, line_more, line_text, no_line}
+use Rattle.zone_text.specs.Lines.{IsText, PutsLine, Writes, WritesFront, data_text, front_text, has_feed, in_line, line_more, line_text, no_line}
 
 put_together : (before front shown sep hex end : List ℕ) → ((((before ++ front) ++ shown) ++ sep) ++ hex) ++ end ≡ (before ++ ((front ++ shown) ++ (sep ++ hex))) ++ end
 put_together before front shown sep hex end =

@@ -1,225 +1,129 @@
--- The zone of records.
-use Rattle.std.proofs.Common.{◌≡◌, ◌≢◌, ℕ, ◌+◌, List, [], ◌∷◌, ◌++◌, length, Bool, true, false, not, refl, ap, sym, subst, ◌∙◌, arith, append_assoc, append-nil, count_by, Option, None, Some, IsSome, Result, Ok, Err}
-use Rattle.std.specs.Prelude.{◌==◌, ◌||◌, ◌&&◌, cond, find, option_and_then}
-use Rattle.std.specs.List.{list_any}
-use Rattle.std.specs.Ordering.{is_eq}
-use Rattle.std.specs.declared.cmp.Ordering.{Ordering}
-use Rattle.std.specs.declared.cmp.Ordering.TheVariants.{Less, Equal, Greater}
-use Rattle.std.proofs.lemmas.Bool.{eq-eqb, eqb-true}
-use Rattle.std.proofs.lemmas.List.Sums.{sum_by-cons}
+-- The zone that a text has.
+use Rattle.std.proofs.Common.{◌≡◌, ◌≢◌, ℕ, ◌+◌, List, [], ◌∷◌, length, refl, ap, sym, subst, ◌∙◌, arith, Option, None, Some, IsSome, Result, Ok, Err}
+use Rattle.std.specs.Str.{IsUtf8}
 use Rattle.dns_names.specs.Name.{Labels}
-use Rattle.zone_reading.specs.declared.steps.Update.{Update}
-use Rattle.zone_reading.specs.declared.steps.Update.TheVariants.{AddRecord, Finished}
-use Rattle.zone_records.specs.Folding.{Applies, Records, Zone, checked, empty_zone, first_wrong, folded, folded_one, has}
-use Rattle.zone_records.specs.Records.{is_same, is_soa, record_cmp}
+use Rattle.zone_records.specs.Folding.{Zone, has}
 use Rattle.zone_records.specs.declared.record.ZoneRecord.{ZoneRecord}
-use Rattle.zone_records.specs.declared.zone.ApplyFault.{ApplyFault}
-use Rattle.zone_records.proofs.Comparing.{equal_records}
-use Rattle.zone_records.proofs.Folds.{same_both_ways, with_end}
-use Rattle.zone_records.proofs.Serials.{leads_to}
-use Rattle.zone_text.specs.Saying.{text_says}
-use Rattle.zone_text.specs.Zones.{HasFlaw, IsZoneIn, IsZoneOf, LacksSerial, all_added, serial_among, serial_of}
+use Rattle.zone_text.specs.Saying.{TellsPart, beside, first_says, line_says, text_says, wrong, ◌>>=◌}
+use Rattle.zone_text.specs.Words.{cut_at, pieces_at}
+use Rattle.zone_text.specs.Zones.{HasFlaw, IsZoneIn, SerialFound, end_serial, first_serial, go_on, line_serial, serial_after, serial_from, serial_lines, serial_said}
+use Rattle.zone_text.specs.declared.fault.LinePart.{LinePart}
+use Rattle.zone_text.specs.declared.fault.LinePart.TheVariants as parts
+use Rattle.zone_text.specs.declared.fault.PartFault.{PartFault}
+use Rattle.zone_text.specs.declared.fault.PartFault.TheVariants as faults
+use Rattle.zone_text.specs.declared.zone.Flaw.{Flaw}
 use Rattle.zone_text.specs.declared.zone.Flaw.TheVariants as flaws
-use Rattle.zone_text.specs.declared.zone.Unread.{Unread}
 use Rattle.zone_text.specs.declared.zone.Unread.TheVariants as unread
+use Rattle.zone_text.proofs.Cuts.{pieces_cut, pieces_some, pieces_whole}
+use Rattle.zone_text.proofs.Said.{beside_err, beside_ok}
 
--- ---- the serial
+-- ---- the first line
 
-serial_of_one : (records : List ZoneRecord) → count_by is_soa records ≡ 1 → serial_among records ≡ option_and_then (λ soa. serial_of soa.rdata) (find is_soa records)
-serial_of_one records one = rw (eq-eqb (count_by is_soa records) 1 one) refl
+module _ (apex : Labels) (found : Option ℕ) (text : List ℕ) where
+  pub first_fault : (fault : PartFault) → TellsPart (first_says text) fault → TellsPart (first_serial apex found text) fault
+  first_fault (faults.Wrong part) says = ap (λ (r : Result (ZoneRecord × List ℕ) LinePart). r >>= λ first. serial_after apex found first.0) says
+  first_fault faults.NoMemory says = tt
 
-pub not_one : (records : List ZoneRecord) → count_by is_soa records ≢ 1 → serial_among records ≡ None
-not_one records many = go (count_by is_soa records == 1) refl
+  first_is : (item : ZoneRecord) (behind : List ℕ) → first_says text ≡ Ok (item, behind) → first_serial apex found text ≡ serial_after apex found item
+  first_is item behind says = ap (λ (r : Result (ZoneRecord × List ℕ) LinePart). r >>= λ first. serial_after apex found first.0) says
+
+  pub first_no_soa : (item : ZoneRecord) (behind : List ℕ) (part : LinePart) → first_says text ≡ Ok (item, behind) → Err part ≡ serial_after apex found item → first_serial apex found text ≡ Err part
+  first_no_soa item behind part says is = first_is item behind says ∙ sym is
+
+-- ---- the serial, line by line
+
+serial_piece : (apex : Labels) (line : ℕ) (found : Option ℕ) (first : List ℕ) (pieces : List (List ℕ)) (p : List ℕ) (ps : List (List ℕ)) → pieces ≡ p ∷ ps
+    → serial_lines apex line found (first ∷ pieces) ≡ go_on line (line_serial apex found first) (λ serial. serial_lines apex (line + 1) serial pieces)
+serial_piece apex line found first pieces p ps e =
+    subst (λ (xs : List (List ℕ)). serial_lines apex line found (first ∷ xs) ≡ go_on line (line_serial apex found first) (λ (s : Option ℕ). serial_lines apex (line + 1) s xs)) (sym e) refl
+
+serial_cut : (apex : Labels) (line : ℕ) (found : Option ℕ) (text first behind : List ℕ) → cut_at 10 text ≡ Some (first, behind)
+    → serial_from apex line found text ≡ go_on line (line_serial apex found first) (λ serial. serial_from apex (line + 1) serial behind)
+serial_cut apex line found text first behind cut =
+    let some = pieces_some 10 behind in
+    ap (serial_lines apex line found) (pieces_cut 10 text first behind cut) ∙ serial_piece apex line found first (pieces_at 10 behind) some.0 some.1 some.2
+
+serial_first : (apex : Labels) (line : ℕ) (found : Option ℕ) (text behind : List ℕ) (item : ZoneRecord) → first_says text ≡ Ok (item, behind)
+    → serial_from apex line found text ≡ go_on line (serial_after apex found item) (λ serial. serial_from apex (line + 1) serial behind)
+serial_first apex line found text behind item e = go (cut_at 10 text) refl
   where
-    go : (b : Bool) → (count_by is_soa records == 1) ≡ b → serial_among records ≡ None
-    go true e = absurd (many (eqb-true (count_by is_soa records) 1 e))
-    go false e = rw e refl
+    go : (cut : Option (List ℕ × List ℕ)) → cut_at 10 text ≡ cut → serial_from apex line found text ≡ go_on line (serial_after apex found item) (λ serial. serial_from apex (line + 1) serial behind)
+    go None c = let none : first_says text ≡ Err parts.End = rw c refl in absurd cc
+    go (Some x) c =
+        let here : first_says text ≡ beside x.1 (line_says x.0) = rw c refl in
+        let is = beside_ok (line_says x.0) x.1 behind item (sym here ∙ e) in
+        serial_cut apex line found text x.0 x.1 c
+        ∙ (ap (λ (r : Result ZoneRecord LinePart). go_on line (r >>= λ it. serial_after apex found it) (λ (s : Option ℕ). serial_from apex (line + 1) s x.1)) is.0
+        ∙ ap (λ (t : List ℕ). go_on line (serial_after apex found item) (λ (s : Option ℕ). serial_from apex (line + 1) s t)) is.1)
 
-pub none_found : (records : List ZoneRecord) → count_by is_soa records ≡ 1 → None ≡ find is_soa records → serial_among records ≡ None
-none_found records one none = serial_of_one records one ∙ ap (option_and_then (λ soa. serial_of soa.rdata)) (sym none)
+last_line : (line : ℕ) (found : Option ℕ) (text : List ℕ) → length text ≢ 0 → end_serial line found text ≡ Err (wrong line parts.End)
+last_line line found [] some = absurd (some refl)
+last_line line found (c ∷ text) some = refl
 
-found_serial : (records : List ZoneRecord) (soa : ZoneRecord) → count_by is_soa records ≡ 1 → Some soa ≡ find is_soa records → serial_among records ≡ serial_of soa.rdata
-found_serial records soa one found = serial_of_one records one ∙ ap (option_and_then (λ soa. serial_of soa.rdata)) (sym found)
-
-pub no_serial : (records : List ZoneRecord) (soa : ZoneRecord) → count_by is_soa records ≡ 1 → Some soa ≡ find is_soa records → None ≡ serial_of soa.rdata → serial_among records ≡ None
-no_serial records soa one found none = found_serial records soa one found ∙ sym none
-
-pub one_serial : (records : List ZoneRecord) (soa : ZoneRecord) (serial : ℕ) → count_by is_soa records ≡ 1 → Some soa ≡ find is_soa records → Some serial ≡ serial_of soa.rdata → serial_among records ≡ Some serial
-one_serial records soa serial one found is = found_serial records soa one found ∙ sym is
-
-has_one : (records : List ZoneRecord) (serial : ℕ) → serial_among records ≡ Some serial → count_by is_soa records ≡ 1
-has_one records serial is = go (count_by is_soa records == 1) refl
+no_record : (apex : Labels) (line : ℕ) (found : Option ℕ) (text : List ℕ) (part : LinePart) → length text ≢ 0 → first_says text ≡ Err part → serial_from apex line found text ≡ Err (wrong line part)
+no_record apex line found text part some e = go (cut_at 10 text) refl
   where
-    go : (b : Bool) → (count_by is_soa records == 1) ≡ b → count_by is_soa records ≡ 1
-    go true e = eqb-true (count_by is_soa records) 1 e
-    go false e = let none : serial_among records ≡ None = rw e refl in absurd cc
+    go : (cut : Option (List ℕ × List ℕ)) → cut_at 10 text ≡ cut → serial_from apex line found text ≡ Err (wrong line part)
+    go None c =
+        let none : first_says text ≡ Err parts.End = rw c refl in
+        let same : parts.End ≡ part = cc in
+        ap (serial_lines apex line found) (pieces_whole 10 text c) ∙ (last_line line found text some ∙ ap (λ (p : LinePart). Err (wrong line p)) same)
+    go (Some x) c =
+        let here : first_says text ≡ beside x.1 (line_says x.0) = rw c refl in
+        let bad : line_says x.0 ≡ Err part = beside_err (line_says x.0) x.1 part (sym here ∙ e) in
+        serial_cut apex line found text x.0 x.1 c
+        ∙ ap (λ (r : Result ZoneRecord LinePart). go_on line (r >>= λ it. serial_after apex found it) (λ (s : Option ℕ). serial_from apex (line + 1) s x.1)) bad
 
--- ---- the updates
-
-abbrev Updates : Type 0
-Updates = List (Update ZoneRecord)
-
-pub none_added : (updates : Updates) (items all : List ZoneRecord) → updates ≡ [] → all ≡ items → updates ++ all_added items ≡ all_added all
-none_added updates items all none same = ap (λ (us : Updates). us ++ all_added items) none ∙ ap all_added (sym same)
-
-pub one_added : (updates after : Updates) (left rest all : List ZoneRecord) (item : ZoneRecord) → left ≡ item ∷ rest → after ≡ updates ++ AddRecord item ∷ [] → updates ++ all_added left ≡ all_added all
-    → after ++ all_added rest ≡ all_added all
-one_added updates after left rest all item is more so_far =
-    ap (λ (us : Updates). us ++ all_added rest) more ∙ (append_assoc updates (AddRecord item ∷ []) (all_added rest) ∙ (ap (λ (xs : List ZoneRecord). updates ++ all_added xs) (sym is) ∙ so_far))
-
-pub each_added : (updates after : Updates) (left all : List ZoneRecord) (soa : ZoneRecord) (serial : ℕ) → left ≡ [] → updates ++ all_added left ≡ all_added all → after ≡ updates ++ Finished serial soa ∷ []
-    → after ≡ all_added all ++ Finished serial soa ∷ []
-each_added updates after left all soa serial none so_far more =
-    let whole : updates ≡ all_added all = sym (append-nil updates) ∙ (ap (λ (xs : List ZoneRecord). updates ++ all_added xs) (sym none) ∙ so_far) in
-    more ∙ ap (λ (us : Updates). us ++ Finished serial soa ∷ []) whole
-
-no_wrong : (items : List ZoneRecord) (soa : ZoneRecord) (serial : ℕ) → first_wrong None (all_added items ++ Finished serial soa ∷ []) ≡ None
-no_wrong [] soa serial = refl
-no_wrong (item ∷ items) soa serial = no_wrong items soa serial
-
--- ---- the records
-
-is_equal : (o : Ordering) → is_eq o ≡ true → o ≡ Equal
-is_equal Less e = absurd (cc)
-is_equal Equal e = refl
-is_equal Greater e = absurd (cc)
-
-same_record : (x r : ZoneRecord) → is_same x r ≡ true → x ≡ r
-same_record x r e = equal_records x r (is_equal (record_cmp x r) e)
-
--- records of two types aren't the same
-other_kind : (x r : ZoneRecord) (b c : Bool) → is_soa x ≡ b → is_soa r ≡ c → b ≢ c → is_same x r ≡ false
-other_kind x r b c e f differ = go (is_same x r) refl
+wrong_line : (apex : Labels) (line : ℕ) (found : Option ℕ) (text : List ℕ) (part : LinePart) → length text ≢ 0 → first_serial apex found text ≡ Err part → serial_from apex line found text ≡ Err (wrong line part)
+wrong_line apex line found text part some e = go (first_says text) refl
   where
-    go : (t : Bool) → is_same x r ≡ t → is_same x r ≡ false
-    go true g = absurd (differ (sym e ∙ (ap is_soa (same_record x r g) ∙ f)))
-    go false g = g
+    go : (says : Result (ZoneRecord × List ℕ) LinePart) → first_says text ≡ says → serial_from apex line found text ≡ Err (wrong line part)
+    go (Err other) is =
+        let here : first_serial apex found text ≡ Err other = ap (λ (r : Result (ZoneRecord × List ℕ) LinePart). r >>= λ first. serial_after apex found first.0) is in
+        let same : other ≡ part = cc in
+        no_record apex line found text part some (is ∙ ap (λ (p : LinePart). Err p) same)
+    go (Ok x) is =
+        let bad : serial_after apex found x.0 ≡ Err part = sym (first_is apex found text x.0 x.1 is) ∙ e in
+        serial_first apex line found text x.1 x.0 is ∙ ap (λ (r : Result (Option ℕ) LinePart). go_on line r (λ (s : Option ℕ). serial_from apex (line + 1) s x.1)) bad
 
-added_are : (items : List ZoneRecord) (rs : Records) (r : ZoneRecord) → folded (all_added items) rs r ≡ (has items r || rs r)
-added_are [] rs r = refl
-added_are (x ∷ items) rs r =
-    added_are items (folded_one (AddRecord x) rs) r ∙ (ap (λ (b : Bool). has items r || (b || rs r)) (same_both_ways x r) ∙ turned (has items r) (is_same r x) (rs r))
-  where
-    turned : (a b c : Bool) → (a || (b || c)) ≡ ((b || a) || c)
-    turned true true c = refl
-    turned true false c = refl
-    turned false true c = refl
-    turned false false c = refl
+-- ---- the loop over lines
 
-counted : (x : ZoneRecord) (items : List ZoneRecord) → count_by is_soa (x ∷ items) ≡ cond (is_soa x) 1 0 + count_by is_soa items
-counted x items = sum_by-cons (λ (r : ZoneRecord). cond (is_soa r) 1 0) x items
+pub serial_on : (apex : Labels) (line : ℕ) (found serial : Option ℕ) (item : ZoneRecord) (text behind : List ℕ) (whole : SerialFound) → first_says text ≡ Ok (item, behind) → serial_after apex found item ≡ Ok serial
+    → whole ≡ serial_from apex line found text → whole ≡ serial_from apex (line + 1) serial behind
+serial_on apex line found serial item text behind whole says is so_far =
+    so_far ∙ (serial_first apex line found text behind item says ∙ ap (λ (r : Result (Option ℕ) LinePart). go_on line r (λ (s : Option ℕ). serial_from apex (line + 1) s behind)) is)
 
-counts : (x : ZoneRecord) (items : List ZoneRecord) (b : Bool) → is_soa x ≡ b → count_by is_soa (x ∷ items) ≡ cond b 1 0 + count_by is_soa items
-counts x items b e = counted x items ∙ ap (λ (t : Bool). cond t 1 0 + count_by is_soa items) e
+pub serial_wrong : (apex : Labels) (line : ℕ) (found : Option ℕ) (text : List ℕ) (part : LinePart) (whole : SerialFound) → length text ≢ 0 → first_serial apex found text ≡ Err part
+    → whole ≡ serial_from apex line found text → whole ≡ Err (wrong line part)
+serial_wrong apex line found text part whole some e so_far = so_far ∙ wrong_line apex line found text part some e
 
-no_soa : (items : List ZoneRecord) (r : ZoneRecord) → count_by is_soa items ≡ 0 → is_soa r ≡ true → has items r ≡ false
-no_soa [] r none soa = refl
-no_soa (x ∷ items) r none soa = go (is_soa x) refl (λ fewer. no_soa items r fewer soa)
-  where
-    go : (b : Bool) → is_soa x ≡ b → (count_by is_soa items ≡ 0 → has items r ≡ false) → has (x ∷ items) r ≡ false
-    go true e more =
-        let one : count_by is_soa (x ∷ items) ≡ 1 + count_by is_soa items = counts x items true e in
-        absurd (omega (arith, one, none))
-    go false e more =
-        let rest : count_by is_soa (x ∷ items) ≡ 0 + count_by is_soa items = counts x items false e in
-        let fewer : count_by is_soa items ≡ 0 = omega (arith, rest, none) in
-        let differ : is_same r x ≡ false = other_kind r x true false soa e (λ same. absurd cc) in
-        ap (λ (b : Bool). b || has items r) differ ∙ more fewer
-
-or_false : (b : Bool) → (b || false) ≡ b
-or_false true = refl
-or_false false = refl
-
--- the only SOA is the one that is found
-soa_here : (items : List ZoneRecord) (soa r : ZoneRecord) → count_by is_soa items ≡ 1 → find is_soa items ≡ Some soa → is_soa r ≡ true → has items r ≡ is_same soa r
-soa_here [] soa r one found is = absurd cc
-soa_here (x ∷ items) soa r one found is = go (is_soa x) refl (λ rest there. soa_here items soa r rest there is)
-  where
-    go : (b : Bool) → is_soa x ≡ b → (count_by is_soa items ≡ 1 → find is_soa items ≡ Some soa → has items r ≡ is_same soa r) → has (x ∷ items) r ≡ is_same soa r
-    go true e more =
-        let first : count_by is_soa (x ∷ items) ≡ 1 + count_by is_soa items = counts x items true e in
-        let none : count_by is_soa items ≡ 0 = omega (arith, first, one) in
-        let here : find is_soa (x ∷ items) ≡ Some x = ap (λ (b : Bool). cond b (Some x) (find is_soa items)) e in
-        let both : ◌≡◌ {A = Option ZoneRecord} (Some x) (Some soa) = sym here ∙ found in
-        let same : x ≡ soa = cc in
-        ap (λ (b : Bool). is_same r x || b) (no_soa items r none is) ∙ (or_false (is_same r x) ∙ (sym (same_both_ways x r) ∙ ap (λ (y : ZoneRecord). is_same y r) same))
-    go false e more =
-        let first : count_by is_soa (x ∷ items) ≡ 0 + count_by is_soa items = counts x items false e in
-        let rest : count_by is_soa items ≡ 1 = omega (arith, first, one) in
-        let there : find is_soa (x ∷ items) ≡ find is_soa items = ap (λ (b : Bool). cond b (Some x) (find is_soa items)) e in
-        let differ : is_same r x ≡ false = other_kind r x true false is e (λ same. absurd cc) in
-        ap (λ (b : Bool). b || has items r) differ ∙ more rest (sym there ∙ found)
-
-found_is : (items : List ZoneRecord) (soa : ZoneRecord) → find is_soa items ≡ Some soa → is_soa soa ≡ true
-found_is [] soa found = absurd cc
-found_is (x ∷ items) soa found = go (is_soa x) refl (λ there. found_is items soa there)
-  where
-    go : (b : Bool) → is_soa x ≡ b → (find is_soa items ≡ Some soa → is_soa soa ≡ true) → is_soa soa ≡ true
-    go true e more =
-        let here : find is_soa (x ∷ items) ≡ Some x = ap (λ (b : Bool). cond b (Some x) (find is_soa items)) e in
-        let both : ◌≡◌ {A = Option ZoneRecord} (Some x) (Some soa) = sym here ∙ found in
-        let same : x ≡ soa = cc in
-        ap is_soa (sym same) ∙ e
-    go false e more =
-        let there : find is_soa (x ∷ items) ≡ find is_soa items = ap (λ (b : Bool). cond b (Some x) (find is_soa items)) e in
-        more (sym there ∙ found)
-
--- all records without other SOAs than the one are all records
-soa_stays : (items : List ZoneRecord) (soa r : ZoneRecord) → count_by is_soa items ≡ 1 → find is_soa items ≡ Some soa → (is_same soa r || (not (is_soa r) && (has items r || false))) ≡ has items r
-soa_stays items soa r one found = go (is_soa r) refl
-  where
-    kept : (s h : Bool) → s ≡ false → (s || (h || false)) ≡ h
-    kept true h e = absurd cc
-    kept false true e = refl
-    kept false false e = refl
-
-    alone : (s h : Bool) → h ≡ s → (s || false) ≡ h
-    alone true h e = sym e
-    alone false h e = sym e
-
-    go : (b : Bool) → is_soa r ≡ b → (is_same soa r || (not (is_soa r) && (has items r || false))) ≡ has items r
-    go true e =
-        ap (λ (b : Bool). is_same soa r || (not b && (has items r || false))) e ∙ alone (is_same soa r) (has items r) (soa_here items soa r one found e)
-    go false e =
-        let differ : is_same soa r ≡ false = other_kind soa r true false (found_is items soa found) e (λ same. absurd cc) in
-        ap (λ (b : Bool). is_same soa r || (not b && (has items r || false))) e ∙ kept (is_same soa r) (has items r) differ
+pub serial_last : (apex : Labels) (line : ℕ) (found : Option ℕ) (text : List ℕ) (whole : SerialFound) → length text ≡ 0 → whole ≡ serial_from apex line found text → whole ≡ Ok found
+serial_last apex line found [] whole none so_far = so_far
+serial_last apex line found (c ∷ text) whole none so_far = absurd (omega arith)
 
 -- ---- the zone
 
-some_same : (m n : ℕ) → ◌≡◌ {A = Result ℕ ApplyFault} (Ok m) (Ok n) → m ≡ n
-some_same m n e = cc
+some_is : (o : Option ℕ) (n : ℕ) → o ≡ Some n → IsSome o
+some_is o n is = subst IsSome (sym is) refl
 
-pub is_zone : (apex : Labels) (records : List ZoneRecord) (soa : ZoneRecord) (serial count : ℕ) (updates : Updates) (old new : Zone) → find is_soa records ≡ Some soa → serial_among records ≡ Some serial
-    → updates ≡ all_added records ++ Finished serial soa ∷ [] → old ≡ empty_zone apex → Applies old updates new count → IsZoneOf apex records new
-is_zone apex records soa serial count updates old new found is_serial are empty applies = record {
-  has_apex = applies.apex ∙ ap (λ (z : Zone). z.apex) empty;
-  holds = λ r.
-      applies.records r
-      ∙ (ap (λ (z : Zone). folded updates (has z.records) r) empty
-      ∙ (ap (λ (us : Updates). folded us (has []) r) are
-      ∙ (ap (λ (rs : Records). rs r) (with_end (all_added records) serial soa (has []))
-      ∙ (ap (λ (b : Bool). is_same soa r || (not (is_soa r) && b)) (added_are records (has []) r) ∙ soa_stays records soa r (has_one records serial is_serial) found))));
-  serial = applies.has_serial ∙ (ap (λ (n : ℕ). Some n) same ∙ sym is_serial);
-  has_serial = subst (λ (o : Option ℕ). IsSome o) (sym applies.has_serial) some;
+pub is_zone : (text : List ℕ) (apex : Labels) (records : List ZoneRecord) (zone : Zone) (serial : ℕ) → IsUtf8 text → text_says text ≡ Ok records → serial_said apex text ≡ Ok (Some serial) → zone.apex ≡ apex → zone.serial ≡ Some serial
+    → ((r : ZoneRecord) → has zone.records r ≡ has records r) → IsZoneIn text apex zone
+is_zone text apex records zone serial is_text says is named numbered holds = record {
+  is_text = is_text;
+  records = records;
+  says = says;
+  holds = holds;
+  has_apex = named;
+  serial = is ∙ ap (λ (o : Option ℕ). Ok o) (sym numbered);
+  has_serial = some_is zone.serial serial numbered;
 }
-  where
-    none : first_wrong None updates ≡ None
-    none = ap (first_wrong None) are ∙ no_wrong records soa serial
 
-    leads : checked None updates ≡ Ok serial
-    leads = leads_to None updates (all_added records) serial soa none are
+unnumbered : (o : Option ℕ) → IsSome o → ◌≡◌ {A = SerialFound} (Ok None) (Ok o) → ⊥
+unnumbered None some e = cc
+unnumbered (Some n) some e = cc
 
-    same : applies.serial ≡ serial
-    same = some_same applies.serial serial (sym applies.leads ∙ (ap (λ (z : Zone). checked z.serial updates) empty ∙ leads))
-
-    some : IsSome (Some applies.serial)
-    some = refl
-
-pub zone_is_in : (text : List ℕ) (apex : Labels) (records : List ZoneRecord) (zone : Zone) → text_says text ≡ Ok records → IsZoneOf apex records zone → IsZoneIn text apex zone
-zone_is_in text apex records zone says is = record { records = records; says = says; is_zone = is }
-
-pub lacks_serial : (text : List ℕ) (records : List ZoneRecord) (why : Unread) → text_says text ≡ Ok records → LacksSerial records why → HasFlaw text why
-lacks_serial text records (unread.NoZone flaws.Text) says lacks = absurd lacks
-lacks_serial text records (unread.NoZone (flaws.Line at)) says lacks = absurd lacks
-lacks_serial text records (unread.NoZone flaws.Soa) says lacks = (records, says, lacks)
-lacks_serial text records unread.NoMemory says lacks = tt
+-- no text has a zone and a flaw
+pub no_zone : (text : List ℕ) (apex : Labels) (flaw : Flaw) (zone : Zone) → HasFlaw text apex (unread.NoZone flaw) → IsZoneIn text apex zone → ⊥
+no_zone text apex flaws.Text zone flawed is = flawed is.is_text
+no_zone text apex (flaws.Line at) zone flawed is = let both : ◌≡◌ {A = SerialFound} (Err at) (Ok zone.serial) = sym flawed ∙ is.serial in cc
+no_zone text apex flaws.Soa zone flawed is = unnumbered zone.serial is.has_serial (sym flawed ∙ is.serial)

@@ -3,10 +3,14 @@ use Rattle.std.specs.Prelude.{◌≡◌, ◌<◌, ◌^◌, ℕ, List, map, Ok}
 use Rattle.std.specs.Char.{to_ascii_lowercase}
 use Rattle.std.specs.List.{AllByRecursion}
 use Rattle.dns_names.specs.Name.{AreOctets, IsLegal, Labels, spelling}
+use Rattle.zone_records.specs.Folding.{Zone}
 use Rattle.zone_records.specs.declared.record.ZoneRecord.{ZoneRecord}
 use Rattle.zone_text.specs.Lines.{IsText}
 use Rattle.zone_text.specs.Numbers.{numbers_text}
 use Rattle.zone_text.specs.Saying.{text_says}
+use Rattle.zone_text.specs.Zones.{HasFlaw, IsZoneIn}
+use Rattle.zone_text.specs.declared.zone.Flaw.{Flaw}
+use Rattle.zone_text.specs.declared.zone.Unread.TheVariants.{NoZone}
 
 -- A record whose owner is a name in lower case, as each is that comes of a message, and whose numbers and octets are such.
 pub record IsWritable (item : ZoneRecord) : Type 0 where
@@ -25,3 +29,7 @@ ReadBackLaw = (records : List ZoneRecord) (text : List ℕ) → AllByRecursion I
 
 abbrev pub NumbersBackLaw : Type 0
 NumbersBackLaw = (records : List ZoneRecord) → AllByRecursion IsWritable records → text_says (numbers_text records) ≡ Ok records
+
+-- No text that has a flaw has a zone.
+abbrev pub FlawLaw : Type 0
+FlawLaw = (text : List ℕ) (apex : Labels) (flaw : Flaw) (zone : Zone) → HasFlaw text apex (NoZone flaw) → ¬ (IsZoneIn text apex zone)

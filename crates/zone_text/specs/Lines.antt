@@ -38,10 +38,11 @@ unfoldable pub read_text : List ℕ → Option Known → Option (List ℕ)
 read_text rdata None = Some (generic_text rdata)
 read_text rdata (Some known) = known_text known
 
--- Types for which not each name server has a name stand by number, and their data is generic: MD, MF, MB, MG, MR, NULL, WKS, RT, SIG, PX and
--- NXT.
+-- Types that not each name server reads stand by number, and their data is generic: MD, MF, MB, MG, MR, NULL, WKS, X25, ISDN, RT, NSAP, SIG, PX,
+-- GPOS and NXT.
 abbrev pub is_rare : ℕ → Bool
-is_rare rtype = rtype == 3 || rtype == 4 || (nat_le 7 rtype && nat_le rtype 11) || rtype == 21 || rtype == 24 || rtype == 26 || rtype == 30
+is_rare rtype =
+    rtype == 3 || rtype == 4 || (nat_le 7 rtype && nat_le rtype 11) || (nat_le 19 rtype && nat_le rtype 22) || rtype == 24 || rtype == 26 || rtype == 27 || rtype == 30
 
 abbrev pub type_word : ℕ → List ℕ
 type_word rtype = if is_rare rtype then codes "TYPE" ++ decimal rtype else type_text rtype

@@ -152,6 +152,6 @@ abbrev pub TellsPart : {A : Type 0} → Result A LinePart → PartFault → Type
 TellsPart said (faults.Wrong part) = said ≡ Err part
 TellsPart said faults.NoMemory = Unit {0}
 
-abbrev pub TellsFault : Said → TextFault → Type 0
+abbrev pub TellsFault : {A : Type 0} → Result A WrongLine → TextFault → Type 0
 TellsFault said (texts.Wrong at) = said ≡ Err at
 TellsFault said texts.NoMemory = Unit {0}

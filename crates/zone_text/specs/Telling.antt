@@ -13,8 +13,11 @@ part_text parts.Ttl = codes "the TTL is no number of 32 bits"
 part_text parts.Class = codes "the class has no such name, and is no number of 16 bits"
 part_text parts.«Type» = codes "the type has no such name, and is no number of 16 bits"
 part_text parts.Data = codes "the data is not in pairs of hexadecimal digits"
+part_text parts.Apex = codes "an SOA of another zone"
+part_text parts.SecondSoa = codes "a second SOA"
+part_text parts.Serial = codes "an SOA without a serial"
 
 abbrev pub flaw_text : Flaw → List ℕ
 flaw_text flaws.Text = codes "the file is no text"
-flaw_text flaws.Soa = codes "no SOA with a serial, or more than one SOA"
+flaw_text flaws.Soa = codes "no SOA"
 flaw_text (flaws.Line at) = codes "line " ++ decimal at.line ++ codes ": " ++ part_text at.part

@@ -3,7 +3,6 @@
 ghost use Rattle.std.specs.Prelude.{◌≡◌};
 ghost use Rattle.zone_text.specs.Saying.{wrong};
 ghost use Rattle.zone_text.specs.declared.fault.PartFault.TheVariants as faults;
-ghost use Rattle.zone_text.specs.declared.fault.TextFault.TheVariants as texts;
 
 use dns_base::NoMemory;
 
@@ -24,9 +23,15 @@ pub enum LinePart {
     Type,
     /// The data is not in pairs of hexadecimal digits.
     Data,
+    /// It is an SOA of another zone.
+    Apex,
+    /// It is an SOA, and not the first.
+    SecondSoa,
+    /// It is an SOA whose data is too short for a serial.
+    Serial,
 }
 
-/// A line that is no record.
+/// A line that is no record, or an SOA that is not the zone's.
 #[derive(Clone, Copy, Debug, PartialEq, Eq)]
 pub struct WrongLine {
     /// Its number, counted from 1.
@@ -34,19 +39,11 @@ pub struct WrongLine {
     pub part: LinePart,
 }
 
-/// Why the records of a text are not read.
-#[derive(Clone, Copy, Debug, PartialEq, Eq)]
-pub enum TextFault {
+/// Why the lines of a text are not read.
+#[derive(Clone, Copy)]
+pub(crate) enum TextFault {
     Wrong(WrongLine),
     NoMemory,
-}
-
-impl From<NoMemory> for TextFault {
-    ghost from_gives = { λ _ e. e ≡ texts.NoMemory };
-
-    fn from(_e: NoMemory) -> TextFault {
-        TextFault::NoMemory
-    }
 }
 
 /// Why a part of a line is not read.

@@ -1,6 +1,6 @@
 //! What holds of texts.
 
-ghost use Rattle.zone_text.specs.Laws.{NumbersBackLaw, ReadBackLaw};
+ghost use Rattle.zone_text.specs.Laws.{FlawLaw, NumbersBackLaw, ReadBackLaw};
 
 /// The text of records says these records, in their order.
 pub fn read_back_law()
@@ -10,4 +10,9 @@ pub fn read_back_law()
 /// Lines of records in numbers and hexadecimal digits say these records, in their order.
 pub fn numbers_back_law()
     ensures { NumbersBackLaw }
+{}
+
+/// No octets of which a flaw is told have a zone.
+pub fn flaw_law()
+    ensures { FlawLaw }
 {}

@@ -10,14 +10,17 @@
 //! ```
 //! - `write_text`: `Writes`: a line for each record, in the form that `dns_presentation` prints or by RFC 3597, with
 //!   its data in hexadecimal digits in a comment; where the sink fails, the first octets of that (`WritesFront`).
-//! - `records_of`, `zone_of`: exactly what the text says (`text_says`, `IsZoneIn`), or the first line that is none and
-//!   what is wrong with it (`HasFlaw`).
-//! - `read_back_law`, `numbers_back_law`: what either form prints is read back as those records.
+//! - `zone_of`: the zone of the records that the text says (`text_says`) and of the serial of their one SOA, which is the
+//!   apex's (`IsZoneIn`); or why there is none (`HasFlaw`): the octets are no text, or no record is an SOA, or the first line
+//!   that is wrong, and how: it is no record, or an SOA of another zone, a second one, or one without a serial.
+//! - `read_back_law`, `numbers_back_law`, `flaw_law`: what either form prints is read back as those records; no text of
+//!   which a flaw is told has a zone.
 //!
 //! # Why it is so
 //!
 //! - **Each record's data is said twice**, in its form and in hexadecimal digits behind the last semicolon, of which
-//!   just the second is read back: so no form needs a reader. Lines may stand in any order, and there is one SOA.
+//!   just the second is read back: so no form needs a reader.
+//! - **Lines may stand in any order**, since a zone is made of records in any, and in theirs by one walk.
 #![tactic(auto)]
 
 mod cutting;
@@ -30,8 +33,7 @@ mod shown;
 mod telling;
 mod zone;
 
-pub use fault::{LinePart, TextFault, WrongLine};
-pub use laws::{numbers_back_law, read_back_law};
+pub use fault::{LinePart, WrongLine};
+pub use laws::{flaw_law, numbers_back_law, read_back_law};
 pub use lines::write_text;
-pub use reading::records_of;
 pub use zone::{Flaw, Unread, zone_of};

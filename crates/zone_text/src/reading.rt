@@ -1,13 +1,13 @@
-//! The records that a text says.
+//! The record that a line says.
 
 ghost use Rattle.std.specs.Prelude.{◌≡◌, ◌≤◌, ◌<◌, ◌≢◌, None, Some, Ok, Err, length, IfErr, IfOk, IfSome, MatchResult};
 ghost use Rattle.dns_values.specs.Decimal.{decimal_number};
 ghost use Rattle.zone_text.specs.Words.{behind_last, cut_at};
-ghost use Rattle.zone_text.specs.Saying.{Tells, TellsFault, TellsOctets, TellsPart, digits_say, class_says, cut_word, data_says, first_says, line_says, owner_says, record_says, text_says, ttl_says, type_says, word_says, comment_says, or_wrong};
+ghost use Rattle.zone_text.specs.Saying.{Tells, TellsOctets, TellsPart, digits_say, class_says, cut_word, data_says, first_says, line_says, owner_says, record_says, ttl_says, type_says, word_says, comment_says, or_wrong};
 
 use crate::cutting::{behind_last, cut_at};
 use crate::digits::octets_of;
-use crate::fault::{LinePart, PartFault, TextFault, WrongLine};
+use crate::fault::{LinePart, PartFault};
 use dns_base::{Class, Name, NameFault, NoMemory, Rtype, Ttl};
 use dns_values::decimal_number;
 use std::alloc::Global;
@@ -152,7 +152,7 @@ fn line_says(alloc: Global, line: &str) -> Result<ZoneRecord, PartFault>
 
 /// The record of the line that begins a text, and what stands behind the line.
 #[tactic(auto, using(crate::proofs::Cuts::cut_shorter))]
-fn first_says(alloc: Global, text: &str) -> Result<(ZoneRecord, &str), PartFault>
+pub(crate) fn first_says(alloc: Global, text: &str) -> Result<(ZoneRecord, &str), PartFault>
     ensures read { IfOk result (λ x. first_says text.now ≡ Ok (x.0, x.1.now)) }
     ensures wrong { IfErr result (λ e. TellsPart (first_says text.now) e) }
     ensures shorter { IfOk result (λ x. length x.1.now < length text.now) }
@@ -164,29 +164,4 @@ fn first_says(alloc: Global, text: &str) -> Result<(ZoneRecord, &str), PartFault
         Ok(item) => Ok((item, behind)),
         Err(fault) => Err(fault),
     }
-}
-
-/// The records of a text in order, or its first line that is no record.
-#[tactic(auto, using(crate::proofs::Said::no_records, crate::proofs::Said::record_more, crate::proofs::Said::line_wrong, crate::proofs::Said::all_said))]
-pub fn records_of(alloc: Global, text: &str) -> Result<Vec<ZoneRecord>, TextFault>
-    ensures read { IfOk result (λ records. text_says text.now ≡ Ok records.items) }
-    ensures wrong { IfErr result (TellsFault (text_says text.now)) }
-{
-    let mut records = Vec::new(alloc);
-    let mut rest = text;
-    let mut line = 1;
-    while !rest.is_empty() {
-        match first_says(alloc, rest) {
-            Ok((item, behind)) => {
-                if records.push(item).is_err() {
-                    return Err(TextFault::NoMemory);
-                }
-                rest = behind;
-                line += 1;
-            }
-            Err(PartFault::Wrong(part)) => return Err(TextFault::Wrong(WrongLine { line, part })),
-            Err(PartFault::NoMemory) => return Err(TextFault::NoMemory),
-        }
-    }
-    Ok(records)
 }

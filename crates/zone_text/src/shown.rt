@@ -43,11 +43,11 @@ fn generic_data(alloc: Global, item: &ZoneRecord) -> Result<String, NoMemory>
     Ok(format!(in alloc; "{}", Generic(item.rdata.as_slice()))?)
 }
 
-/// Whether a type is one for which not each name server has a name.
+/// Whether a type is one that not each name server reads.
 pub(crate) fn is_rare(rtype: Rtype) -> bool
     ensures { result ≡ is_rare rtype.0 }
 {
-    matches!(rtype.0, 3 | 4 | 7..=11 | 21 | 24 | 26 | 30)
+    matches!(rtype.0, 3 | 4 | 7..=11 | 19..=22 | 24 | 26 | 27 | 30)
 }
 
 /// The first record of the answer section.

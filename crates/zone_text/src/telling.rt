@@ -18,6 +18,9 @@ fn part_text(part: LinePart) -> &'static str
         LinePart::Class => "the class has no such name, and is no number of 16 bits",
         LinePart::Type => "the type has no such name, and is no number of 16 bits",
         LinePart::Data => "the data is not in pairs of hexadecimal digits",
+        LinePart::Apex => "an SOA of another zone",
+        LinePart::SecondSoa => "a second SOA",
+        LinePart::Serial => "an SOA without a serial",
     }
 }
 
@@ -28,7 +31,7 @@ impl Display for Flaw {
     fn fmt<W: fmt::Write>(&self, f: &mut fmt::Formatter<W>) -> fmt::Result {
         match self {
             Flaw::Text => f.write_str("the file is no text"),
-            Flaw::Soa => f.write_str("no SOA with a serial, or more than one SOA"),
+            Flaw::Soa => f.write_str("no SOA"),
             Flaw::Line(at) => {
                 let line = at.line;
                 let wrong = part_text(at.part);

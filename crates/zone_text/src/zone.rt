@@ -1,26 +1,24 @@
 //! The zone that a text has.
 
-ghost use Rattle.std.specs.Prelude.{◌≡◌, ◌++◌, [], ◌∷◌, count_by, find, None, Some, IfErr, IfOk, MatchOption};
-ghost use Rattle.std.specs.Option.{option_copied};
-ghost use Rattle.zone_reading.specs.declared.steps.Update.TheVariants.{Finished};
-ghost use Rattle.zone_records.specs.Records.{is_soa};
-ghost use Rattle.zone_text.specs.Zones.{HasFlaw, IsZoneIn, IsZoneOf, LacksSerial, all_added, serial_among, serial_of};
+ghost use Rattle.std.specs.Prelude.{◌≡◌, ◌<◌, Ok, length, IfErr, IfOk};
+ghost use Rattle.zone_text.specs.Saying.{TellsFault, TellsPart, first_says, text_says};
+ghost use Rattle.zone_text.specs.Zones.{HasFlaw, IsZoneIn, first_serial, is_at, own_soa_says, serial_after, serial_of, serial_said, soa_says};
 
-use crate::fault::{TextFault, WrongLine};
-use crate::reading::records_of;
-use dns_base::{Name, NoMemory};
+use crate::fault::{LinePart, PartFault, TextFault, WrongLine};
+use crate::reading::first_says;
+use dns_base::{Name, ParsedName, Serial, ToName, is_same_name};
 use std::alloc::Global;
 use std::str;
-use zone_records::{Update, Zone, ZoneRecord};
+use zone_records::{Zone, ZoneRecord};
 
 /// Why octets have no zone.
 #[derive(Clone, Copy, Debug, PartialEq, Eq)]
 pub enum Flaw {
     /// They are no text in UTF-8.
     Text,
-    /// A line is no record.
+    /// A line is no record, or an SOA that is not the zone's one.
     Line(WrongLine),
-    /// Not one record alone is an SOA, or it has no serial.
+    /// No record is an SOA.
     Soa,
 }
 
@@ -31,16 +29,6 @@ pub enum Unread {
     NoMemory,
 }
 
-impl From<NoMemory> for Unread {
-    ghost use Rattle.zone_text.specs.declared.zone.Unread.{Unread};
-
-    ghost from_gives = { λ _ e. e ≡ Unread.NoMemory };
-
-    fn from(_e: NoMemory) -> Unread {
-        Unread::NoMemory
-    }
-}
-
 /// The serial in the data of an SOA without compression, which 16 octets follow (RFC 1035 3.3.13).
 fn serial_of(rdata: &[u8]) -> Option<u32>
     ensures { result ≡ serial_of rdata.now }
@@ -49,110 +37,124 @@ fn serial_of(rdata: &[u8]) -> Option<u32>
     Some(u32::from_be_bytes([rdata[at], rdata[at + 1], rdata[at + 2], rdata[at + 3]]))
 }
 
-/// How many records are SOAs.
-fn soa_count(records: &[ZoneRecord]) -> usize
-    ensures { result ≡ count_by is_soa records.now }
+/// Whether a record's owner is this name.
+fn is_at(apex: &Name, item: &ZoneRecord) -> bool
+    ensures { result ≡ is_at apex.now item.now }
 {
-    let mut count = 0;
-    for item in records {
-        if item.is_soa() {
-            count += 1;
+    match ParsedName::parse(item.owner.as_slice(), 0) {
+        Some((owner, _)) => is_same_name(&owner, &apex.parsed()),
+        None => false,
+    }
+}
+
+/// The serial of an SOA, which is to be the apex's.
+fn own_soa_says(apex: &Name, soa: &ZoneRecord) -> Result<u32, LinePart>
+    ensures { result ≡ own_soa_says apex.now soa.now }
+{
+    if !is_at(apex, soa) {
+        return Err(LinePart::Apex);
+    }
+    match serial_of(soa.rdata.as_slice()) {
+        Some(serial) => Ok(serial),
+        None => Err(LinePart::Serial),
+    }
+}
+
+/// The serial of an SOA, which is to be the first: one of this serial stands before it, or none.
+fn soa_says(apex: &Name, found: Option<u32>, soa: &ZoneRecord) -> Result<u32, LinePart>
+    ensures { result ≡ soa_says apex.now found soa.now }
+{
+    match found {
+        Some(_) => Err(LinePart::SecondSoa),
+        None => own_soa_says(apex, soa),
+    }
+}
+
+/// The serial of the zone as far as a record, where it is this one before that, or none.
+fn serial_after(apex: &Name, found: Option<u32>, item: &ZoneRecord) -> Result<Option<u32>, LinePart>
+    ensures { result ≡ serial_after apex.now found item.now }
+{
+    if !item.is_soa() {
+        return Ok(found);
+    }
+    match soa_says(apex, found, item) {
+        Ok(serial) => Ok(Some(serial)),
+        Err(part) => Err(part),
+    }
+}
+
+/// The record of the line that begins a text, the serial of the zone as far as that line, and what stands behind it.
+#[tactic(auto, using(crate::proofs::Zones::first_fault, crate::proofs::Zones::first_no_soa))]
+fn first_in<'a>(
+    alloc: Global,
+    apex: &Name,
+    found: Option<u32>,
+    text: &'a str,
+) -> Result<(ZoneRecord, Option<u32>, &'a str), PartFault>
+    ensures record { IfOk result (λ x. first_says text.now ≡ Ok (x.0, x.2.now)) }
+    ensures serial { IfOk result (λ x. serial_after apex.now found x.0 ≡ Ok x.1) }
+    ensures wrong { IfErr result (TellsPart (first_serial apex.now found text.now)) }
+    ensures shorter { IfOk result (λ x. length x.2.now < length text.now) }
+{
+    let (item, behind) = match first_says(alloc, text) {
+        Ok(first) => first,
+        Err(fault) => return Err(fault),
+    };
+    match serial_after(apex, found, &item) {
+        Ok(serial) => Ok((item, serial, behind)),
+        Err(part) => Err(PartFault::Wrong(part)),
+    }
+}
+
+/// The records of the lines of a text in order, and the serial of the zone, if they have its SOA; or the first line that is wrong.
+#[tactic(auto, using(crate::proofs::Said::no_records, crate::proofs::Said::record_more, crate::proofs::Said::all_said, crate::proofs::Zones::serial_on, crate::proofs::Zones::serial_wrong, crate::proofs::Zones::serial_last))]
+fn lines_of(
+    alloc: Global,
+    apex: &Name,
+    text: &str,
+) -> Result<(Vec<ZoneRecord>, Option<u32>), TextFault>
+    ensures records { IfOk result (λ x. text_says text.now ≡ Ok x.0.items) }
+    ensures serial { IfOk result (λ x. serial_said apex.now text.now ≡ Ok x.1) }
+    ensures wrong { IfErr result (TellsFault (serial_said apex.now text.now)) }
+{
+    let mut records = Vec::new(alloc);
+    let mut found = None;
+    let mut rest = text;
+    let mut line = 1;
+    while !rest.is_empty() {
+        match first_in(alloc, apex, found, rest) {
+            Ok((item, serial, behind)) => {
+                if records.push(item).is_err() {
+                    return Err(TextFault::NoMemory);
+                }
+                found = serial;
+                rest = behind;
+                line += 1;
+            }
+            Err(PartFault::Wrong(part)) => return Err(TextFault::Wrong(WrongLine { line, part })),
+            Err(PartFault::NoMemory) => return Err(TextFault::NoMemory),
         }
     }
-    count
+    Ok((records, found))
 }
 
-/// The first SOA among records.
-fn soa_among(records: &[ZoneRecord]) -> Option<&ZoneRecord>
-    ensures { option_copied result ≡ find is_soa records.now }
-{
-    records.iter().find(|item| item.is_soa())
-}
-
-/// The SOA that is one alone among records, and its serial.
-#[tactic(auto, using(crate::proofs::Zones::not_one, crate::proofs::Zones::none_found, crate::proofs::Zones::no_serial, crate::proofs::Zones::one_serial))]
-fn soa_of(records: &[ZoneRecord]) -> Option<(&ZoneRecord, u32)>
-    ensures { MatchOption result (serial_among records.now ≡ None) (λ x. (find is_soa records.now ≡ Some x.0.now) × (serial_among records.now ≡ Some x.1)) }
-{
-    if soa_count(records) != 1 {
-        return None;
-    }
-    let Some(soa) = soa_among(records) else {
-        return None;
-    };
-    let Some(serial) = serial_of(soa.rdata.as_slice()) else {
-        return None;
-    };
-    Some((soa, serial))
-}
-
-/// The updates that add records to an empty zone, and end it by an SOA and its serial.
-#[tactic(auto, using(crate::proofs::Zones::none_added, crate::proofs::Zones::one_added, crate::proofs::Zones::each_added))]
-fn updates_of(
-    alloc: Global,
-    records: Vec<ZoneRecord>,
-    soa: ZoneRecord,
-    serial: u32,
-) -> Result<Vec<Update>, NoMemory>
-    ensures { IfOk result (λ us. us.items ≡ all_added records.items ++ Finished serial soa ∷ []) }
-{
-    let mut updates = Vec::new(alloc);
-    for item in records {
-        updates.push(Update::AddRecord(item))?;
-    }
-    updates.push(Update::Finished { serial, soa })?;
-    Ok(updates)
-}
-
-/// The zone of records, of which one alone is an SOA, with this serial.
+/// The zone with this apex that octets have, as it was printed: in the form that name servers load, or in numbers and hexadecimal
+/// digits. Its lines may stand in any order.
 #[tactic(auto, using(crate::proofs::Zones::is_zone))]
-fn zone_with(
-    alloc: Global,
-    apex: Name,
-    records: Vec<ZoneRecord>,
-    soa: ZoneRecord,
-    serial: u32,
-) -> Result<Zone, NoMemory>
-    requires found { find is_soa records.items ≡ Some soa }
-    requires has_serial { serial_among records.items ≡ Some serial }
-    ensures { IfOk result (IsZoneOf apex records.items) }
-{
-    let updates = updates_of(alloc, records, soa, serial)?;
-    let mut zone = Zone::empty(alloc, apex);
-    match zone.apply(updates) {
-        Ok(_) => Ok(zone),
-        Err(_) => Err(NoMemory),
-    }
-}
-
-/// The zone of the records of a text.
-fn zone_from(alloc: Global, records: Vec<ZoneRecord>, apex: Name) -> Result<Zone, Unread>
-    ensures zone { IfOk result (IsZoneOf apex records.items) }
-    ensures flaw { IfErr result (LacksSerial records.items) }
-{
-    let Some((soa, serial)) = soa_of(records.as_slice()) else {
-        return Err(Unread::NoZone(Flaw::Soa));
-    };
-    let soa = soa.try_clone(alloc)?;
-    match zone_with(alloc, apex, records, soa, serial) {
-        Ok(zone) => Ok(zone),
-        Err(NoMemory) => Err(Unread::NoMemory),
-    }
-}
-
-/// The zone that octets have, as it was printed: in the form that name servers load, or in numbers and hexadecimal digits.
-#[tactic(auto, using(crate::proofs::Zones::zone_is_in, crate::proofs::Zones::lacks_serial))]
 pub fn zone_of(alloc: Global, octets: &[u8], apex: Name) -> Result<Zone, Unread>
     ensures zone { IfOk result (IsZoneIn octets.now apex) }
-    ensures flaw { IfErr result (HasFlaw octets.now) }
+    ensures flaw { IfErr result (HasFlaw octets.now apex) }
 {
     let Ok(text) = str::from_utf8(octets) else {
         return Err(Unread::NoZone(Flaw::Text));
     };
-    let records = match records_of(alloc, text) {
-        Ok(records) => records,
+    let (records, found) = match lines_of(alloc, &apex, text) {
+        Ok(lines) => lines,
         Err(TextFault::Wrong(at)) => return Err(Unread::NoZone(Flaw::Line(at))),
         Err(TextFault::NoMemory) => return Err(Unread::NoMemory),
     };
-    zone_from(alloc, records, apex)
+    match found {
+        Some(serial) => Ok(Zone::of_records(alloc, apex, Some(Serial(serial)), records)),
+        None => Err(Unread::NoZone(Flaw::Soa)),
+    }
 }

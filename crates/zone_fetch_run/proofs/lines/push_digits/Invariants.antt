@@ -1,7 +1,7 @@
 -- the digits of the octets before the index have been added
 use Rattle.std.proofs.Common.{◌≡◌, ◌++◌, take}
 use Rattle.std.specs.List.{flat_map}
-use Rattle.zone_fetch_run.specs.Lines.{octet_digits}
+use Rattle.zone_text.specs.Numbers.{octet_digits}
 use Rattle.zone_fetch_run.proofs.lines.push_digits.Given as goal
 
 abbrev pub invariant-loop-octet : goal.invariant-loop-octet

@@ -7,7 +7,7 @@ use Rattle.zone_fetch_run.proofs.run.fetch_to.Goals as goal
 
 pub returns-in-Err-Refused-clause-ends : goal.returns-in-Err-Refused-clause-ends
 returns-in-Err-Refused-clause-ends g c =
-    ended_refused c.args.words.now (g.O.OpenFile.files c.args.world.now.opener) (g.W.Words.stream c.args.world.now.random)
+    ended_refused c.args.words.now (g.O.OpenFile.files c.args.world.now.opener) (g.W.Words.stream c.args.world.now.means.random)
     (TellsBySentence c.args.words.now (sight g.K.Sink.held g.K.Sink.flushed g.K.Sink.faults g.F.Replacing.placed g.F.Replacing.faults g.L.Sink.held g.L.Sink.faults (c.args.sink.now, c.args.world.now.files, c.args.errors.now))
     (sight g.K.Sink.held g.K.Sink.flushed g.K.Sink.faults g.F.Replacing.placed g.F.Replacing.faults g.L.Sink.held g.L.Sink.faults (c.args.sink.now, c.args.world.now.files, c.tell_refusal.new.errors))) c.tell_refusal.result.0 _ _ _ _
     c.in-Err-Refused.refusal (rw c.in-Err-Refused.field-0-is at c.in-Err-Refused.ensures) c.tell_refusal.ensures.status (λ two. (refl, refl, c.tell_refusal.ensures.said two)) (refl, refl)
@@ -23,7 +23,7 @@ returns-in_default-clause-ends g c = is_out c.in-Ok.command c.in-Ok.ensures c.te
 
 pub returns-in-Ok-asked-clause-ends : goal.returns-in-Ok-asked-clause-ends
 returns-in-Ok-asked-clause-ends g c =
-    ended_written c.args.words.now (g.O.OpenFile.files c.args.world.now.opener) (g.W.Words.stream c.args.world.now.random)
+    ended_written c.args.words.now (g.O.OpenFile.files c.args.world.now.opener) (g.W.Words.stream c.args.world.now.means.random)
     (TellsBySentence c.args.words.now (sight g.K.Sink.held g.K.Sink.flushed g.K.Sink.faults g.F.Replacing.placed g.F.Replacing.faults g.L.Sink.held g.L.Sink.faults (c.args.sink.now, c.args.world.now.files, c.args.errors.now))
     (sight g.K.Sink.held g.K.Sink.flushed g.K.Sink.faults g.F.Replacing.placed g.F.Replacing.faults g.L.Sink.held g.L.Sink.faults (c.put_zone-status.new.sink, c.put_zone-status.new.files, c.tell_written.new.errors))) c.tell_written.result.0 _ _ _ _
     c.in-Ok.command c.zone_asked-detour.result.0 c.in-Ok-asked.zone c.in-Ok.ensures (zone_there _ _ _ _ _ _ _ _ c.zone_asked-detour.result.1 c.in-Ok-asked.zone c.in-Ok-asked.is c.zone_asked-detour.ensures.zone)
@@ -38,7 +38,7 @@ returns-in-Ok-asked-clause-ends g c =
       record { mid = g.L.Sink.held c.tell_detour.new.errors; faults_mid = g.L.Sink.faults c.tell_detour.new.errors; first_told = c.in-Ok-tell_detour.ensures.told; second_told = c.tell_written.ensures.said four },
     ))
     (λ six. (
-      spared_of c.in-Ok.command.output _ _ _ c.put_zone-status.ensures.part,
+      spared_of c.in-Ok.command.output _ _ _ _ c.put_zone-status.ensures.part,
       told_unless c.tell_written.result c.put_zone-status.result _ c.tell_written.ensures.status c.put_zone-status.ensures.kept (no_zero_at_six c.tell_written.result.0 six),
     ))
     (written_statuses c.tell_written.result c.put_zone-status.result c.tell_written.ensures.status c.put_zone-status.ensures.others)
@@ -57,7 +57,7 @@ returns-in-Ok-asked-clause-handed_on g c no_zero no_six =
 
 pub returns-clause-ends : goal.returns-clause-ends
 returns-clause-ends g c =
-    ended_stopped c.args.words.now (g.O.OpenFile.files c.args.world.now.opener) (g.W.Words.stream c.args.world.now.random)
+    ended_stopped c.args.words.now (g.O.OpenFile.files c.args.world.now.opener) (g.W.Words.stream c.args.world.now.means.random)
     (TellsBySentence c.args.words.now (sight g.K.Sink.held g.K.Sink.flushed g.K.Sink.faults g.F.Replacing.placed g.F.Replacing.faults g.L.Sink.held g.L.Sink.faults (c.args.sink.now, c.args.world.now.files, c.args.errors.now))
     (sight g.K.Sink.held g.K.Sink.flushed g.K.Sink.faults g.F.Replacing.placed g.F.Replacing.faults g.L.Sink.held g.L.Sink.faults (c.args.sink.now, c.args.world.now.files, c.tell_stop.new.errors))) c.tell_stop.result.0 _ _ _ _
     c.in-Ok.command c.zone_asked-detour.result.0 c.in-Err.stop c.in-Ok.ensures (stop_there _ _ _ _ _ _ _ _ c.zone_asked-detour.result.1 c.in-Err.stop c.in-Err.is c.zone_asked-detour.ensures.stop)

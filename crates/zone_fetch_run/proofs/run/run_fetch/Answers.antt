@@ -12,7 +12,7 @@ returns-in-Err-NoMemory-clause-ends g c = is_unread refl refl
 
 pub returns-in-Ok-asked-clause-ends : goal.returns-in-Ok-asked-clause-ends
 returns-in-Ok-asked-clause-ends g c =
-    ended_written c.args.words.now (g.O.OpenFile.files c.args.opener.now) (g.W.Words.stream c.args.random.now) (TellsByLine g.K.Sink.held g.K.Sink.faults c.args.sink.now c.tell_zone.new.sink) c.tell_zone.result.0 _ _ _ _
+    ended_written c.args.words.now (g.O.OpenFile.files c.args.opener.now) (g.W.Words.stream c.args.means.now.random) (TellsByLine g.K.Sink.held g.K.Sink.faults c.args.sink.now c.tell_zone.new.sink) c.tell_zone.result.0 _ _ _ _
     c.in-Ok.command c.zone_asked-asked.result.0 c.in-Ok-asked.zone c.in-Ok.ensures (zone_there _ _ _ _ _ _ _ _ c.zone_asked-asked.result.1 c.in-Ok-asked.zone c.in-Ok-asked.is c.zone_asked-asked.ensures.zone)
     c.tell_zone.ensures.whole (λ four. (c.tell_zone.ensures.begun, c.tell_zone.ensures.failed four)) (λ six. tt) c.tell_zone.ensures.others
 
@@ -21,7 +21,7 @@ returns-in-Ok-asked-clause-unread g c e = absurd (not_three c.tell_zone.result.0
 
 pub returns-clause-ends : goal.returns-clause-ends
 returns-clause-ends g c =
-    ended_stopped c.args.words.now (g.O.OpenFile.files c.args.opener.now) (g.W.Words.stream c.args.random.now) (TellsByLine g.K.Sink.held g.K.Sink.faults c.args.sink.now c.tell.new.sink) c.tell.result.0 _ _ _ _
+    ended_stopped c.args.words.now (g.O.OpenFile.files c.args.opener.now) (g.W.Words.stream c.args.means.now.random) (TellsByLine g.K.Sink.held g.K.Sink.faults c.args.sink.now c.tell.new.sink) c.tell.result.0 _ _ _ _
     c.in-Ok.command c.zone_asked-asked.result.0 c.in-Err.stop c.in-Ok.ensures (stop_there _ _ _ _ _ _ _ _ c.zone_asked-asked.result.1 c.in-Err.stop c.in-Err.is c.zone_asked-asked.ensures.stop)
     c.tell.ensures.status c.tell.ensures.told tt
 

@@ -1,6 +1,5 @@
-use Rattle.std.proofs.Common.{◌≡◌, ◌++◌, ◌∷◌, [], None, Some}
+use Rattle.std.proofs.Common.{◌≡◌, ◌∷◌}
 use Rattle.dns_presentation.specs.Octets.{octets_of_hex}
-use Rattle.zone_text.specs.Saying.{octet_says}
 use Rattle.zone_text.proofs.Spelled.{not_two, two_digits}
 use Rattle.zone_text.proofs.digits.octets_of.Goals as goal
 

@@ -1,4 +1,4 @@
-use Rattle.std.proofs.Common.{refl, ap, ◌∙◌, take, List}
+use Rattle.std.proofs.Common.{refl, ap, ◌∙◌, take}
 use Rattle.std.specs.Slice.Iter.{chunks_rest}
 use Rattle.dns_values.specs.Sink.{with_octets}
 use Rattle.zone_text.proofs.Written.{front_in_piece, front_so_far}
