@@ -1,7 +1,7 @@
 use Rattle.std.proofs.Common.{subst}
 use Rattle.resolv_conf.specs.declared.conf.ResolvConf.{ResolvConf}
 use Rattle.stub_resolver.specs.Making.{IsNew}
-use Rattle.zone_refresh_asking.proofs.asking.ask_serial.Goals as goal
+use Rattle.zone_refresh_run.proofs.asking.ask_serial.Goals as goal
 
 pub returns : goal.returns
 returns g c = record {
@@ -11,5 +11,5 @@ returns g c = record {
   last = c.query-got.new.self;
   got = c.query-got.result;
   gets = c.query-got.ensures.gets c.in-Ok.ensures.made.lasts;
-  says = c.in_ok-serial.ensures;
+  says = c.in_ok-said.ensures;
 }

@@ -1,10 +1,13 @@
 -- The serial that a primary says.
-use Rattle.std.specs.Prelude.{ℕ, ◌==◌, ◌&&◌, if◌then◌else◌, List, [], ◌∷◌, Option, None, Some, Result, Ok, Err}
+use Rattle.std.specs.Prelude.{ℕ, ◌==◌, ◌&&◌, not, Bool, if◌then◌else◌, List, [], ◌∷◌, Option, None, Some, Result, Ok, Err}
 use Rattle.dns_values.specs.declared.error.ParseError.{ParseError}
+use Rattle.dns_values.specs.declared.numbers.Serial.{Serial}
 use Rattle.dns_names.specs.Name.{Labels, same_name}
 use Rattle.dns_base.specs.Data.{Data, StartOfAuthority}
 use Rattle.dns_base.specs.Header.{aa_of, rcode_of}
 use Rattle.dns_base.specs.Message.{Known, answer_items}
+use Rattle.zone_refresh_run.specs.declared.serials.NoSerial.{NoSerial}
+use Rattle.zone_refresh_run.specs.declared.serials.NoSerial.TheVariants.{Refused, NotAuthoritative, NoSoa}
 
 abbrev pub serial_of : Option Data → Option ℕ
 serial_of (Some (StartOfAuthority soa)) = Some soa.serial
@@ -28,6 +31,16 @@ abbrev pub serial_among : Labels → Option (List (Result Known ParseError)) →
 serial_among zone None = None
 serial_among zone (Some items) = first_serial zone items
 
--- An answer says it that is authoritative and has no error.
-abbrev pub serial_said : Labels → List ℕ → Option ℕ
-serial_said zone answer = if aa_of answer && (rcode_of answer == 0) then serial_among zone (answer_items answer) else None
+abbrev pub or_no_soa : Option ℕ → Result Serial NoSerial
+or_no_soa None = Err NoSoa
+or_no_soa (Some serial) = Ok (record { 0 = serial })
+
+-- An answer says it that has no error and is authoritative.
+abbrev pub said_by : (code : ℕ) → (is_authoritative : Bool) → Option ℕ → Result Serial NoSerial
+said_by code is_authoritative serial =
+    if not (code == 0) then Err (Refused (record { 0 = code }))
+    else if is_authoritative then or_no_soa serial
+    else Err NotAuthoritative
+
+abbrev pub serial_said : Labels → List ℕ → Result Serial NoSerial
+serial_said zone answer = said_by (rcode_of answer) (aa_of answer) (serial_among zone (answer_items answer))

@@ -1,9 +1,9 @@
 //! A primary that is asked for the SOA of a zone.
 
-ghost use Rattle.std.specs.Prelude.{◌≡◌, IfOk, option_map};
-ghost use Rattle.zone_refresh_asking.specs.Asking.{Asks, conf_of, serial_got};
+ghost use Rattle.std.specs.Prelude.{◌≡◌, IfOk};
+ghost use Rattle.zone_refresh_run.specs.Asking.{Asks, conf_of, said_of};
 
-use crate::serials::serial_said;
+use crate::serials::{NoSerial, serial_said};
 use client_core::{Clock, Edge};
 use client_request::{Error, Words};
 use dns_base::{Duration, Name, NoMemory, Rtype, Serial, SocketAddr};
@@ -26,21 +26,24 @@ fn conf_of(alloc: Global, primary: SocketAddr) -> Result<ResolvConf, NoMemory>
     Ok(conf)
 }
 
-/// The serial that is said by what a question got.
-fn serial_got(zone: &Name, got: Result<Answer, QueryFault>) -> Result<Option<Serial>, NoMemory>
-    ensures { IfOk result (λ serial. option_map (λ s. s.0) serial ≡ serial_got zone.now got) }
+/// What is said by what a question got.
+fn said_of(
+    zone: &Name,
+    got: Result<Answer, QueryFault>,
+) -> Result<Result<Serial, NoSerial>, NoMemory>
+    ensures { IfOk result (λ said. said ≡ said_of zone.now got) }
 {
     match got {
         Ok(answer) => Ok(serial_said(zone, answer.as_message())),
         Err(QueryFault::Client(Error::NoMemory)) => Err(NoMemory),
-        Err(_) => Ok(None),
+        Err(fault) => Ok(Err(NoSerial::Failed(fault))),
     }
 }
 
-/// Asks a primary for the SOA of a zone, by datagrams, over an edge that was not used before: its serial, or none where no answer came in
-/// ten seconds, or another one than `serial_said` takes.
+/// Asks a primary for the SOA of a zone, by datagrams, over an edge that was not used before: the serial that it says, or why it says
+/// none (`serial_said`): no answer came in ten seconds, or another one.
 ///
-/// `NoMemory` alone is an error.
+/// `NoMemory` alone is an error of the call.
 pub fn ask_serial<E: Edge + Drop, C: Clock + Drop, W: Words + Drop>(
     alloc: Global,
     zone: &Name,
@@ -48,7 +51,7 @@ pub fn ask_serial<E: Edge + Drop, C: Clock + Drop, W: Words + Drop>(
     edge: E,
     clock: C,
     words: W,
-) -> Result<Option<Serial>, NoMemory>
+) -> Result<Result<Serial, NoSerial>, NoMemory>
     ensures { IfOk result (Asks E.deeds E.waits E.polls E.faults C.given W.stream zone.now primary edge clock words) }
 {
     let conf = conf_of(alloc, primary)?;
@@ -56,6 +59,6 @@ pub fn ask_serial<E: Edge + Drop, C: Clock + Drop, W: Words + Drop>(
         return Err(NoMemory);
     };
     let got = resolver.query(alloc, zone, Rtype::SOA);
-    let serial = serial_got(zone, got)?;
-    Ok(serial)
+    let said = said_of(zone, got)?;
+    Ok(said)
 }

@@ -1,6 +1,6 @@
 use Rattle.std.proofs.Common.{◌≡◌}
-use Rattle.zone_refresh_asking.specs.Serials.{first_serial}
-use Rattle.zone_refresh_asking.proofs.serials.first_serial.Given as goal
+use Rattle.zone_refresh_run.specs.Serials.{first_serial}
+use Rattle.zone_refresh_run.proofs.serials.first_serial.Given as goal
 
 -- What was passed over is no SOA of the zone.
 abbrev pub invariant-records : goal.invariant-records

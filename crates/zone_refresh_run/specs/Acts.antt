@@ -1,0 +1,71 @@
+-- What a system does.
+use Rattle.std.specs.Prelude.{◌≡◌, ℕ, ◌-◌, max, nat_lt, false, if◌then◌else◌, List, [], ◌∷◌, ◌++◌, length, Option, None, Some, Result, option_and_then, option_map, slice_get}
+use Rattle.dns_names.specs.Name.{Labels}
+use Rattle.dns_values.specs.declared.address.SocketAddr.{SocketAddr}
+use Rattle.dns_values.specs.declared.numbers.Serial.{Serial}
+use Rattle.zone_fetch_run.specs.declared.command.Command.{Command}
+use Rattle.zone_list.specs.declared.listed.Listed.{Listed}
+use Rattle.zone_refresh.specs.declared.kept.KeptZone.{KeptZone}
+use Rattle.zone_refresh.specs.declared.kept.Phase.TheVariants.{Waiting}
+use Rattle.zone_refresh.specs.declared.kept.ZoneTimers.{ZoneTimers}
+use Rattle.zone_refresh_run.specs.Sentences.{kept_sentence, news_sentence}
+use Rattle.zone_refresh_run.specs.declared.serials.NoSerial.{NoSerial}
+use Rattle.zone_refresh_run.specs.declared.world.ZoneNews.{ZoneNews}
+
+-- Its clock gave a moment; it slept so many microseconds; it asked a primary for the SOA of a zone, and this was said; it read the file at a path, which has a zone with these times, or none; it fetched
+-- a zone, which ended by this status; it told a sentence.
+pub data Act : Type 0 where
+  did_look : (moment : ℕ) → Act
+  did_sleep : (micros : ℕ) → Act
+  did_ask : (zone : Labels) (primary : SocketAddr) (said : Result Serial NoSerial) → Act
+  did_read : (path : List ℕ) (timers : Option ZoneTimers) → Act
+  did_fetch : (command : Command) (status : ℕ) → Act
+  did_tell : (sentence : List ℕ) → Act
+
+abbrev pub Acts : Type 0
+Acts = Option (List Act)
+
+abbrev pub after_act : Act → Acts → Acts
+after_act act acts = option_map (λ before. before ++ act ∷ []) acts
+
+-- ---- what is done for the zones of a list, counted from 0
+
+-- the primary of a number of the zone of a number
+abbrev pub primary_at : List Listed → (zone primary : ℕ) → Option SocketAddr
+primary_at listed zone primary = option_and_then (λ item. slice_get item.primaries primary) (slice_get listed zone)
+
+-- That primary is asked for the SOA of that zone, and this was said. Without one nobody is.
+pub data AsksAt (listed : List Listed) (zone primary : ℕ) (said : Option (Result Serial NoSerial)) (old new : Acts) : Type 0 where
+  asks_nobody : primary_at listed zone primary ≡ None → said ≡ None → new ≡ old → AsksAt listed zone primary said old new
+  asks_primary : (item : Listed) (addr : SocketAddr) (answer : Result Serial NoSerial) → slice_get listed zone ≡ Some item → slice_get item.primaries primary ≡ Some addr
+      → said ≡ Some answer → new ≡ after_act (did_ask item.zone addr answer) old → AsksAt listed zone primary said old new
+
+-- The clock is looked at, and it is slept until this moment, if that is yet to come.
+abbrev pub slept : (now moment : ℕ) → Acts → Acts
+slept now moment acts = if nat_lt now moment then after_act (did_sleep (moment - now)) acts else acts
+
+pub record Sleeps (moment : ℕ) (old new : Acts) : Type 0 where
+  pub now : ℕ
+  pub acts : new ≡ slept now moment (after_act (did_look now) old)
+
+-- One sentence is told, or none, for want of memory.
+pub data Tells (sentence : List ℕ) (old new : Acts) : Type 0 where
+  tells : new ≡ after_act (did_tell sentence) old → Tells sentence old new
+  tells_nothing : new ≡ old → Tells sentence old new
+
+-- Of the zone of a number this is told, where this was said last; of none nothing is.
+pub data TellsAt (listed : List Listed) (zone : ℕ) (news : ZoneNews) (said : Option (Result Serial NoSerial)) (old new : Acts) : Type 0 where
+  tells_of_zone : (item : Listed) → slice_get listed zone ≡ Some item → Tells (news_sentence item said news) old new → TellsAt listed zone news said old new
+  tells_of_none : slice_get listed zone ≡ None → new ≡ old → TellsAt listed zone news said old new
+
+-- ---- how a zone begins to be kept
+
+-- with what its file has at a moment; it is due at once
+abbrev pub started : Listed → (now : ℕ) → Option ZoneTimers → KeptZone
+started listed now held = record { primaries = max (length listed.primaries) 1; held = held; confirmed = now; phase = Waiting now; told = false }
+
+-- Its file is read, and that it is kept is told.
+pub record Starts (listed : Listed) (held : Option ZoneTimers) (old new : Acts) : Type 0 where
+  pub mid : Acts
+  pub read : mid ≡ after_act (did_read listed.file held) old
+  pub told : Tells (kept_sentence listed held) mid new

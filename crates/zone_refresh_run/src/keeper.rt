@@ -1,0 +1,155 @@
+//! The world of the zones of a list, in a system.
+
+ghost use Rattle.std.specs.Prelude.{◌≡◌, ◌<◌, Option, Some, IfSome, option_and_then, length, slice_get};
+ghost use Rattle.std.specs.Result.{result_ok};
+ghost use Rattle.zone_refresh_run.specs.Acts.{AsksAt, Sleeps, Tells, TellsAt, after_act, did_look};
+ghost use Rattle.zone_refresh_run.specs.Fetching.{BringsAt, has_at};
+ghost use Rattle.zone_refresh_run.specs.Sentences as told;
+
+use crate::fetching::{Manner, bring};
+use crate::sentences::news_sentence;
+use crate::serials::NoSerial;
+use crate::system::System;
+use crate::words::KeptForm;
+use crate::world::{World, ZoneNews};
+use dns_base::{Serial, SocketAddr};
+use std::alloc::Global;
+use zone_list::Listed;
+use zone_refresh::ZoneTimers;
+
+/// The zones of a list, in a system.
+#[derive(Drop)]
+pub(crate) struct Keeper<S> {
+    pub(crate) alloc: Global,
+    pub(crate) system: S,
+    pub(crate) listed: Vec<Listed>,
+    /// Of each zone whether its file has it.
+    pub(crate) have: Vec<bool>,
+    pub(crate) form: KeptForm,
+    /// What the primary said that was asked last.
+    pub(crate) said: Option<Result<Serial, NoSerial>>,
+}
+
+/// A primary of a zone.
+fn primary_of(listed: &Listed, number: usize) -> Option<SocketAddr>
+    ensures { result ≡ slice_get listed.now.primaries number }
+{
+    listed.primaries.as_slice().get(number).copied()
+}
+
+/// Asks a primary for the SOA of a zone, where both are there: what it said.
+fn ask<S: System>(
+    system: &mut S,
+    listed: &[Listed],
+    zone: usize,
+    primary: usize,
+) -> Option<Result<Serial, NoSerial>>
+    ensures { AsksAt listed.now zone primary result (S.acts system.old) (S.acts system.new) }
+{
+    let item = listed.get(zone)?;
+    let addr = primary_of(item, primary)?;
+    Some(system.ask(&item.zone, addr))
+}
+
+/// The serial that was said, if one was.
+fn serial_in(said: Option<Result<Serial, NoSerial>>) -> Option<Serial>
+    ensures { result ≡ option_and_then result_ok said }
+{
+    said?.ok()
+}
+
+/// Whether a zone has its file.
+fn has_at(have: &[bool], zone: usize) -> bool
+    ensures { result ≡ has_at have.now zone }
+{
+    have.get(zone).copied().unwrap_or(false)
+}
+
+/// Tells of a zone what there is to tell, where this was said last.
+fn tell_of<S: System>(
+    alloc: Global,
+    system: &mut S,
+    item: &Listed,
+    said: Option<Result<Serial, NoSerial>>,
+    news: ZoneNews,
+)
+    ensures { Tells (told.news_sentence item.now said news) (S.acts system.old) (S.acts system.new) }
+{
+    if let Ok(sentence) = news_sentence(alloc, item, said, news) {
+        system.tell(sentence.as_str());
+    }
+}
+
+impl<S: System> Keeper<S> {
+    /// A zone has its file from now on.
+    fn note(&mut self, zone: usize)
+        ensures noted { zone < length self.old.have.items → slice_get self.new.have.items zone ≡ Some true }
+        ensures same { S.acts self.new.system ≡ S.acts self.old.system }
+    {
+        if zone < self.have.len() {
+            self.have[zone] = true;
+        }
+    }
+
+    /// Fetches a zone from a primary into its file, where both are there: the times of the zone that the file has then.
+    fn bring(&mut self, zone: usize, primary: usize) -> Option<ZoneTimers>
+        ensures { BringsAt self.old.listed.items self.old.have.items self.old.form zone primary result (S.acts self.old.system) (S.acts self.new.system) }
+    {
+        let item = self.listed.get(zone)?;
+        let addr = primary_of(item, primary)?;
+        let manner = Manner {
+            primary: addr,
+            form: self.form,
+            has_zone: has_at(self.have.as_slice(), zone),
+        };
+        bring(self.alloc, &mut self.system, item, manner)
+    }
+}
+
+impl<S: System> World for Keeper<S> {
+    ghost use Rattle.std.specs.Prelude.{None};
+
+    ghost deeds = { λ _. None };
+
+    fn now(&mut self) -> u64
+        ensures { S.acts self.new.system ≡ after_act (did_look result) (S.acts self.old.system) }
+    {
+        self.system.now()
+    }
+
+    fn sleep_until(&mut self, moment: u64)
+        ensures { Sleeps moment (S.acts self.old.system) (S.acts self.new.system) }
+    {
+        let now = self.system.now();
+        if now < moment {
+            self.system.sleep(moment - now);
+        }
+    }
+
+    fn ask_soa(&mut self, zone: usize, primary: usize) -> Option<Serial>
+        ensures asks { AsksAt self.old.listed.items zone primary self.new.said (S.acts self.old.system) (S.acts self.new.system) }
+        ensures serial { result ≡ option_and_then result_ok self.new.said }
+    {
+        let said = ask(&mut self.system, self.listed.as_slice(), zone, primary);
+        self.said = said;
+        serial_in(said)
+    }
+
+    fn fetch(&mut self, zone: usize, primary: usize) -> Option<ZoneTimers>
+        ensures { BringsAt self.old.listed.items self.old.have.items self.old.form zone primary result (S.acts self.old.system) (S.acts self.new.system) }
+    {
+        let timers = self.bring(zone, primary);
+        if timers.is_some() {
+            self.note(zone);
+        }
+        timers
+    }
+
+    fn tell(&mut self, zone: usize, news: ZoneNews)
+        ensures { TellsAt self.old.listed.items zone news self.old.said (S.acts self.old.system) (S.acts self.new.system) }
+    {
+        if let Some(item) = self.listed.get(zone) {
+            tell_of(self.alloc, &mut self.system, item, self.said, news);
+        }
+    }
+}
