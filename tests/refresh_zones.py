@@ -5,10 +5,11 @@
 
 PROGRAM is the built zone_fetch; CHANGES is how often a zone is changed, 200 where nothing is said. One zone is Knot's, one NSD's, and one has
 both as its primaries, the second of which stands still for a while. REFRESH is two seconds, RETRY one and EXPIRE six. Each change deletes a
-record and adds one. Every tenth part of the changes a server is killed, and comes back some changes later. Whenever the program says that a
+record and adds one. Every tenth part of the changes a server is killed, and comes back some changes later; between these the program is ended
+by SIGTERM, wherever it is, and begun again, and each file must be whole then: what kdig was sent of it once. Whenever the program says that a
 file is up to date, the file is read at once and must have what kdig was sent of that zone under that serial, record for record. At the end
-both servers stand, and each file must become the last zone. A zone whose servers are both dead is told as expired, once. SIGTERM ends the
-program. Where a server is lacking, BIND stands in for it, and that is said. The first difference ends it with status 1.
+both servers stand, and each file must become the last zone. A zone whose servers are both dead is told as expired, once. Where a server is
+lacking, BIND stands in for it, and that is said. The first difference ends it with status 1.
 """
 
 import os
@@ -100,14 +101,33 @@ class Primary:
 
 
 class Watch:
-    """What the program says, line by line, and whether each file that it calls up to date is."""
+    """A run of the program: what it says, line by line, and whether each file that it calls up to date is."""
 
-    def __init__(self, process, files, known):
-        self.process, self.files, self.known = process, files, known
+    def __init__(self, words, files, known):
+        self.words, self.files, self.known = words, files, known
         self.said, self.wrong, self.serials, self.expired = 0, [], {}, {}
-        self.kinds, self.lines = {}, []
+        self.kinds, self.lines, self.stops = {}, [], 0
+        self.begin()
+
+    def begin(self):
+        self.process = subprocess.Popen(self.words, stdout=subprocess.PIPE, stderr=subprocess.PIPE, text=True)
         self.thread = threading.Thread(target=self.read, daemon=True)
         self.thread.start()
+
+    def end(self):
+        """Ends it by SIGTERM. Each file that is there must be a zone that was a server's."""
+        if self.process.poll() is not None:
+            sys.exit(f"the program ended with status {self.process.returncode}: {self.lines[-3:]}")
+        self.process.send_signal(signal.SIGTERM)
+        status = self.process.wait(5)
+        if status != -signal.SIGTERM:
+            sys.exit(f"SIGTERM ends it by {status}")
+        self.thread.join()
+        self.stops += 1
+        for zone, path in self.files.items():
+            have = printed(path.read_text()) if path.exists() else None
+            if have is not None and have not in [of for (name, _), of in self.known.items() if name == zone]:
+                sys.exit(f"SIGTERM left {len(have)} records of {zone}, which no server has sent")
 
     def read(self):
         for text in self.process.stderr:
@@ -168,11 +188,14 @@ def primaries_in(top):
     return {ZONES[0]: [one], ZONES[1]: [two], ZONES[2]: list(both)}
 
 
-def change_all(primaries, known, changes):
+def change_all(primaries, known, changes, watch):
     """So many changes of one zone after another. What is dead comes back at once with the last zone."""
     steps = dict.fromkeys(ZONES, 0)
     dead = []
     for change in range(changes):
+        if change % max(changes // 10, 1) == max(changes // 15, 1):
+            watch.end()
+            watch.begin()
         if change % max(changes // 10, 1) == max(changes // 20, 1) and not dead:
             victim = primaries[ZONES[change // max(changes // 10, 1) % 3]][0]
             victim.kill()
@@ -208,10 +231,9 @@ def run(program, changes, top):
         lines.append(f"{zone}. {files[zone]} " + " ".join(f"127.0.0.1@{s.server.port}" for s in servers))
     listed = top / "list"
     listed.write_text("# kept\n" + "\n".join(lines) + "\n")
-    process = subprocess.Popen([program, "--refresh", str(listed)], stdout=subprocess.PIPE, stderr=subprocess.PIPE, text=True)
-    watch = Watch(process, files, known)
+    watch = Watch([program, "--refresh", str(listed)], files, known)
     try:
-        steps = change_all(primaries, known, changes)
+        steps = change_all(primaries, known, changes, watch)
         await_that(lambda: all(watch.serials.get(zone) == serial_at(steps[zone]) for zone in ZONES), 20, "each file is the last zone")
         told = watch.expired.get(ZONES[0], 0)
         for server in primaries[ZONES[0]]:
@@ -220,22 +242,18 @@ def run(program, changes, top):
         time.sleep(3)
         if watch.expired.get(ZONES[0]) != told + 1:
             sys.exit(f"it was told {watch.expired.get(ZONES[0])} times that the zone has expired")
-        if process.poll() is not None:
-            sys.exit(f"the program ended with status {process.returncode}")
+        watch.end()
     finally:
-        process.send_signal(signal.SIGTERM)
-        status = process.wait(5)
+        watch.process.kill()
         for servers in primaries.values():
             for server in servers:
                 if server.is_up:
                     server.kill()
         (Path(os.environ.get("REFRESH_LOG", top / "log"))).write_text("".join(watch.lines))
-    if status != -signal.SIGTERM:
-        sys.exit(f"SIGTERM ends it by {status}")
     if watch.wrong:
         print("\n".join(watch.wrong[:5]))
         sys.exit(1)
-    print(f"{changes} changes: {watch.said} times a file was called up to date, and was; {watch.kinds}")
+    print(f"{changes} changes, {watch.stops} ends by SIGTERM: {watch.said} times a file was called up to date, and was; {watch.kinds}")
 
 
 def main():
