@@ -207,10 +207,7 @@ abbrev pub FetchEndsIn : {O E C W P F : Type 0} → (E → Option (List Deed)) �
 FetchEndsIn deeds polls given files stream words Tells status old new =
     over deeds polls given (old.edge, old.later, old.clock) (new.edge, new.later, new.clock) (FetchEnds words (files old.opener) (stream old.random) Tells status)
 
--- A command ends so whatever the words were: none of them is refused.
-abbrev pub Whatever : (Texts → Type 0) → Type 0
-Whatever Ends = (words : Texts) → Ends words
-
+-- the same of a command
 abbrev pub CommandEndsIn : {O E C W P F : Type 0} → (E → Option (List Deed)) → (E → ℕ) → (C → Option (List ℕ)) → (O → Files) → (W → ℕ → ℕ) → Command → (End → Type 0) → (status : ℕ) → (old new : World O E C W P F) → Type 0
 CommandEndsIn deeds polls given files stream command Tells status old new =
     over deeds polls given (old.edge, old.later, old.clock) (new.edge, new.later, new.clock) (CommandEnds command (files old.opener) (stream old.random) Tells status)

@@ -3,7 +3,7 @@
 ghost use Rattle.std.specs.Prelude.{◌≡◌, ◌≢◌, ◌⊎◌, Some, IfOk, IfErr, IfSome};
 ghost use Rattle.dns_values.specs.Sink.{IsFlushed};
 ghost use Rattle.dns_values.specs.Source.{Rose};
-ghost use Rattle.zone_fetch_run.specs.Ends.{CommandEndsIn, FetchEndsIn, HasStopped, HasZone, IsBase, IsFiled, IsOfFile, IsUnbased, LineEnds, RoseUnread, TellsBySentence, Whatever, seen};
+ghost use Rattle.zone_fetch_run.specs.Ends.{CommandEndsIn, FetchEndsIn, HasStopped, HasZone, IsBase, IsFiled, IsOfFile, IsUnbased, LineEnds, RoseUnread, TellsBySentence, Texts, seen};
 ghost use Rattle.zone_fetch_run.specs.Fetching.{over};
 
 use crate::command::{Command, command_of};
@@ -182,7 +182,7 @@ pub fn fetch_for<
     errors: &mut L,
     world: &mut World<O, E, C, W, P, F>,
 ) -> Status
-    ensures ends { Whatever (λ words. CommandEndsIn E.deeds E.polls C.given O.files W.stream command.now (seen K.held K.flushed K.faults F.placed F.faults L.held L.faults (sink.old, world.old.files, errors.old) (sink.new, world.new.files, errors.new) (TellsBySentence words)) result.0 world.old world.new) }
+    ensures ends { (words : Texts) → CommandEndsIn E.deeds E.polls C.given O.files W.stream command.now (seen K.held K.flushed K.faults F.placed F.faults L.held L.faults (sink.old, world.old.files, errors.old) (sink.new, world.new.files, errors.new) (TellsBySentence words)) result.0 world.old world.new }
     ensures unread { result.0 ≡ 3 → Rose (O.faults world.old.opener) (O.faults world.new.opener) }
     ensures unplaced { result.0 ≢ 0 → F.placed world.new.files ≡ F.placed world.old.files }
     ensures handed_on { result.0 ≢ 0 → result.0 ≢ 6 → IsFlushed (L.held errors.new) (L.flushed errors.new) ⊎ Rose (L.faults errors.old) (L.faults errors.new) }

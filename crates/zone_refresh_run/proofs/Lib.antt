@@ -5,3 +5,4 @@ pub mod Turning
 pub mod Going
 pub mod Promises
 pub mod Worked
+pub mod Starting

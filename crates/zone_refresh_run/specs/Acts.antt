@@ -1,5 +1,5 @@
 -- What a system does.
-use Rattle.std.specs.Prelude.{◌≡◌, ℕ, ◌-◌, max, nat_lt, false, if◌then◌else◌, List, [], ◌∷◌, ◌++◌, length, Option, None, Some, Result, option_and_then, option_map, slice_get}
+use Rattle.std.specs.Prelude.{◌≡◌, ℕ, ◌-◌, max, nat_lt, false, if◌then◌else◌, List, [], ◌∷◌, ◌++◌, length, map, Option, None, Some, is_some, Result, option_and_then, option_map, slice_get}
 use Rattle.dns_names.specs.Name.{Labels}
 use Rattle.dns_values.specs.declared.address.SocketAddr.{SocketAddr}
 use Rattle.dns_values.specs.declared.numbers.Serial.{Serial}
@@ -9,6 +9,7 @@ use Rattle.zone_refresh.specs.declared.kept.KeptZone.{KeptZone}
 use Rattle.zone_refresh.specs.declared.kept.Phase.TheVariants.{Waiting}
 use Rattle.zone_refresh.specs.declared.kept.ZoneTimers.{ZoneTimers}
 use Rattle.zone_refresh_run.specs.Sentences.{kept_sentence, news_sentence}
+use Rattle.zone_refresh_run.specs.declared.keeper.KeptFile.{KeptFile}
 use Rattle.zone_refresh_run.specs.declared.serials.NoSerial.{NoSerial}
 use Rattle.zone_refresh_run.specs.declared.world.ZoneNews.{ZoneNews}
 
@@ -31,14 +32,14 @@ after_act act acts = option_map (λ before. before ++ act ∷ []) acts
 -- ---- what is done for the zones of a list, counted from 0
 
 -- the primary of a number of the zone of a number
-abbrev pub primary_at : List Listed → (zone primary : ℕ) → Option SocketAddr
-primary_at listed zone primary = option_and_then (λ item. slice_get item.primaries primary) (slice_get listed zone)
+abbrev pub primary_at : List KeptFile → (zone primary : ℕ) → Option SocketAddr
+primary_at files zone primary = option_and_then (λ file. slice_get file.listed.primaries primary) (slice_get files zone)
 
 -- That primary is asked for the SOA of that zone, and this was said. Without one nobody is.
-pub data AsksAt (listed : List Listed) (zone primary : ℕ) (said : Option (Result Serial NoSerial)) (old new : Acts) : Type 0 where
-  asks_nobody : primary_at listed zone primary ≡ None → said ≡ None → new ≡ old → AsksAt listed zone primary said old new
-  asks_primary : (item : Listed) (addr : SocketAddr) (answer : Result Serial NoSerial) → slice_get listed zone ≡ Some item → slice_get item.primaries primary ≡ Some addr
-      → said ≡ Some answer → new ≡ after_act (did_ask item.zone addr answer) old → AsksAt listed zone primary said old new
+pub data AsksAt (files : List KeptFile) (zone primary : ℕ) (said : Option (Result Serial NoSerial)) (old new : Acts) : Type 0 where
+  asks_nobody : primary_at files zone primary ≡ None → said ≡ None → new ≡ old → AsksAt files zone primary said old new
+  asks_primary : (file : KeptFile) (addr : SocketAddr) (answer : Result Serial NoSerial) → slice_get files zone ≡ Some file → slice_get file.listed.primaries primary ≡ Some addr
+      → said ≡ Some answer → new ≡ after_act (did_ask file.listed.zone addr answer) old → AsksAt files zone primary said old new
 
 -- The clock is looked at, and it is slept until this moment, if that is yet to come.
 abbrev pub slept : (now moment : ℕ) → Acts → Acts
@@ -54,9 +55,9 @@ pub data Tells (sentence : List ℕ) (old new : Acts) : Type 0 where
   tells_nothing : new ≡ old → Tells sentence old new
 
 -- Of the zone of a number this is told, where this was said last; of none nothing is.
-pub data TellsAt (listed : List Listed) (zone : ℕ) (news : ZoneNews) (said : Option (Result Serial NoSerial)) (old new : Acts) : Type 0 where
-  tells_of_zone : (item : Listed) → slice_get listed zone ≡ Some item → Tells (news_sentence item said news) old new → TellsAt listed zone news said old new
-  tells_of_none : slice_get listed zone ≡ None → new ≡ old → TellsAt listed zone news said old new
+pub data TellsAt (files : List KeptFile) (zone : ℕ) (news : ZoneNews) (said : Option (Result Serial NoSerial)) (old new : Acts) : Type 0 where
+  tells_of_zone : (file : KeptFile) → slice_get files zone ≡ Some file → Tells (news_sentence file.listed said news) old new → TellsAt files zone news said old new
+  tells_of_none : slice_get files zone ≡ None → new ≡ old → TellsAt files zone news said old new
 
 -- ---- how a zone begins to be kept
 
@@ -69,3 +70,18 @@ pub record Starts (listed : Listed) (held : Option ZoneTimers) (old new : Acts) 
   pub mid : Acts
   pub read : mid ≡ after_act (did_read listed.file held) old
   pub told : Tells (kept_sentence listed held) mid new
+
+-- Each of these zones begins so, of the list in order, where each has what it says that is held.
+abbrev pub all_started : List Listed → (now : ℕ) → List KeptZone → List KeptZone
+all_started [] now zones = []
+all_started (item ∷ items) now [] = []
+all_started (item ∷ items) now (zone ∷ zones) = started item now zone.held ∷ all_started items now zones
+
+abbrev pub listed_in : List KeptFile → List Listed
+listed_in files = map (λ file. file.listed) files
+
+-- The zones of a list are kept from a moment on, and of each it is known whether its file has it.
+pub record AreStarted (listed : List Listed) (now : ℕ) (zones : List KeptZone) (files : List KeptFile) : Type 0 where
+  pub same : listed_in files ≡ listed
+  pub zones_begin : zones ≡ all_started listed now zones
+  pub have : map (λ file. file.has_zone) files ≡ map (λ zone. is_some zone.held) zones

@@ -1,11 +1,12 @@
 -- A zone that is fetched into its file.
-use Rattle.std.specs.Prelude.{◌≡◌, ℕ, ◌==◌, ◌||◌, ◌&&◌, Bool, true, false, if◌then◌else◌, List, Option, None, Some, option_map, slice_get, unwrap_or}
+use Rattle.std.specs.Prelude.{◌≡◌, ℕ, ◌==◌, ◌||◌, ◌&&◌, Bool, true, false, if◌then◌else◌, List, Option, None, Some, option_map, slice_get}
 use Rattle.std.specs.String.{string_bytes}
 use Rattle.dns_values.specs.declared.address.SocketAddr.{SocketAddr}
 use Rattle.zone_fetch_run.specs.declared.command.Command.{Command}
 use Rattle.zone_list.specs.declared.listed.Listed.{Listed}
 use Rattle.zone_refresh.specs.declared.kept.ZoneTimers.{ZoneTimers}
 use Rattle.zone_refresh_run.specs.Acts.{Acts, after_act, did_fetch, did_read, primary_at}
+use Rattle.zone_refresh_run.specs.declared.keeper.KeptFile.{KeptFile}
 use Rattle.zone_refresh_run.specs.declared.words.KeptForm.{KeptForm}
 
 -- The command by which a zone is fetched from a primary into its file: its changes, where the file has the zone, and the whole zone where these do not lead on, or the server fails at them.
@@ -47,12 +48,9 @@ pub data Brings (listed : Listed) (primary : SocketAddr) (form : KeptForm) (has_
       → Brings listed primary form has_zone timers old new
   fails : (status : ℕ) → Fetches listed primary form has_zone status old new → is_there status ≡ false → timers ≡ None → Brings listed primary form has_zone timers old new
 
--- ---- what is done for the zones of a list, of which these have their files
+-- ---- what is done for the zones of a list
 
-abbrev pub has_at : List Bool → (zone : ℕ) → Bool
-has_at have zone = unwrap_or (slice_get have zone) false
-
-pub data BringsAt (listed : List Listed) (have : List Bool) (form : KeptForm) (zone primary : ℕ) (timers : Option ZoneTimers) (old new : Acts) : Type 0 where
-  brings_from_nobody : primary_at listed zone primary ≡ None → timers ≡ None → new ≡ old → BringsAt listed have form zone primary timers old new
-  brings_from : (item : Listed) (addr : SocketAddr) → slice_get listed zone ≡ Some item → slice_get item.primaries primary ≡ Some addr → Brings item addr form (has_at have zone) timers old new
-      → BringsAt listed have form zone primary timers old new
+pub data BringsAt (files : List KeptFile) (form : KeptForm) (zone primary : ℕ) (timers : Option ZoneTimers) (old new : Acts) : Type 0 where
+  brings_from_nobody : primary_at files zone primary ≡ None → timers ≡ None → new ≡ old → BringsAt files form zone primary timers old new
+  brings_from : (file : KeptFile) (addr : SocketAddr) → slice_get files zone ≡ Some file → slice_get file.listed.primaries primary ≡ Some addr
+      → Brings file.listed addr form file.has_zone timers old new → BringsAt files form zone primary timers old new

@@ -19,7 +19,7 @@ const UNCHANGED: Status = Status(9);
 
 /// How a zone is fetched.
 #[derive(Clone, Copy)]
-pub(crate) struct Manner {
+pub(crate) struct FetchManner {
     pub(crate) primary: SocketAddr,
     pub(crate) form: KeptForm,
     /// Whether its file has it already, so that its changes are asked for.
@@ -52,7 +52,7 @@ fn base_of(alloc: Global, path: &str, has_zone: bool) -> Result<Option<String>, 
 }
 
 /// The command by which a zone is fetched so into its file.
-fn command_for(alloc: Global, listed: &Listed, manner: Manner) -> Result<Command, NoMemory>
+fn command_for(alloc: Global, listed: &Listed, manner: FetchManner) -> Result<Command, NoMemory>
     ensures { IfOk result (IsCommandFor listed.now manner.primary manner.form manner.has_zone) }
 {
     let path = listed.file.as_str();
@@ -71,7 +71,7 @@ fn command_for(alloc: Global, listed: &Listed, manner: Manner) -> Result<Command
 }
 
 /// Fetches a zone so.
-fn fetch_once<S: System>(alloc: Global, system: &mut S, listed: &Listed, manner: Manner) -> Status
+fn fetch_once<S: System>(alloc: Global, system: &mut S, listed: &Listed, manner: FetchManner) -> Status
     ensures { FetchesOnce listed.now manner.primary manner.form manner.has_zone result.0 (S.acts system.old) (S.acts system.new) }
 {
     match command_for(alloc, listed, manner) {
@@ -81,14 +81,14 @@ fn fetch_once<S: System>(alloc: Global, system: &mut S, listed: &Listed, manner:
 }
 
 /// Fetches a zone so, and whole where its file has no zone whose changes can be asked for.
-fn fetch<S: System>(alloc: Global, system: &mut S, listed: &Listed, manner: Manner) -> Status
+fn fetch<S: System>(alloc: Global, system: &mut S, listed: &Listed, manner: FetchManner) -> Status
     ensures { Fetches listed.now manner.primary manner.form manner.has_zone result.0 (S.acts system.old) (S.acts system.new) }
 {
     let status = fetch_once(alloc, system, listed, manner);
     if !(manner.has_zone && has_no_base(status)) {
         return status;
     }
-    let whole = Manner {
+    let whole = FetchManner {
         primary: manner.primary,
         form: manner.form,
         has_zone: false,
@@ -101,7 +101,7 @@ pub(crate) fn bring<S: System>(
     alloc: Global,
     system: &mut S,
     listed: &Listed,
-    manner: Manner,
+    manner: FetchManner,
 ) -> Option<ZoneTimers>
     ensures { Brings listed.now manner.primary manner.form manner.has_zone result (S.acts system.old) (S.acts system.new) }
 {

@@ -1,12 +1,12 @@
 //! The world of the zones of a list, in a system.
 
-ghost use Rattle.std.specs.Prelude.{◌≡◌, ◌<◌, Option, Some, IfSome, option_and_then, length, slice_get};
+ghost use Rattle.std.specs.Prelude.{◌≡◌, ◌<◌, Option, Some, option_and_then, option_map, length, slice_get};
 ghost use Rattle.std.specs.Result.{result_ok};
-ghost use Rattle.zone_refresh_run.specs.Acts.{AsksAt, Sleeps, Tells, TellsAt, after_act, did_look};
-ghost use Rattle.zone_refresh_run.specs.Fetching.{BringsAt, has_at};
-ghost use Rattle.zone_refresh_run.specs.Sentences as told;
+ghost use Rattle.zone_refresh_run.specs.Acts.{AsksAt, Sleeps, Tells, TellsAt, after_act, did_look, listed_in};
+ghost use Rattle.zone_refresh_run.specs.Fetching.{BringsAt};
+ghost use Rattle.zone_refresh_run.specs.Sentences as spec;
 
-use crate::fetching::{Manner, bring};
+use crate::fetching::{FetchManner, bring};
 use crate::sentences::news_sentence;
 use crate::serials::NoSerial;
 use crate::system::System;
@@ -17,14 +17,27 @@ use std::alloc::Global;
 use zone_list::Listed;
 use zone_refresh::ZoneTimers;
 
+/// A zone of the list, and whether its file has it.
+pub(crate) struct KeptFile {
+    pub(crate) listed: Listed,
+    pub(crate) has_zone: bool,
+}
+
+impl Drop for KeptFile {
+    fn drop(self) {
+        let KeptFile {
+            listed: _,
+            has_zone: _,
+        } = self;
+    }
+}
+
 /// The zones of a list, in a system.
 #[derive(Drop)]
 pub(crate) struct Keeper<S> {
     pub(crate) alloc: Global,
     pub(crate) system: S,
-    pub(crate) listed: Vec<Listed>,
-    /// Of each zone whether its file has it.
-    pub(crate) have: Vec<bool>,
+    pub(crate) files: Vec<KeptFile>,
     pub(crate) form: KeptForm,
     /// What the primary said that was asked last.
     pub(crate) said: Option<Result<Serial, NoSerial>>,
@@ -40,15 +53,15 @@ fn primary_of(listed: &Listed, number: usize) -> Option<SocketAddr>
 /// Asks a primary for the SOA of a zone, where both are there: what it said.
 fn ask<S: System>(
     system: &mut S,
-    listed: &[Listed],
+    files: &[KeptFile],
     zone: usize,
     primary: usize,
 ) -> Option<Result<Serial, NoSerial>>
-    ensures { AsksAt listed.now zone primary result (S.acts system.old) (S.acts system.new) }
+    ensures { AsksAt files.now zone primary result (S.acts system.old) (S.acts system.new) }
 {
-    let item = listed.get(zone)?;
-    let addr = primary_of(item, primary)?;
-    Some(system.ask(&item.zone, addr))
+    let file = files.get(zone)?;
+    let addr = primary_of(&file.listed, primary)?;
+    Some(system.ask(&file.listed.zone, addr))
 }
 
 /// The serial that was said, if one was.
@@ -58,51 +71,45 @@ fn serial_in(said: Option<Result<Serial, NoSerial>>) -> Option<Serial>
     said?.ok()
 }
 
-/// Whether a zone has its file.
-fn has_at(have: &[bool], zone: usize) -> bool
-    ensures { result ≡ has_at have.now zone }
-{
-    have.get(zone).copied().unwrap_or(false)
-}
-
 /// Tells of a zone what there is to tell, where this was said last.
 fn tell_of<S: System>(
     alloc: Global,
     system: &mut S,
-    item: &Listed,
+    listed: &Listed,
     said: Option<Result<Serial, NoSerial>>,
     news: ZoneNews,
 )
-    ensures { Tells (told.news_sentence item.now said news) (S.acts system.old) (S.acts system.new) }
+    ensures { Tells (spec.news_sentence listed.now said news) (S.acts system.old) (S.acts system.new) }
 {
-    if let Ok(sentence) = news_sentence(alloc, item, said, news) {
+    if let Ok(sentence) = news_sentence(alloc, listed, said, news) {
         system.tell(sentence.as_str());
     }
 }
 
 impl<S: System> Keeper<S> {
-    /// A zone has its file from now on.
+    /// The file of a zone has it from now on.
     fn note(&mut self, zone: usize)
-        ensures noted { zone < length self.old.have.items → slice_get self.new.have.items zone ≡ Some true }
+        ensures noted { zone < length self.old.files.items → option_map (λ f. f.has_zone) (slice_get self.new.files.items zone) ≡ Some true }
+        ensures kept { listed_in self.new.files.items ≡ listed_in self.old.files.items }
         ensures same { S.acts self.new.system ≡ S.acts self.old.system }
     {
-        if zone < self.have.len() {
-            self.have[zone] = true;
+        if zone < self.files.len() {
+            self.files[zone].has_zone = true;
         }
     }
 
     /// Fetches a zone from a primary into its file, where both are there: the times of the zone that the file has then.
     fn bring(&mut self, zone: usize, primary: usize) -> Option<ZoneTimers>
-        ensures { BringsAt self.old.listed.items self.old.have.items self.old.form zone primary result (S.acts self.old.system) (S.acts self.new.system) }
+        ensures { BringsAt self.old.files.items self.old.form zone primary result (S.acts self.old.system) (S.acts self.new.system) }
     {
-        let item = self.listed.get(zone)?;
-        let addr = primary_of(item, primary)?;
-        let manner = Manner {
+        let file = self.files.get(zone)?;
+        let addr = primary_of(&file.listed, primary)?;
+        let manner = FetchManner {
             primary: addr,
             form: self.form,
-            has_zone: has_at(self.have.as_slice(), zone),
+            has_zone: file.has_zone,
         };
-        bring(self.alloc, &mut self.system, item, manner)
+        bring(self.alloc, &mut self.system, &file.listed, manner)
     }
 }
 
@@ -127,16 +134,16 @@ impl<S: System> World for Keeper<S> {
     }
 
     fn ask_soa(&mut self, zone: usize, primary: usize) -> Option<Serial>
-        ensures asks { AsksAt self.old.listed.items zone primary self.new.said (S.acts self.old.system) (S.acts self.new.system) }
+        ensures asks { AsksAt self.old.files.items zone primary self.new.said (S.acts self.old.system) (S.acts self.new.system) }
         ensures serial { result ≡ option_and_then result_ok self.new.said }
     {
-        let said = ask(&mut self.system, self.listed.as_slice(), zone, primary);
+        let said = ask(&mut self.system, self.files.as_slice(), zone, primary);
         self.said = said;
         serial_in(said)
     }
 
     fn fetch(&mut self, zone: usize, primary: usize) -> Option<ZoneTimers>
-        ensures { BringsAt self.old.listed.items self.old.have.items self.old.form zone primary result (S.acts self.old.system) (S.acts self.new.system) }
+        ensures { BringsAt self.old.files.items self.old.form zone primary result (S.acts self.old.system) (S.acts self.new.system) }
     {
         let timers = self.bring(zone, primary);
         if timers.is_some() {
@@ -146,10 +153,10 @@ impl<S: System> World for Keeper<S> {
     }
 
     fn tell(&mut self, zone: usize, news: ZoneNews)
-        ensures { TellsAt self.old.listed.items zone news self.old.said (S.acts self.old.system) (S.acts self.new.system) }
+        ensures { TellsAt self.old.files.items zone news self.old.said (S.acts self.old.system) (S.acts self.new.system) }
     {
-        if let Some(item) = self.listed.get(zone) {
-            tell_of(self.alloc, &mut self.system, item, self.said, news);
+        if let Some(file) = self.files.get(zone) {
+            tell_of(self.alloc, &mut self.system, &file.listed, self.said, news);
         }
     }
 }

@@ -1,13 +1,13 @@
 //! Zones that are kept as a list says.
 
-ghost use Rattle.std.specs.Prelude.{◌≡◌, ◌≢◌, ◌⊎◌, IfOk, IfErr, is_some, map};
+ghost use Rattle.std.specs.Prelude.{◌≡◌, ◌⊎◌, IfOk, IfErr};
 ghost use Rattle.command_parts.specs.Ends.{IsSaid};
-ghost use Rattle.zone_refresh_run.specs.Acts.{Starts, Tells, started};
+ghost use Rattle.zone_refresh_run.specs.Acts.{AreStarted, Starts, Tells, started};
 ghost use Rattle.zone_refresh_run.specs.Listing.{HasList, RefusesList};
-ghost use Rattle.zone_refresh_run.specs.Sentences as told;
+ghost use Rattle.zone_refresh_run.specs.Sentences as spec;
 ghost use Rattle.zone_refresh_run.specs.Words.{last_word, unkept_sentence};
 
-use crate::keeper::Keeper;
+use crate::keeper::{Keeper, KeptFile};
 use crate::listing::{MEMORY, listed_at, tell_unlisted};
 use crate::sentences::kept_sentence;
 use crate::system::System;
@@ -27,7 +27,7 @@ fn tell_kept<S: System>(
     listed: &Listed,
     held: Option<ZoneTimers>,
 )
-    ensures { Tells (told.kept_sentence listed.now held) (S.acts system.old) (S.acts system.new) }
+    ensures { Tells (spec.kept_sentence listed.now held) (S.acts system.old) (S.acts system.new) }
 {
     if let Ok(sentence) = kept_sentence(alloc, listed, held) {
         system.tell(sentence.as_str());
@@ -46,30 +46,29 @@ fn start<S: System>(alloc: Global, system: &mut S, listed: &Listed, now: u64) ->
 }
 
 /// Each zone of a list is kept from a moment on.
+#[tactic(auto, using(crate::proofs::Starting::none_started, crate::proofs::Starting::one_started, crate::proofs::Starting::all_are_started))]
 fn start_all<S: System>(
     alloc: Global,
     system: &mut S,
-    listed: &[Listed],
+    listed: Vec<Listed>,
     now: u64,
-) -> Result<Vec<KeptZone>, NoMemory> {
+) -> Result<(Vec<KeptZone>, Vec<KeptFile>), NoMemory>
+    ensures { IfOk result (λ all. AreStarted listed.items now all.0.items all.1.items) }
+{
     let mut zones = Vec::new(alloc);
+    let mut files = Vec::new(alloc);
     for item in listed {
-        let zone = start(alloc, system, item, now);
+        let zone = start(alloc, system, &item, now);
         zones.push(zone)?;
+        files.push(KeptFile {
+            listed: item,
+            has_zone: zone.held.is_some(),
+        })?;
     }
-    Ok(zones)
+    Ok((zones, files))
 }
 
-/// Which zones have their files.
-fn which_have(alloc: Global, zones: &[KeptZone]) -> Result<Vec<bool>, NoMemory> {
-    let mut have = Vec::new(alloc);
-    for zone in zones {
-        have.push(zone.held.is_some())?;
-    }
-    Ok(have)
-}
-
-/// Keeps these zones for so many turns.
+/// Keeps the zones of a list for so many turns.
 fn keep_listed<S: System + Drop>(
     alloc: Global,
     form: KeptForm,
@@ -78,13 +77,11 @@ fn keep_listed<S: System + Drop>(
     turns: u64,
 ) -> Result<(), NoMemory> {
     let now = system.now();
-    let mut zones = start_all(alloc, &mut system, listed.as_slice(), now)?;
-    let have = which_have(alloc, zones.as_slice())?;
+    let (mut zones, files) = start_all(alloc, &mut system, listed, now)?;
     let mut keeper = Keeper {
         alloc,
         system,
-        listed,
-        have,
+        files,
         form,
         said: None,
     };

@@ -1,6 +1,6 @@
 //! The list of the zones that are kept, as a file has it.
 
-ghost use Rattle.std.specs.Prelude.{◌≡◌, ◌≢◌, ◌⊎◌, IfOk, IfErr};
+ghost use Rattle.std.specs.Prelude.{◌≡◌, ◌≢◌, ◌⊎◌, ◌<◌, length, IfOk, IfErr};
 ghost use Rattle.command_parts.specs.Ends.{IsSaid};
 ghost use Rattle.zone_refresh_run.specs.Listing as spec;
 ghost use Rattle.zone_refresh_run.specs.Listing.{IsListed, IsUnlisted};
@@ -35,6 +35,7 @@ pub(crate) fn listed_at<O: OpenFile>(
     path: &str,
 ) -> Result<Vec<Listed>, Unlisted>
     ensures zones { IfOk result (λ zones. IsListed path.now (O.files opener.old) zones.items) }
+    ensures some { IfOk result (λ zones. 0 < length zones.items) }
     ensures fault { IfErr result (IsUnlisted path.now (O.files opener.old) (O.faults opener.old) (O.faults opener.new)) }
 {
     let octets = match octets_at(alloc, opener, path) {

@@ -264,9 +264,9 @@ pub(crate) fn news_sentence(
 
 /// What a file has of its zone.
 #[derive(Clone, Copy)]
-struct Held(Option<ZoneTimers>);
+struct OfHeld(Option<ZoneTimers>);
 
-impl Display for Held {
+impl Display for OfHeld {
     ghost output = { λ held. Some (spec.held_text held.0) };
 
     fn fmt<W: fmt::Write>(&self, f: &mut fmt::Formatter<W>) -> fmt::Result {
@@ -289,7 +289,7 @@ pub(crate) fn kept_sentence(
     ensures { IfOk result (λ s. string_bytes s ≡ spec.kept_sentence listed.now held) }
 {
     let (apex, file) = (&listed.zone, listed.file.as_str());
-    let has = Held(held);
+    let has = OfHeld(held);
     let count = listed.primaries.as_slice().len();
     Ok(format!(in alloc; "zone_fetch: {apex}: kept in {file}, {has}; primaries: {count}\n")?)
 }

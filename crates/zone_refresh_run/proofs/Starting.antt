@@ -1,0 +1,66 @@
+-- Zones that begin to be kept, one more at a time.
+use Rattle.std.proofs.Common.{◌≡◌, ℕ, ◌+◌, List, [], ◌∷◌, ◌++◌, map, is_some, length, refl, ap, sym, ◌∙◌, append_assoc, length-append, arith}
+use Rattle.std.proofs.lemmas.List.{map-append}
+use Rattle.zone_list.specs.declared.listed.Listed.{Listed}
+use Rattle.zone_refresh.specs.declared.kept.KeptZone.{KeptZone}
+use Rattle.zone_refresh_run.specs.Acts.{AreStarted, all_started, listed_in, started}
+use Rattle.zone_refresh_run.specs.declared.keeper.KeptFile.{KeptFile}
+use Rattle.zone_refresh_run.proofs.Deeds.{append_nil}
+
+-- the first of a list, before these
+pub record StartedSo (listed rest : List Listed) (now : ℕ) (zones : List KeptZone) (files : List KeptFile) : Type 0 where
+  pub same : listed_in files ++ rest ≡ listed
+  pub many : length zones ≡ length (listed_in files)
+  pub zones_begin : zones ≡ all_started (listed_in files) now zones
+  pub have : map (λ (file : KeptFile). file.has_zone) files ≡ map (λ (zone : KeptZone). is_some zone.held) zones
+
+pub none_started : (listed : List Listed) (now : ℕ) → StartedSo listed listed now [] []
+none_started listed now = record { same = refl; many = refl; zones_begin = refl; have = refl }
+
+-- one more of as many
+started_more : (items : List Listed) (item : Listed) (now : ℕ) (zones : List KeptZone) (zone : KeptZone) → length zones ≡ length items → zone ≡ started item now zone.held
+    → zones ≡ all_started items now zones → zones ++ zone ∷ [] ≡ all_started (items ++ item ∷ []) now (zones ++ zone ∷ [])
+started_more [] item now [] zone many is before = ap (λ (z : KeptZone). z ∷ []) is
+started_more [] item now (z ∷ zones) zone many is before = absurd (omega (arith, many))
+started_more (i ∷ items) item now [] zone many is before = absurd (omega (arith, many))
+started_more (i ∷ items) item now (z ∷ zones) zone many is before =
+    let front : z ≡ started i now z.held = let e = before in cc in
+    let behind : zones ≡ all_started items now zones = let e = before in cc in
+    let fewer : length zones ≡ length items = omega (arith, many) in
+    ap (λ (y : KeptZone). y ∷ zones ++ zone ∷ []) front ∙ ap (λ (ys : List KeptZone). started i now z.held ∷ ys) (started_more items item now zones zone fewer is behind)
+
+pub one_started : (listed left rest : List Listed) (item : Listed) (now : ℕ) (zones : List KeptZone) (files : List KeptFile) (zone : KeptZone) (file : KeptFile) → StartedSo listed left now zones files
+    → left ≡ item ∷ rest → zone ≡ started item now zone.held → file ≡ record { listed = item; has_zone = is_some zone.held } → StartedSo listed rest now (zones ++ zone ∷ []) (files ++ file ∷ [])
+one_started listed left rest item now zones files zone file so is begins made =
+    let own : listed_in (files ++ file ∷ []) ≡ listed_in files ++ item ∷ [] =
+    map-append (λ (f : KeptFile). f.listed) files (file ∷ []) ∙ ap (λ (f : KeptFile). listed_in files ++ f.listed ∷ []) made in
+    let had : map (λ (f : KeptFile). f.has_zone) (files ++ file ∷ []) ≡ map (λ (f : KeptFile). f.has_zone) files ++ is_some zone.held ∷ [] =
+    map-append (λ (f : KeptFile). f.has_zone) files (file ∷ []) ∙ ap (λ (f : KeptFile). map (λ (g : KeptFile). g.has_zone) files ++ f.has_zone ∷ []) made in
+    record {
+      same =
+          ap (λ (ls : List Listed). ls ++ rest) own
+          ∙ append_assoc (listed_in files) (item ∷ []) rest
+          ∙ ap (λ (ls : List Listed). listed_in files ++ ls) (sym is)
+          ∙ so.same;
+      many =
+          length-append zones (zone ∷ [])
+          ∙ ap (λ (n : ℕ). n + 1) so.many
+          ∙ sym (length-append (listed_in files) (item ∷ []))
+          ∙ ap length (sym own);
+      zones_begin =
+          started_more (listed_in files) item now zones zone so.many begins so.zones_begin
+          ∙ ap (λ (ls : List Listed). all_started ls now (zones ++ zone ∷ [])) (sym own);
+      have =
+          had
+          ∙ ap (λ bs. bs ++ is_some zone.held ∷ []) so.have
+          ∙ sym (map-append (λ (z : KeptZone). is_some z.held) zones (zone ∷ []));
+    }
+
+pub all_are_started : (listed left : List Listed) (now : ℕ) (zones : List KeptZone) (files : List KeptFile) → StartedSo listed left now zones files → left ≡ [] → AreStarted listed now zones files
+all_are_started listed left now zones files so none =
+    let same : listed_in files ≡ listed = sym (append_nil (listed_in files)) ∙ ap (λ (ls : List Listed). listed_in files ++ ls) (sym none) ∙ so.same in
+    record {
+      same = same;
+      zones_begin = so.zones_begin ∙ ap (λ (ls : List Listed). all_started ls now zones) same;
+      have = so.have;
+    }
