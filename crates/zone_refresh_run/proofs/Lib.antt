@@ -6,3 +6,4 @@ pub mod Going
 pub mod Promises
 pub mod Worked
 pub mod Starting
+pub mod Listing

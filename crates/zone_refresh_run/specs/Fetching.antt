@@ -29,6 +29,10 @@ is_there status = status == 0 || status == 9
 abbrev pub has_no_base : ℕ → Bool
 has_no_base status = status == 1 || status == 3
 
+-- The file had one, and has none any more, or one in another form.
+abbrev pub is_lost : (has_zone : Bool) → ℕ → Bool
+is_lost has_zone status = has_zone && has_no_base status
+
 -- ---- one fetch, or a second one for the whole zone
 
 pub data FetchesOnce (listed : Listed) (primary : SocketAddr) (form : KeptForm) (has_zone : Bool) (status : ℕ) (old new : Acts) : Type 0 where
@@ -37,9 +41,8 @@ pub data FetchesOnce (listed : Listed) (primary : SocketAddr) (form : KeptForm) 
   starves : status ≡ 6 → new ≡ old → FetchesOnce listed primary form has_zone status old new
 
 pub data Fetches (listed : Listed) (primary : SocketAddr) (form : KeptForm) (has_zone : Bool) (status : ℕ) (old new : Acts) : Type 0 where
-  once : FetchesOnce listed primary form has_zone status old new → (has_zone && has_no_base status) ≡ false → Fetches listed primary form has_zone status old new
-  -- the file has none any more, or in another form
-  twice : (first : ℕ) (mid : Acts) → FetchesOnce listed primary form true first old mid → (has_zone && has_no_base first) ≡ true → FetchesOnce listed primary form false status mid new
+  once : FetchesOnce listed primary form has_zone status old new → is_lost has_zone status ≡ false → Fetches listed primary form has_zone status old new
+  twice : (first : ℕ) (mid : Acts) → FetchesOnce listed primary form has_zone first old mid → is_lost has_zone first ≡ true → FetchesOnce listed primary form false status mid new
       → Fetches listed primary form has_zone status old new
 
 -- These are the times of the zone that its file has then, or it was not fetched.

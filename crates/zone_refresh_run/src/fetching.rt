@@ -40,6 +40,13 @@ fn has_no_base(status: Status) -> bool
     status == statuses::REFUSED || status == statuses::SOURCE_FAULT
 }
 
+/// Whether a file that had the zone has none any more, or one in a form whose changes can't be asked for.
+fn is_lost(has_zone: bool, status: Status) -> bool
+    ensures { result ≡ spec.is_lost has_zone status.0 }
+{
+    has_zone && has_no_base(status)
+}
+
 /// The path of the file whose changes are asked for, if it has the zone.
 fn base_of(alloc: Global, path: &str, has_zone: bool) -> Result<Option<String>, NoMemory>
     ensures { IfOk result (λ file. option_map string_bytes file ≡ (if has_zone then Some path.now else None)) }
@@ -85,7 +92,7 @@ fn fetch<S: System>(alloc: Global, system: &mut S, listed: &Listed, manner: Fetc
     ensures { Fetches listed.now manner.primary manner.form manner.has_zone result.0 (S.acts system.old) (S.acts system.new) }
 {
     let status = fetch_once(alloc, system, listed, manner);
-    if !(manner.has_zone && has_no_base(status)) {
+    if !is_lost(manner.has_zone, status) {
         return status;
     }
     let whole = FetchManner {
