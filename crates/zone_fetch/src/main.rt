@@ -89,7 +89,7 @@ fn run(rt: HostRuntime) -> u8 {
     if let Some(asked) = refresh_asked(&words) {
         let mut opener = FileOpener::new(rt);
         let system = RealSystem::new(rt);
-        return keep_asked(
+        let (status, _) = keep_asked(
             rt.alloc(),
             &words,
             asked,
@@ -97,8 +97,8 @@ fn run(rt: HostRuntime) -> u8 {
             &mut opener,
             &mut errors,
             u64::MAX,
-        )
-        .0;
+        );
+        return status.0;
     }
     fetch(rt, &words)
 }

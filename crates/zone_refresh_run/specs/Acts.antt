@@ -80,8 +80,15 @@ all_started (item ∷ items) now (zone ∷ zones) = started item now zone.held �
 abbrev pub listed_in : List KeptFile → List Listed
 listed_in files = map (λ file. file.listed) files
 
+-- One after another they are read, and told of.
+abbrev pub StartAll : List Listed → List KeptZone → (old new : Acts) → Type 0
+StartAll [] zones old new = new ≡ old
+StartAll (item ∷ items) [] old new = ⊥
+StartAll (item ∷ items) (zone ∷ zones) old new = (mid : Acts) × Starts item zone.held old mid × StartAll items zones mid new
+
 -- The zones of a list are kept from a moment on, and of each it is known whether its file has it.
-pub record AreStarted (listed : List Listed) (now : ℕ) (zones : List KeptZone) (files : List KeptFile) : Type 0 where
+pub record AreStarted (listed : List Listed) (now : ℕ) (zones : List KeptZone) (files : List KeptFile) (old new : Acts) : Type 0 where
   pub same : listed_in files ≡ listed
   pub zones_begin : zones ≡ all_started listed now zones
   pub have : map (λ file. file.has_zone) files ≡ map (λ zone. is_some zone.held) zones
+  pub acts : StartAll listed zones old new

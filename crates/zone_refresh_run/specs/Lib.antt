@@ -11,3 +11,4 @@ pub mod Sentences
 pub mod Acts
 pub mod Fetching
 pub mod Listing
+pub mod Keeping

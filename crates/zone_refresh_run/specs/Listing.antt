@@ -1,5 +1,5 @@
 -- The list of the zones that are kept, as a file has it.
-use Rattle.std.specs.Prelude.{◌≡◌, ◌<◌, ℕ, List, [], length, Option, Ok}
+use Rattle.std.specs.Prelude.{◌≡◌, ℕ, List, [], Option, Ok}
 use Rattle.command_parts.specs.Ends.{IsSaid}
 use Rattle.zone_list.specs.Listing.{TellsFault, TextSays}
 use Rattle.zone_list.specs.declared.fault.ListFault.TheVariants as lists
@@ -30,11 +30,7 @@ status_of (unlisted.List lists.TooLong) = 1
 status_of (unlisted.List lists.NoMemory) = 6
 status_of unlisted.NoZone = 1
 
--- The file at a path is a list of a zone at least;
-abbrev pub HasList : (path : List ℕ) → Files → Type 0
-HasList path files = (zones : List Listed) × IsListed path files zones × 0 < length zones
-
--- or it is none of any zone, and a sentence says why.
+-- The file at a path is no list of a zone, and a sentence says why.
 pub record RefusesList (path : List ℕ) (files : Files) (before after : Option (List ℕ)) (faults faults_after : ℕ) : Type 0 where
   pub fault : Unlisted
   pub text : List ℕ

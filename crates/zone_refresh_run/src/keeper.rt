@@ -2,8 +2,9 @@
 
 ghost use Rattle.std.specs.Prelude.{◌≡◌, ◌<◌, Option, Some, option_and_then, option_map, length, slice_get};
 ghost use Rattle.std.specs.Result.{result_ok};
-ghost use Rattle.zone_refresh_run.specs.Acts.{AsksAt, Sleeps, Tells, TellsAt, after_act, did_look, listed_in};
+ghost use Rattle.zone_refresh_run.specs.Acts.{AsksAt, Tells, listed_in};
 ghost use Rattle.zone_refresh_run.specs.Fetching.{BringsAt};
+ghost use Rattle.zone_refresh_run.specs.Keeping.{IsSame};
 ghost use Rattle.zone_refresh_run.specs.Sentences as spec;
 
 use crate::fetching::{FetchManner, bring};
@@ -91,7 +92,8 @@ impl<S: System> Keeper<S> {
     fn note(&mut self, zone: usize)
         ensures noted { zone < length self.old.files.items → option_map (λ f. f.has_zone) (slice_get self.new.files.items zone) ≡ Some true }
         ensures kept { listed_in self.new.files.items ≡ listed_in self.old.files.items }
-        ensures same { S.acts self.new.system ≡ S.acts self.old.system }
+        ensures system { self.new.system ≡ self.old.system }
+        ensures same { (self.new.form ≡ self.old.form) × (self.new.said ≡ self.old.said) }
     {
         if zone < self.files.len() {
             self.files[zone].has_zone = true;
@@ -100,7 +102,8 @@ impl<S: System> Keeper<S> {
 
     /// Fetches a zone from a primary into its file, where both are there: the times of the zone that the file has then.
     fn bring(&mut self, zone: usize, primary: usize) -> Option<ZoneTimers>
-        ensures { BringsAt self.old.files.items self.old.form zone primary result (S.acts self.old.system) (S.acts self.new.system) }
+        ensures brings { BringsAt self.old.files.items self.old.form zone primary result (S.acts self.old.system) (S.acts self.new.system) }
+        ensures same { IsSame self.old self.new }
     {
         let file = self.files.get(zone)?;
         let addr = primary_of(&file.listed, primary)?;
@@ -114,37 +117,28 @@ impl<S: System> Keeper<S> {
 }
 
 impl<S: System> World for Keeper<S> {
-    ghost use Rattle.std.specs.Prelude.{None};
+    ghost use Rattle.zone_refresh_run.specs.Keeping.{Does};
 
-    ghost deeds = { λ _. None };
+    ghost does = { Does S.acts };
 
-    fn now(&mut self) -> u64
-        ensures { S.acts self.new.system ≡ after_act (did_look result) (S.acts self.old.system) }
-    {
+    fn now(&mut self) -> u64 {
         self.system.now()
     }
 
-    fn sleep_until(&mut self, moment: u64)
-        ensures { Sleeps moment (S.acts self.old.system) (S.acts self.new.system) }
-    {
+    fn sleep_until(&mut self, moment: u64) {
         let now = self.system.now();
         if now < moment {
             self.system.sleep(moment - now);
         }
     }
 
-    fn ask_soa(&mut self, zone: usize, primary: usize) -> Option<Serial>
-        ensures asks { AsksAt self.old.files.items zone primary self.new.said (S.acts self.old.system) (S.acts self.new.system) }
-        ensures serial { result ≡ option_and_then result_ok self.new.said }
-    {
+    fn ask_soa(&mut self, zone: usize, primary: usize) -> Option<Serial> {
         let said = ask(&mut self.system, self.files.as_slice(), zone, primary);
         self.said = said;
         serial_in(said)
     }
 
-    fn fetch(&mut self, zone: usize, primary: usize) -> Option<ZoneTimers>
-        ensures { BringsAt self.old.files.items self.old.form zone primary result (S.acts self.old.system) (S.acts self.new.system) }
-    {
+    fn fetch(&mut self, zone: usize, primary: usize) -> Option<ZoneTimers> {
         let timers = self.bring(zone, primary);
         if timers.is_some() {
             self.note(zone);
@@ -152,9 +146,7 @@ impl<S: System> World for Keeper<S> {
         timers
     }
 
-    fn tell(&mut self, zone: usize, news: ZoneNews)
-        ensures { TellsAt self.old.files.items zone news self.old.said (S.acts self.old.system) (S.acts self.new.system) }
-    {
+    fn tell(&mut self, zone: usize, news: ZoneNews) {
         if let Some(file) = self.files.get(zone) {
             tell_of(self.alloc, &mut self.system, &file.listed, self.said, news);
         }

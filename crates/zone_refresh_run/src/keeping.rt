@@ -1,9 +1,10 @@
 //! Zones that are kept as a list says.
 
-ghost use Rattle.std.specs.Prelude.{◌≡◌, ◌⊎◌, IfOk, IfErr};
+ghost use Rattle.std.specs.Prelude.{◌≡◌, ◌⊎◌, IfOk, IfErr, OnOk};
 ghost use Rattle.command_parts.specs.Ends.{IsSaid};
 ghost use Rattle.zone_refresh_run.specs.Acts.{AreStarted, Starts, Tells, started};
-ghost use Rattle.zone_refresh_run.specs.Listing.{HasList, RefusesList};
+ghost use Rattle.zone_refresh_run.specs.Keeping.{KeepsList, KeepsZones};
+ghost use Rattle.zone_refresh_run.specs.Listing.{RefusesList};
 ghost use Rattle.zone_refresh_run.specs.Sentences as spec;
 ghost use Rattle.zone_refresh_run.specs.Words.{last_word, unkept_sentence};
 
@@ -53,7 +54,7 @@ fn start_all<S: System>(
     listed: Vec<Listed>,
     now: u64,
 ) -> Result<(Vec<KeptZone>, Vec<KeptFile>), NoMemory>
-    ensures { IfOk result (λ all. AreStarted listed.items now all.0.items all.1.items) }
+    ensures { IfOk result (λ all. AreStarted listed.items now all.0.items all.1.items (S.acts system.old) (S.acts system.new)) }
 {
     let mut zones = Vec::new(alloc);
     let mut files = Vec::new(alloc);
@@ -68,16 +69,21 @@ fn start_all<S: System>(
     Ok((zones, files))
 }
 
-/// Keeps the zones of a list for so many turns.
+/// Keeps the zones of a list for so many turns, and hands the system back.
 fn keep_listed<S: System + Drop>(
     alloc: Global,
     form: KeptForm,
     listed: Vec<Listed>,
     mut system: S,
     turns: u64,
-) -> Result<(), NoMemory> {
+) -> (S, Result<(), NoMemory>)
+    ensures { OnOk result.1 (KeepsZones S.acts form turns listed.items system result.0) }
+{
     let now = system.now();
-    let (mut zones, files) = start_all(alloc, &mut system, listed, now)?;
+    let (mut zones, files) = match start_all(alloc, &mut system, listed, now) {
+        Ok(all) => all,
+        Err(NoMemory) => return (system, Err(NoMemory)),
+    };
     let mut keeper = Keeper {
         alloc,
         system,
@@ -86,7 +92,8 @@ fn keep_listed<S: System + Drop>(
         said: None,
     };
     keep_zones(zones.as_mut_slice(), &mut keeper, turns);
-    Ok(())
+    let Keeper { system, .. } = keeper;
+    (system, Ok(()))
 }
 
 /// Tells why words are no command.
@@ -105,7 +112,7 @@ fn tell_unkept<L: Sink>(
     }
 }
 
-/// Keeps the zones of the list that words name, for so many turns, and answers the exit status: 0 where they were made. 1: a line of the
+/// Keeps the zones of the list that words name, for so many turns, and answers the exit status, with the system: 0 where they were made. 1: a line of the
 /// list is wrong, it is too long, or it names no zone. 2: the words are none. 3: the list can't be read. 6: memory ran out. On each but 0
 /// a sentence to `errors` says why.
 pub fn keep_asked<S: System + Drop, O: OpenFile, L: Sink>(
@@ -116,22 +123,23 @@ pub fn keep_asked<S: System + Drop, O: OpenFile, L: Sink>(
     opener: &mut O,
     errors: &mut L,
     turns: u64,
-) -> Status
-    ensures usage { result.0 ≡ 2 → IfErr asked (λ unkept. IsSaid (unkept_sentence words.now unkept) (L.held errors.old) (L.held errors.new) (L.faults errors.old) (L.faults errors.new)) }
-    ensures kept { result.0 ≡ 0 → IfOk asked (λ form. HasList (last_word words.now) (O.files opener.old)) }
-    ensures refused { result.0 ≡ 1 → IfOk asked (λ form. RefusesList (last_word words.now) (O.files opener.old) (L.held errors.old) (L.held errors.new) (L.faults errors.old) (L.faults errors.new)) }
+) -> (Status, S)
+    ensures usage { result.0.0 ≡ 2 → IfErr asked (λ unkept. IsSaid (unkept_sentence words.now unkept) (L.held errors.old) (L.held errors.new) (L.faults errors.old) (L.faults errors.new)) }
+    ensures kept { result.0.0 ≡ 0 → IfOk asked (λ form. KeepsList S.acts form turns (last_word words.now) (O.files opener.old) system result.1) }
+    ensures refused { result.0.0 ≡ 1 → IfOk asked (λ form. RefusesList (last_word words.now) (O.files opener.old) (L.held errors.old) (L.held errors.new) (L.faults errors.old) (L.faults errors.new)) }
 {
     let form = match asked {
         Ok(form) => form,
-        Err(unkept) => return tell_unkept(alloc, words, unkept, errors),
+        Err(unkept) => return (tell_unkept(alloc, words, unkept, errors), system),
     };
     let path = last_word(words);
     let listed = match listed_at(alloc, opener, path) {
         Ok(listed) => listed,
-        Err(unlisted) => return tell_unlisted(alloc, path, unlisted, errors),
+        Err(unlisted) => return (tell_unlisted(alloc, path, unlisted, errors), system),
     };
-    match keep_listed(alloc, form, listed, system, turns) {
-        Ok(()) => statuses::DONE,
-        Err(NoMemory) => end_by(errors, statuses::NO_MEMORY, MEMORY),
+    let (system, end) = keep_listed(alloc, form, listed, system, turns);
+    match end {
+        Ok(()) => (statuses::DONE, system),
+        Err(NoMemory) => (end_by(errors, statuses::NO_MEMORY, MEMORY), system),
     }
 }
