@@ -8,20 +8,22 @@
 //!     return keep_asked(alloc, &words, asked, system, &mut opener, &mut errors, u64::MAX);
 //! }
 //! ```
+//! - `keep_asked`: at status 0 the file is a list, and what the system did is this, and nothing else (`KeepsList`): the zones of the
+//!   list began to be kept, each file was read and that told, and so many turns were made (`AreKept`). At 1 the file is no list of a
+//!   zone, at 2 the words are none, and that is told (`RefusesList`). `refresh_asked` says which words are which.
 //! - `keep_zones`: `AreKept`: over any world the deeds, and the zones that are left, are those of so many turns. A turn
 //!   sleeps until the least moment at which a zone is due, and visits each zone once, in order: it does what the zone's
 //!   machine waits for, dates what comes by the clock, and tells.
 //! - `keeping_laws`: nothing is overslept; a zone is asked for when it is due and not sooner, fetched exactly where the
 //!   serial is greater, told to have expired again only behind a confirmation, and visited once a turn.
-//! - That world, `Keeper`, does each deed in the system, which tells its acts (`Acts.antt`): a primary is asked for the SOA of
-//!   its zone (`AsksAt`), a zone fetched from it into the zone's own file, by its changes where the file has it (`BringsAt`),
-//!   and what came is told in a sentence (`TellsAt`).
+//! - What a deed does in the system (`Does`): a primary is asked for the SOA of its zone (`AsksAt`), a zone fetched from it into the
+//!   zone's own file, by its changes where the file has it (`BringsAt`), and what came is told in a sentence (`TellsAt`).
 //! - `ask_serial`: what a new client of that primary alone got to a question for the SOA, by datagrams (`Asks`), within
 //!   ten seconds. `serial_said`: the serial of an authoritative answer with code 0 and an SOA of the zone, or why there is none.
 //! - `held_at`: a serial and times are those of the zone that the file at the path has (`HasTimers`).
-//! - `refresh_asked`, `keep_asked`: which words are which; status 0 only where the file is a list (`HasList`), 1 where it is none
-//!   and that is told (`RefusesList`), 2 where the words are none and that is told. That status 3 is one of a file that can't
-//!   be read is no clause, nor is what was done in the turns: each call of `Keeper` has its own.
+//!
+//! Not said: that status 3 is one of a file that can't be read, and what the real system does at an act, which is `zone_fetch`'s
+//! `RealSystem`: it calls `ask_serial`, `held_at` and `fetch_for` of `zone_fetch_run`.
 //!
 //! # Why it is so
 //!
