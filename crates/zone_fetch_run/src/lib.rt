@@ -44,13 +44,14 @@
 //! its first octets and that sink's count of faults rose; and it was handed on, or that count rose (`handed_on`).
 //!
 //! *There is a zone*: the words are a command, the zone before is none, or one with this name and its SOA's serial, which
-//! prints octet for octet what the file has (`IsPrinted`); and it was brought to what the server has (`IsBrought`). Without
-//! a serial the whole zone is asked for. With one its changes are, and what comes of them is a function of that serial and
-//! of what came (`course_of_changes`, `course_of_fault`): the zone that they lead to, if it is newer; or the whole zone is
-//! asked for over the later edge, where the server refuses changes (or fails at them, where the command has that count,
-//! which no words say), has none up to a greater serial, or sends some that do not fit; or the fault. No zone is taken but one with a greater serial (`judged`). Each transfer is `IsFetched` of
-//! `zone_transfer` behind the server's address, which the edge learned first. A line that is read is a record
-//! (`IsRecordLine`), and lines make updates (`AddsZone`).
+//! prints octet for octet what the file has (`IsPrinted`); and it was brought to what the server has (`IsBrought`).
+//! Without a serial the whole zone is asked for. With one its changes are, and what comes of them is a function of that
+//! serial and of what came (`course_of_changes`, `course_of_fault`): the zone that they lead to, if it is newer; or the
+//! whole zone is asked for over the later edge, where the server refuses changes (or fails at them, where the command has
+//! that count, which no words say), has none up to a greater serial, or sends some that do not fit; or the fault. No zone
+//! is taken but one with a greater serial (`judged`). Each transfer is `IsFetched` of `zone_transfer` behind the server's
+//! address, which the edge learned first. A line that is read is a record (`IsRecordLine`), and lines make updates
+//! (`AddsZone`).
 //!
 //! # Why it is so
 //!
