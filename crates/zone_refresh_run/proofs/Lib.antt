@@ -7,3 +7,4 @@ pub mod Promises
 pub mod Worked
 pub mod Starting
 pub mod Listing
+pub mod Keeping

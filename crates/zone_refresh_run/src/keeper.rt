@@ -92,7 +92,7 @@ impl<S: System> Keeper<S> {
     fn note(&mut self, zone: usize)
         ensures noted { zone < length self.old.files.items → option_map (λ f. f.has_zone) (slice_get self.new.files.items zone) ≡ Some true }
         ensures kept { listed_in self.new.files.items ≡ listed_in self.old.files.items }
-        ensures system { self.new.system ≡ self.old.system }
+        ensures untouched { self.new.system ≡ self.old.system }
         ensures same { (self.new.form ≡ self.old.form) × (self.new.said ≡ self.old.said) }
     {
         if zone < self.files.len() {
