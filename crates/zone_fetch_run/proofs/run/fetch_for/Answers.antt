@@ -42,8 +42,8 @@ returns-in-Ok-asked-clause-handed_on g c no_zero no_six =
     flushed_or_rose _ _ _ _ c.tell_detour.ensures.count
     (handed_on_written c.tell_written.result.0 _ (written_statuses c.tell_written.result c.put_zone-status.result c.tell_written.ensures.status c.put_zone-status.ensures.others) c.tell_written.ensures.flushed no_zero no_six)
 
-pub returns-clause-ends : goal.returns-clause-ends
-returns-clause-ends g c words =
+pub returns-in-Err-clause-ends : goal.returns-in-Err-clause-ends
+returns-in-Err-clause-ends g c words =
     ended_stopped c.args.command.now (g.O.OpenFile.files c.args.world.now.opener) (g.W.Words.stream c.args.world.now.random)
     (TellsBySentence words (sight g.K.Sink.held g.K.Sink.flushed g.K.Sink.faults g.F.Replacing.placed g.F.Replacing.faults g.L.Sink.held g.L.Sink.faults (c.args.sink.now, c.args.world.now.files, c.args.errors.now))
     (sight g.K.Sink.held g.K.Sink.flushed g.K.Sink.faults g.F.Replacing.placed g.F.Replacing.faults g.L.Sink.held g.L.Sink.faults (c.args.sink.now, c.args.world.now.files, c.tell_stop.new.errors))) c.tell_stop.result.0 _ _ _ _
@@ -56,9 +56,9 @@ returns-clause-ends g c words =
     ))
     (spared_same c.args.command.now.output _, refl)
 
-pub returns-clause-unread : goal.returns-clause-unread
-returns-clause-unread g c e =
+pub returns-in-Err-clause-unread : goal.returns-in-Err-clause-unread
+returns-in-Err-clause-unread g c e =
     rose_at _ _ c.in-Err.stop (unread_there c.zone_asked-detour.result.1 c.in-Err.stop _ _ c.in-Err.is c.zone_asked-detour.ensures.unread) (c.tell_stop.ensures.unread e)
 
-pub returns-clause-handed_on : goal.returns-clause-handed_on
-returns-clause-handed_on g c no_zero no_six = flushed_or_rose _ _ _ _ c.tell_detour.ensures.count (c.tell_stop.ensures.flushed no_six)
+pub returns-in-Err-clause-handed_on : goal.returns-in-Err-clause-handed_on
+returns-in-Err-clause-handed_on g c no_zero no_six = flushed_or_rose _ _ _ _ c.tell_detour.ensures.count (c.tell_stop.ensures.flushed no_six)
