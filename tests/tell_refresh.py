@@ -99,8 +99,8 @@ def kept(program, folder, primaries, count, before=None):
     return lines, path.read_text() if path.exists() else None
 
 
-def begins(held, primaries=1):
-    return f": kept in FILE, which has {held}; primaries: {primaries}"
+def begins(held):
+    return f": kept in FILE, which has {held}"
 
 
 def tells_of_zones(program, folder):
@@ -151,7 +151,7 @@ def tells_of_turns(program, folder):
     has = f": {two.name()} has serial 6, and FILE has not; it is fetched from {two.name()}"
     come = f": FILE is up to date, serial 6 came from {two.name()}; asked again in 3600 s"
     got = kept(program, folder, [gone, two], 4, "no zone\n")
-    expect("the second primary", got, ([begins("no zone yet", 2), passed, has, come], zone_of(6)))
+    expect("the second primary", got, ([begins("no zone yet"), passed, has, come], zone_of(6)))
     lines, file = kept(program, folder, [gone], 5, text([impatient(5)]))
     expired = ": expired: no primary has confirmed it for as long as its SOA says"
     refused = f": {gone.name()} gave no SOA: it answered REFUSED; asked again in 1 s"

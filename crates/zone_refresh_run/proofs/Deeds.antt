@@ -16,7 +16,7 @@ module _ {W : Type 0} (does : Deed → W → W → Type 0) where
 
   pub more_deeds : (first second : List Deed) (a b c : W) → Leads does first a b → Leads does second b c → Leads does (first ++ second) a c
   more_deeds [] second a b c f s = subst (λ (w : W). Leads does second w c) (sym f) s
-  more_deeds (deed ∷ first) second a b c f s = (f.0, f.1.0, more_deeds first second f.0 b c f.1.1 s)
+  more_deeds (deed ∷ first) second a b c f s = (f.0, f.1, more_deeds first second f.0 b c f.2 s)
 
   pub same_deeds : (deeds others : List Deed) (a b : W) → deeds ≡ others → Leads does deeds a b → Leads does others a b
   same_deeds deeds others a b same h = subst (λ (ds : List Deed). Leads does ds a b) same h

@@ -6,5 +6,5 @@ pub mod Going
 pub mod Promises
 pub mod Worked
 pub mod Starting
-pub mod Listing
-pub mod Keeping
+pub mod Refusing
+pub mod Noting

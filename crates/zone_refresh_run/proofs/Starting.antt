@@ -1,9 +1,11 @@
 -- Zones that begin to be kept, one more at a time.
-use Rattle.std.proofs.Common.{◌≡◌, ℕ, ◌+◌, List, [], ◌∷◌, ◌++◌, map, is_some, length, refl, ap, sym, subst, ◌∙◌, append_assoc, length-append, arith}
+use Rattle.std.proofs.Common.{◌≡◌, ℕ, ◌+◌, Bool, List, [], ◌∷◌, ◌++◌, Option, map, is_some, length, refl, ap, sym, subst, ◌∙◌, append_assoc, length-append, arith}
 use Rattle.std.proofs.lemmas.List.{map-append}
 use Rattle.zone_list.specs.declared.listed.Listed.{Listed}
 use Rattle.zone_refresh.specs.declared.kept.KeptZone.{KeptZone}
-use Rattle.zone_refresh_run.specs.Acts.{Acts, AreStarted, StartAll, Starts, all_started, listed_in, started}
+use Rattle.zone_refresh.specs.declared.kept.ZoneTimers.{ZoneTimers}
+use Rattle.zone_refresh_run.specs.Acts.{Acts, AreStarted, StartAll, Starts, Tells, after_act, all_started, did_read, listed_in, started}
+use Rattle.zone_refresh_run.specs.Sentences.{kept_sentence}
 use Rattle.zone_refresh_run.specs.declared.keeper.KeptFile.{KeptFile}
 use Rattle.zone_refresh_run.proofs.Deeds.{append_nil}
 
@@ -26,7 +28,7 @@ acts_more [] item (z ∷ zones) zone a b c many before starts = absurd (omega (a
 acts_more (i ∷ items) item [] zone a b c many before starts = absurd before
 acts_more (i ∷ items) item (z ∷ zones) zone a b c many before starts =
     let fewer : length zones ≡ length items = omega (arith, many) in
-    (before.0, before.1.0, acts_more items item zones zone before.0 b c fewer before.1.1 starts)
+    (before.0, before.1, acts_more items item zones zone before.0 b c fewer before.2 starts)
 
 -- one more of as many
 started_more : (items : List Listed) (item : Listed) (now : ℕ) (zones : List KeptZone) (zone : KeptZone) → length zones ≡ length items → zone ≡ started item now zone.held
@@ -68,6 +70,14 @@ one_started listed left rest item now zones files zone file a b c so is begins m
       acts = subst (λ (ls : List Listed). StartAll ls (zones ++ zone ∷ []) a c) (sym own) (acts_more (listed_in files) item zones zone a b c so.many so.acts starts);
     }
 
+pub one_more_started : (listed left rest : List Listed) (item : Listed) (now : ℕ) (zones zones_after : List KeptZone) (files files_after : List KeptFile) (zone : KeptZone) (flag : Bool) (a b c : Acts)
+    → StartedSo listed left now zones files a b → left ≡ item ∷ rest → zone ≡ started item now zone.held → Starts item zone.held b c → zones_after ≡ zones ++ zone ∷ []
+    → files_after ≡ files ++ record { listed = item; has_zone = flag } ∷ [] → flag ≡ is_some zone.held → StartedSo listed rest now zones_after files_after a c
+one_more_started listed left rest item now zones zones_after files files_after zone flag a b c so is begins starts more_zones more_files has =
+    subst (λ (zs : List KeptZone). StartedSo listed rest now zs files_after a c) (sym more_zones)
+    (subst (λ (fs : List KeptFile). StartedSo listed rest now (zones ++ zone ∷ []) fs a c) (sym more_files)
+    (one_started listed left rest item now zones files zone (record { listed = item; has_zone = flag }) a b c so is begins (ap (λ (f : Bool). record { listed = item; has_zone = f }) has) starts))
+
 pub all_are_started : (listed left : List Listed) (now : ℕ) (zones : List KeptZone) (files : List KeptFile) (old new : Acts) → StartedSo listed left now zones files old new → left ≡ [] → AreStarted listed now zones files old new
 all_are_started listed left now zones files old new so none =
     let same : listed_in files ≡ listed = sym (append_nil (listed_in files)) ∙ ap (λ (ls : List Listed). listed_in files ++ ls) (sym none) ∙ so.same in
@@ -77,3 +87,12 @@ all_are_started listed left now zones files old new so none =
       have = so.have;
       acts = subst (λ (ls : List Listed). StartAll ls zones old new) same so.acts;
     }
+
+-- how one begins, from the calls that are made
+pub starts_so : (listed : Listed) (file : List ℕ) (held got : Option ZoneTimers) (a b c : Acts) → file ≡ listed.file → got ≡ held → b ≡ after_act (did_read file held) a
+    → Tells (kept_sentence listed held) b c → Starts listed got a c
+starts_so listed file held got a b c same is read told = record {
+  mid = b;
+  read = read ∙ ap (λ (p : List ℕ). after_act (did_read p held) a) same ∙ ap (λ (h : Option ZoneTimers). after_act (did_read listed.file h) a) (sym is);
+  told = subst (λ (h : Option ZoneTimers). Tells (kept_sentence listed h) b c) (sym is) told;
+}

@@ -1,5 +1,5 @@
 -- Turns, one more at a time.
-use Rattle.std.proofs.Common.{◌≡◌, ℕ, ◌+◌, List, [], ◌∷◌, ◌++◌, refl, ap, sym, ◌∙◌, length-append}
+use Rattle.std.proofs.Common.{◌≡◌, ℕ, ◌+◌, List, [], ◌∷◌, ◌++◌, refl, ap, sym, subst, ◌∙◌, length-append}
 use Rattle.std.specs.List.{All, flat_map}
 use Rattle.std.proofs.lemmas.Grind.{flat_map-append}
 use Rattle.zone_refresh.specs.declared.kept.KeptZone.{KeptZone}
@@ -43,3 +43,7 @@ kept_more does count zones mid after old between new so is = record {
       )
       (more_deeds does (flat_map deeds_in so.turns) (deeds_in is.turn) old between new so.deeds is.deeds);
 }
+
+-- the same zones, spelled otherwise
+pub kept_as : {W : Type 0} (does : Deed → W → W → Type 0) (count : ℕ) (zones others after : List KeptZone) (old new : W) → AreKept does count zones after old new → zones ≡ others → AreKept does count others after old new
+kept_as does count zones others after old new so same = subst (λ (zs : List KeptZone). AreKept does count zs after old new) same so

@@ -1,5 +1,5 @@
 -- What is told of zones that are kept.
-use Rattle.std.specs.Prelude.{ℕ, ◌-◌, ◌/◌, ◌==◌, Bool, false, if◌then◌else◌, List, [], ◌++◌, codes, decimal, length, Option, None, Some, Result, Ok, Err, slice_get}
+use Rattle.std.specs.Prelude.{ℕ, ◌-◌, ◌/◌, ◌==◌, Bool, false, if◌then◌else◌, List, [], ◌++◌, codes, decimal, Option, None, Some, Result, Ok, Err, slice_get}
 use Rattle.client_request.specs.ErrorText.{error_text}
 use Rattle.client_request.specs.declared.error.Error.{Error}
 use Rattle.client_request.specs.declared.error.Error.TheVariants as clients
@@ -50,8 +50,8 @@ has_serial (Some timers) serial = timers.serial.0 == serial
 -- what a primary said, where a zone with this serial is held then or not
 abbrev pub said_text : (primary file : List ℕ) → (serial : ℕ) → Bool → List ℕ
 said_text primary file serial is_held =
-    if is_held then file ++ codes " is up to date, serial " ++ decimal serial ++ codes " as " ++ primary ++ codes " has it"
-    else primary ++ codes " has serial " ++ decimal serial ++ codes ", and " ++ file ++ codes " has not"
+    if is_held then file ++ (codes " is up to date, serial " ++ (decimal serial ++ (codes " as " ++ (primary ++ codes " has it"))))
+    else primary ++ (codes " has serial " ++ (decimal serial ++ (codes ", and " ++ (file ++ codes " has not"))))
 
 -- ---- why a primary gave no serial
 
@@ -82,8 +82,8 @@ why_text (Some (Err why)) = codes ": " ++ no_serial_text why
 abbrev pub came_text : (primary file : List ℕ) → Option (Result Serial NoSerial) → Event → Option ZoneTimers → List ℕ
 came_text primary file said events.Tick held = []
 came_text primary file said (events.Answered serial) held = said_text primary file serial.0 (has_serial held serial.0)
-came_text primary file said events.Unanswered held = primary ++ codes " gave no SOA" ++ why_text said
-came_text primary file said (events.Fetched timers) held = file ++ codes " is up to date, serial " ++ decimal timers.serial.0 ++ codes " came from " ++ primary
+came_text primary file said events.Unanswered held = primary ++ (codes " gave no SOA" ++ why_text said)
+came_text primary file said (events.Fetched timers) held = file ++ (codes " is up to date, serial " ++ (decimal timers.serial.0 ++ (codes " came from " ++ primary)))
 came_text primary file said events.NotFetched held = codes "nothing came from " ++ primary
 
 abbrev pub came_sentence : Listed → Option (Result Serial NoSerial) → (number : ℕ) → Event → (moment : ℕ) → KeptZone → List ℕ
@@ -103,9 +103,12 @@ abbrev pub held_text : Option ZoneTimers → List ℕ
 held_text None = codes "which has no zone yet"
 held_text (Some timers) = codes "which has serial " ++ decimal timers.serial.0
 
+abbrev pub kept_text : (file : List ℕ) → Option ZoneTimers → List ℕ
+kept_text file held = codes "kept in " ++ (file ++ (codes ", " ++ held_text held))
+
 abbrev pub kept_sentence : Listed → Option ZoneTimers → List ℕ
 kept_sentence listed held =
-    codes "zone_fetch: " ++ (name_text listed.zone ++ (codes ": kept in " ++ (listed.file ++ (codes ", " ++ (held_text held ++ (codes "; primaries: " ++ (decimal (length listed.primaries) ++ codes "\n")))))))
+    codes "zone_fetch: " ++ (name_text listed.zone ++ (codes ": " ++ (kept_text listed.file held ++ codes "\n")))
 
 -- ---- what is wrong with a list
 

@@ -1,6 +1,6 @@
 //! The world of the zones of a list, in a system.
 
-ghost use Rattle.std.specs.Prelude.{◌≡◌, ◌<◌, Option, Some, option_and_then, option_map, length, slice_get};
+ghost use Rattle.std.specs.Prelude.{◌≡◌, ◌<◌, true, Option, Some, option_and_then, option_map, length, slice_get};
 ghost use Rattle.std.specs.Result.{result_ok};
 ghost use Rattle.zone_refresh_run.specs.Acts.{AsksAt, Tells, listed_in};
 ghost use Rattle.zone_refresh_run.specs.Fetching.{BringsAt};

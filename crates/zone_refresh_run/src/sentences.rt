@@ -280,6 +280,22 @@ impl Display for OfHeld {
     }
 }
 
+/// Where a zone is kept, and what its file has of it.
+#[derive(Clone, Copy)]
+struct KeptIn<'a> {
+    file: &'a str,
+    held: Option<ZoneTimers>,
+}
+
+impl Display for KeptIn<'_> {
+    ghost output = { λ kept. Some (spec.kept_text kept.file.now kept.held) };
+
+    fn fmt<W: fmt::Write>(&self, f: &mut fmt::Formatter<W>) -> fmt::Result {
+        let (file, has) = (self.file, OfHeld(self.held));
+        write!(f, "kept in {file}, {has}")
+    }
+}
+
 /// The sentence that tells that a zone is kept from now on, and what its file has of it.
 pub(crate) fn kept_sentence(
     alloc: Global,
@@ -288,10 +304,12 @@ pub(crate) fn kept_sentence(
 ) -> Result<String, NoMemory>
     ensures { IfOk result (λ s. string_bytes s ≡ spec.kept_sentence listed.now held) }
 {
-    let (apex, file) = (&listed.zone, listed.file.as_str());
-    let has = OfHeld(held);
-    let count = listed.primaries.as_slice().len();
-    Ok(format!(in alloc; "zone_fetch: {apex}: kept in {file}, {has}; primaries: {count}\n")?)
+    let apex = &listed.zone;
+    let kept = KeptIn {
+        file: listed.file.as_str(),
+        held,
+    };
+    Ok(format!(in alloc; "zone_fetch: {apex}: {kept}\n")?)
 }
 
 /// What is wrong with a line of a list.

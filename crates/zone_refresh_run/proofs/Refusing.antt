@@ -33,9 +33,9 @@ pub refuses_list : (path : List ℕ) (files : Files) (reads reads_after : ℕ) (
 refuses_list path files reads reads_after (unlisted.File Unread) before after faults faults_after of one said = absurd (omega arith)
 refuses_list path files reads reads_after (unlisted.File NoMemory) before after faults faults_after of one said = absurd (omega arith)
 refuses_list path files reads reads_after (unlisted.List (lists.Wrong wrong)) before after faults faults_after of one said =
-    record { fault = unlisted.List (lists.Wrong wrong); text = of.0; at = of.1.0; is = refl; said = said }
+    record { fault = unlisted.List (lists.Wrong wrong); text = of.0; at = of.1; is = refl; said = said }
 refuses_list path files reads reads_after (unlisted.List lists.TooLong) before after faults faults_after of one said =
-    record { fault = unlisted.List lists.TooLong; text = of.0; at = of.1.0; is = refl; said = said }
+    record { fault = unlisted.List lists.TooLong; text = of.0; at = of.1; is = refl; said = said }
 refuses_list path files reads reads_after (unlisted.List lists.NoMemory) before after faults faults_after of one said = absurd (omega arith)
 refuses_list path files reads reads_after unlisted.NoZone before after faults faults_after of one said =
     record { fault = unlisted.NoZone; text = of.text; at = of.at; is = refl; said = said }
