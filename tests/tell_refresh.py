@@ -136,7 +136,7 @@ def tells_of_failures(program, folder):
     for what, sent, why in (
         ("a cut", {IXFR: []}, "failed transport: the server closed the stream before the transfer's end"),
         ("NOTAUTH", {IXFR: [(9, [])]}, "failed refused: the server answered NOTAUTH"),
-        ("a wrong end", {IXFR: [(0, [soa(6), plain(1), soa(7)])]},
+        ("a wrong end", {IXFR: [(0, [soa(6), plain(1), impatient(6)])]},
          "failed transfer: what came is no transfer of the zone: it ends otherwise than it began, or has a record that no zone holds"),
     ):
         one = serving(6, sent)

@@ -66,13 +66,7 @@ impl System for RealSystem {
         };
         let mut world = world_of(self.rt, random);
         let mut sink = StdSink::new(self.rt.stdout());
-        fetch_for(
-            self.rt.alloc(),
-            command,
-            &mut sink,
-            &mut errors,
-            &mut world,
-        )
+        fetch_for(self.rt.alloc(), command, &mut sink, &mut errors, &mut world)
     }
 
     fn tell(&mut self, sentence: &str) {

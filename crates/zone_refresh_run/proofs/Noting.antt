@@ -24,7 +24,7 @@ module _ {S : Type 0} (old mid new : Keeper S) (zone : ℕ) (timers : Option Zon
       → NotesAt old.files.items zone timers new.files.items × (new.form ≡ old.form) × (new.said ≡ old.said)
   fetched_notes some listed noted rest = (
     notes_one old.files.items new.files.items zone timers some (listed ∙ ap (λ (v : Vec KeptFile Global). listed_in v.items) same.0)
-    (λ within. noted (subst (λ (v : Vec KeptFile Global). zone < length v.items) (sym same.0) within)),
+        (λ within. noted (subst (λ (v : Vec KeptFile Global). zone < length v.items) (sym same.0) within)),
     rest.0 ∙ same.1,
     rest.1 ∙ same.2,
   )

@@ -38,8 +38,8 @@ kept_more does count zones mid after old between new so is = record {
   deeds =
       same_deeds does (flat_map deeds_in so.turns ++ deeds_in is.turn) (flat_map deeds_in (so.turns ++ is.turn ∷ [])) old new
       (
-        ap (λ (ds : List Deed). flat_map deeds_in so.turns ++ ds) (sym (append_nil (deeds_in is.turn)))
-        ∙ sym (flat_map-append deeds_in so.turns (is.turn ∷ []))
+      ap (λ (ds : List Deed). flat_map deeds_in so.turns ++ ds) (sym (append_nil (deeds_in is.turn)))
+      ∙ sym (flat_map-append deeds_in so.turns (is.turn ∷ []))
       )
       (more_deeds does (flat_map deeds_in so.turns) (deeds_in is.turn) old between new so.deeds is.deeds);
 }

@@ -31,8 +31,8 @@ module _ {W : Type 0} (does : Deed → W → W → Type 0) where
         same_deeds does (done_for number before.phase event ++ Looked moment ∷ told_of number news outs.expired)
         (done_for number before.phase event ++ Looked moment ∷ told_of number (news_of before.phase event moment (zone_after before moment event)) (outs_after before moment event).expired) a d
         (
-          ap (λ (o : Option ZoneNews). done_for number before.phase event ++ Looked moment ∷ told_of number o outs.expired) (told ∙ ap (news_of before.phase event moment) left)
-          ∙ ap (λ (o : Outs). done_for number before.phase event ++ Looked moment ∷ told_of number (news_of before.phase event moment (zone_after before moment event)) o.expired) put
+        ap (λ (o : Option ZoneNews). done_for number before.phase event ++ Looked moment ∷ told_of number o outs.expired) (told ∙ ap (news_of before.phase event moment) left)
+        ∙ ap (λ (o : Outs). done_for number before.phase event ++ Looked moment ∷ told_of number (news_of before.phase event moment (zone_after before moment event)) o.expired) put
         )
         (done_so (done_for number before.phase event) (told_of number news outs.expired) (Looked moment) a b c d f g h);
   }
@@ -119,8 +119,8 @@ visited_more does index zones now before after old mid new so within is at = go 
           deeds =
               same_deeds does (deeds_from 0 so.visits ++ deeds_of index is.visit) (deeds_from 0 (so.visits ++ is.visit ∷ [])) old new
               (
-                ap (λ (n : ℕ). deeds_from 0 so.visits ++ deeds_of n is.visit) (let e : index ≡ 0 + length so.visits = omega (arith, so.many) in e)
-                ∙ sym (deeds_more 0 so.visits is.visit)
+              ap (λ (n : ℕ). deeds_from 0 so.visits ++ deeds_of n is.visit) (let e : index ≡ 0 + length so.visits = omega (arith, so.many) in e)
+              ∙ sym (deeds_more 0 so.visits is.visit)
               )
               (more_deeds does (deeds_from 0 so.visits) (deeds_of index is.visit) old mid new so.deeds is.deeds);
         }

@@ -78,7 +78,12 @@ fn command_for(alloc: Global, listed: &Listed, manner: FetchManner) -> Result<Co
 }
 
 /// Fetches a zone so.
-fn fetch_once<S: System>(alloc: Global, system: &mut S, listed: &Listed, manner: FetchManner) -> Status
+fn fetch_once<S: System>(
+    alloc: Global,
+    system: &mut S,
+    listed: &Listed,
+    manner: FetchManner,
+) -> Status
     ensures { FetchesOnce listed.now manner.primary manner.form manner.has_zone result.0 (S.acts system.old) (S.acts system.new) }
 {
     match command_for(alloc, listed, manner) {

@@ -22,12 +22,7 @@ use zone_list::Listed;
 use zone_refresh::{KeptZone, ZoneTimers};
 
 /// Tells that a zone is kept from now on, and what its file has of it.
-fn tell_kept<S: System>(
-    alloc: Global,
-    system: &mut S,
-    listed: &Listed,
-    held: Option<ZoneTimers>,
-)
+fn tell_kept<S: System>(alloc: Global, system: &mut S, listed: &Listed, held: Option<ZoneTimers>)
     ensures { Tells (spec.kept_sentence listed.now held) (S.acts system.old) (S.acts system.new) }
 {
     if let Ok(sentence) = kept_sentence(alloc, listed, held) {

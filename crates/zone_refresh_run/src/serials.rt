@@ -75,11 +75,7 @@ fn serial_among(zone: &Name, answer: &Message) -> Option<Serial>
 }
 
 /// The serial that is said by an answer with this code, where its records have that one, if any.
-fn said_by(
-    code: Rcode,
-    is_authoritative: bool,
-    serial: Option<Serial>,
-) -> Result<Serial, NoSerial>
+fn said_by(code: Rcode, is_authoritative: bool, serial: Option<Serial>) -> Result<Serial, NoSerial>
     ensures { result ≡ spec.said_by code.0 is_authoritative (option_map (λ s. s.0) serial) }
 {
     if code != Rcode::NOERROR {
