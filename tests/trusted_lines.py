@@ -45,7 +45,7 @@ TRUSTED = {
     "dns_forward": {"alone.rt": ALL, "shared.rt": ALL, "main.rt": ALL},
     "dns_lookup": {name: ALL for name in ["main.rt", "named_servers.rt", "root_walk.rt", "walked_world.rt"]},
     "dnsq": {"main.rt": ALL},
-    "zone_fetch": {"beside.rt": ["make", "rename", "remove"], "main.rt": ALL},
+    "zone_fetch": {"beside.rt": ["make", "rename", "remove"], "main.rt": ALL, "system.rt": ALL},
 }
 PROVED = {
     "client_edge": {

@@ -5,7 +5,7 @@ use Rattle.dns_values.specs.Source.{Rose}
 use Rattle.dns_values.specs.declared.numbers.Status.{Status}
 use Rattle.zone_records.specs.Folding.{Zone}
 use Rattle.zone_transfer.specs.Turning.{Scene}
-use Rattle.zone_fetch_run.specs.Ends.{End, FetchEnds, Files, HasStopped, HasZone, RoseUnread, Texts, is_out, is_refused, is_stopped, is_unread, is_unwritten, is_written}
+use Rattle.zone_fetch_run.specs.Ends.{CommandEnds, End, FetchEnds, Files, HasStopped, HasZone, RoseUnread, Texts, is_out, is_refused, is_stopped, is_unread, is_unwritten, is_written}
 use Rattle.zone_fetch_run.specs.Ends as ends
 use Rattle.zone_fetch_run.specs.Stops.{status_of}
 use Rattle.zone_fetch_run.specs.Words.{IsCommand}
@@ -30,20 +30,21 @@ module _ (words : Texts) (files : Files) (random : ℕ → ℕ) (Told : End → 
   ended_refused refusal judged (inl two) tells nothing = is_refused refusal judged two (tells two)
   ended_refused refusal judged (inr six) tells nothing = is_unread six nothing
 
-  pub ended_stopped : (command : Command) (detour : Option Detour) (stop : Stop) → IsCommand words (Ok command) → HasStopped command files random detour stop old new later later_new
-      → (status ≡ status_of stop) ⊎ (status ≡ 6) → (status ≢ 6 → Told (ends.stopped command detour stop)) → Told (ends.ran_out command) → FetchEnds words files random Told status old new later later_new
-  ended_stopped command detour stop judged h (inr six) tells out = is_out command judged six out
-  ended_stopped command detour stop judged h (inl is) tells out = elim (eqb_tells status 6) [
-    | inl same ↦ is_out command judged same.1 out
-    | inr other ↦ is_stopped command detour stop judged h is (tells other.1)
+module _ (command : Command) (files : Files) (random : ℕ → ℕ) (Told : End → Type 0) (status : ℕ) (old new later later_new : Scene) where
+  pub ended_stopped : (detour : Option Detour) (stop : Stop) → HasStopped command files random detour stop old new later later_new
+      → (status ≡ status_of stop) ⊎ (status ≡ 6) → (status ≢ 6 → Told (ends.stopped command detour stop)) → Told (ends.ran_out command) → CommandEnds command files random Told status old new later later_new
+  ended_stopped detour stop h (inr six) tells out = is_out six out
+  ended_stopped detour stop h (inl is) tells out = elim (eqb_tells status 6) [
+    | inl same ↦ is_out same.1 out
+    | inr other ↦ is_stopped detour stop h is (tells other.1)
   ]
 
-  pub ended_written : (command : Command) (detour : Option Detour) (zone : Zone) → IsCommand words (Ok command) → HasZone command files random zone detour old new later later_new
+  pub ended_written : (detour : Option Detour) (zone : Zone) → HasZone command files random zone detour old new later later_new
       → (status ≡ 0 → Told (ends.written command detour zone.records)) → (status ≡ 4 → Told (ends.unwritten command detour zone.records))
-      → (status ≡ 6 → Told (ends.ran_out command)) → (status ≡ 0) ⊎ ((status ≡ 4) ⊎ (status ≡ 6)) → FetchEnds words files random Told status old new later later_new
-  ended_written command detour zone judged h whole failed out (inl zero) = is_written command detour zone judged h zero (whole zero)
-  ended_written command detour zone judged h whole failed out (inr (inl four)) = is_unwritten command detour zone judged h four (failed four)
-  ended_written command detour zone judged h whole failed out (inr (inr six)) = is_out command judged six (out six)
+      → (status ≡ 6 → Told (ends.ran_out command)) → (status ≡ 0) ⊎ ((status ≡ 4) ⊎ (status ≡ 6)) → CommandEnds command files random Told status old new later later_new
+  ended_written detour zone h whole failed out (inl zero) = is_written detour zone h zero (whole zero)
+  ended_written detour zone h whole failed out (inr (inl four)) = is_unwritten detour zone h four (failed four)
+  ended_written detour zone h whole failed out (inr (inr six)) = is_out six (out six)
 
 -- a status that is told of: itself, or memory ran out where it is another than 0
 abbrev pub IsToldOf : (told status : Status) → Type 0

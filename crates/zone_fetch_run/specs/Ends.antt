@@ -111,17 +111,21 @@ pub data End : Type 0 where
   unwritten : Command → Option Detour → List ZoneRecord → End
   ran_out : Command → End
 
--- how it ends, by its status, where this is what is told at each end
+-- how a command ends, by its status, where this is what is told at each end
+pub data CommandEnds (command : Command) (files : Files) (random : ℕ → ℕ) (Tells : End → Type 0) (status : ℕ) (old new later later_new : Scene) : Type 0 where
+  is_stopped : (detour : Option Detour) (stop : Stop) → HasStopped command files random detour stop old new later later_new → status ≡ status_of stop → Tells (stopped command detour stop)
+      → CommandEnds command files random Tells status old new later later_new
+  is_written : (detour : Option Detour) (zone : Zone) → HasZone command files random zone detour old new later later_new → status ≡ 0 → Tells (written command detour zone.records)
+      → CommandEnds command files random Tells status old new later later_new
+  is_unwritten : (detour : Option Detour) (zone : Zone) → HasZone command files random zone detour old new later later_new → status ≡ 4 → Tells (unwritten command detour zone.records)
+      → CommandEnds command files random Tells status old new later later_new
+  is_out : status ≡ 6 → Tells (ran_out command) → CommandEnds command files random Tells status old new later later_new
+
+-- how the program does
 pub data FetchEnds (words : Texts) (files : Files) (random : ℕ → ℕ) (Tells : End → Type 0) (status : ℕ) (old new later later_new : Scene) : Type 0 where
   is_unread : status ≡ 6 → Tells unread → FetchEnds words files random Tells status old new later later_new
   is_refused : (refusal : Refusal) → IsCommand words (Err refusal) → status ≡ 2 → Tells (refused refusal) → FetchEnds words files random Tells status old new later later_new
-  is_stopped : (command : Command) (detour : Option Detour) (stop : Stop) → IsCommand words (Ok command) → HasStopped command files random detour stop old new later later_new
-      → status ≡ status_of stop → Tells (stopped command detour stop) → FetchEnds words files random Tells status old new later later_new
-  is_written : (command : Command) (detour : Option Detour) (zone : Zone) → IsCommand words (Ok command) → HasZone command files random zone detour old new later later_new
-      → status ≡ 0 → Tells (written command detour zone.records) → FetchEnds words files random Tells status old new later later_new
-  is_unwritten : (command : Command) (detour : Option Detour) (zone : Zone) → IsCommand words (Ok command) → HasZone command files random zone detour old new later later_new
-      → status ≡ 4 → Tells (unwritten command detour zone.records) → FetchEnds words files random Tells status old new later later_new
-  is_out : (command : Command) → IsCommand words (Ok command) → status ≡ 6 → Tells (ran_out command) → FetchEnds words files random Tells status old new later later_new
+  is_command : (command : Command) → IsCommand words (Ok command) → CommandEnds command files random Tells status old new later later_new → FetchEnds words files random Tells status old new later later_new
 
 -- What a sink holds then, where lines are written to it that tell why there is no zone.
 abbrev pub TellsByLine : {K : Type 0} → (K → Option (List ℕ)) → (K → ℕ) → (before after : K) → End → Type 0
@@ -212,3 +216,8 @@ TellsBySentence words before after (ran_out command) = IsSpared command.output b
 abbrev pub FetchEndsIn : {O E C W P F : Type 0} → (E → Option (List Deed)) → (E → ℕ) → (C → Option (List ℕ)) → (O → Files) → (W → ℕ → ℕ) → Texts → (End → Type 0) → (status : ℕ) → (old new : FetchWorld O E C W P F) → Type 0
 FetchEndsIn deeds polls given files stream words Tells status old new =
     over deeds polls given (old.edge, old.later, old.means.clock) (new.edge, new.later, new.means.clock) (FetchEnds words (files old.opener) (stream old.means.random) Tells status)
+
+-- the same of a command
+abbrev pub CommandEndsIn : {O E C W P F : Type 0} → (E → Option (List Deed)) → (E → ℕ) → (C → Option (List ℕ)) → (O → Files) → (W → ℕ → ℕ) → Command → (End → Type 0) → (status : ℕ) → (old new : FetchWorld O E C W P F) → Type 0
+CommandEndsIn deeds polls given files stream command Tells status old new =
+    over deeds polls given (old.edge, old.later, old.means.clock) (new.edge, new.later, new.means.clock) (CommandEnds command (files old.opener) (stream old.means.random) Tells status)

@@ -51,7 +51,7 @@ IsMissed command kind words zone old new fault = (fault ≡ NoMemory) ⊎ HasCau
 pub data IsAnswered (command : Command) (words : ℕ → ℕ) (have : Serial) (zone after : Zone) (course : Course) (old new : Scene) : Type 0 where
   changes : (got : Serial) (misfits : ℕ) → IsFetchedBy command Ixfr words zone after misfits old new → after.serial ≡ Some got.0 → course ≡ course_of_changes have got misfits
       → IsAnswered command words have zone after course old new
-  no_changes : (fault : FetchFault) → IsMissed command Ixfr words zone old new fault → course ≡ course_of_fault have fault → IsAnswered command words have zone after course old new
+  no_changes : (fault : FetchFault) → IsMissed command Ixfr words zone old new fault → course ≡ course_of_fault command.whole_at_servfail have fault → IsAnswered command words have zone after course old new
 
 -- The whole zone was asked for, where one of this serial is there already, or none; this is the end of it.
 pub data IsWhole (command : Command) (words : ℕ → ℕ) (have : Option Serial) (zone after : Zone) (end : Result (Unit {0}) Left) (old new : Scene) : Type 0 where

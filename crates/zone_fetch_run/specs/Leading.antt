@@ -35,9 +35,9 @@ course_to (Err left) detour = Err left
 abbrev pub course_of_changes : (have got : Serial) → (misfits : ℕ) → Course
 course_of_changes have got misfits = course_to (judged have got) (if misfits == 0 then None else Some (detours.Misfits misfits))
 
--- The server knows no such request, or does not serve it: FORMERR, NOTIMP or REFUSED.
-abbrev pub is_unwilling : ℕ → Bool
-is_unwilling code = code == 1 || code == 4 || code == 5
+-- The server knows no such request, or does not serve it: FORMERR, NOTIMP or REFUSED; or it fails at it, where that counts.
+abbrev pub is_unwilling : (whole_at_servfail : Bool) → ℕ → Bool
+is_unwilling whole_at_servfail code = code == 1 || code == 4 || code == 5 || (whole_at_servfail && code == 2)
 
 -- It has no changes, but a serial alone.
 abbrev pub course_alone : Serial → XfrFault → Course
@@ -45,7 +45,7 @@ course_alone have (transfers.SingleSoa got) = course_to (judged have got) (Some 
 course_alone have fault = Err (lefts.NotFetched (faults.Xfr fault))
 
 -- They were not fetched.
-abbrev pub course_of_fault : Serial → FetchFault → Course
-course_of_fault have (faults.Refused code) = if is_unwilling code.0 then Ok (Some (detours.Refused code)) else Err (lefts.NotFetched (faults.Refused code))
-course_of_fault have (faults.Xfr fault) = course_alone have fault
-course_of_fault have fault = Err (lefts.NotFetched fault)
+abbrev pub course_of_fault : (whole_at_servfail : Bool) → Serial → FetchFault → Course
+course_of_fault whole_at_servfail have (faults.Refused code) = if is_unwilling whole_at_servfail code.0 then Ok (Some (detours.Refused code)) else Err (lefts.NotFetched (faults.Refused code))
+course_of_fault whole_at_servfail have (faults.Xfr fault) = course_alone have fault
+course_of_fault whole_at_servfail have fault = Err (lefts.NotFetched fault)

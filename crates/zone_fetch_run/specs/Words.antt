@@ -137,7 +137,7 @@ missing next.Address = refusals.NoZone
 missing next.Nothing = refusals.NoZone
 
 abbrev pub command_at : Option Labels → Option IpAddr → Said → Result Command Refusal
-command_at (Some apex) (Some ip) said = Ok (record { apex = apex; server = record { ip = ip; port = said.port }; most = said.most; file = said.file; output = said.output; text = said.text })
+command_at (Some apex) (Some ip) said = Ok (record { apex = apex; server = record { ip = ip; port = said.port }; most = said.most; file = said.file; output = said.output; text = said.text; whole_at_servfail = false })
 command_at (Some apex) None said = Err refusals.NoAddress
 command_at None server said = Err (missing said.next)
 

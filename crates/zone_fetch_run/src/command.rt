@@ -11,7 +11,7 @@ use std::alloc::Global;
 const DNS_PORT: u16 = 53;
 
 /// How much memory the updates of a transfer may be reckoned to take where nothing is said, in octets.
-const MOST: u64 = 1_000_000_000;
+pub const MOST: u64 = 1_000_000_000;
 
 /// What is to be done.
 #[derive(Drop)]
@@ -28,6 +28,8 @@ pub struct Command {
     pub output: Option<String>,
     /// Whether the zone is written in the form that name servers load.
     pub text: bool,
+    /// Whether the whole zone is asked for also where the server fails at its changes (SERVFAIL). No words say so.
+    pub whole_at_servfail: bool,
 }
 
 /// What the next word is.
@@ -124,6 +126,7 @@ fn command_in(said: Said) -> Result<Command, Refusal>
             file,
             output,
             text,
+            whole_at_servfail: false,
         }),
         (Some(_), None) => Err(Refusal::NoAddress),
         (None, _) => Err(missing(next)),

@@ -66,7 +66,7 @@ fn fetch_changes<E: Edge, C: Clock, W: Words, P: Progress>(
 {
     match fetch_by(alloc, command, XfrKind::Ixfr, zone, edge, means) {
         Ok(misfits) => course_of_changes(have, serial_of(zone), misfits),
-        Err(fault) => course_of_fault(have, fault),
+        Err(fault) => course_of_fault(command.whole_at_servfail, have, fault),
     }
 }
 

@@ -17,6 +17,7 @@ use std::alloc::Global;
 /// The words and statuses, as they are told to who asks for help.
 const HELP: &str = "\
 usage: zone_fetch [--text] [--port P] [--most OCTETS] [--from FILE] [--output FILE] ZONE ADDRESS
+       zone_fetch [--text] [--most OCTETS] --refresh LIST
        zone_fetch --help | --version
 
 Asks a name server for a zone by stream (AXFR), and prints it, a record a line, sorted, once all of it is there.
@@ -30,14 +31,21 @@ Asks a name server for a zone by stream (AXFR), and prints it, a record a line, 
   --from FILE     FILE has the zone as it was printed before, in either form: ask for its changes alone (IXFR), and
                   for the whole zone where they do not lead on, which a sentence on standard error says
   --output FILE   put the zone in the place of FILE once it is whole, and print nothing; else FILE is as it was
+  --refresh LIST  keep the zones of LIST until a signal ends the program, a line each: ZONE FILE ADDRESS[@PORT] ..;
+                  lines that begin with # name none
 
 Options stand before the zone, and the last of each counts.
 
+A zone that is kept is asked for when its SOA says so (REFRESH, and RETRY behind a failure). Its primaries are asked in
+turn for their serial, by datagram; where one is greater the changes are fetched, or the whole zone where they do not
+lead on or the server fails at them, and put in the place of FILE. Standard error tells which zones are kept, what came
+of each primary and what is next, and that a zone has expired (EXPIRE).
+
 Exit status:
   0  the zone was printed whole
-  1  FILE has not the zone: the sentence says which line is wrong first, and how
+  1  FILE has not the zone, or LIST has a wrong line or no zone: the sentence says which line is wrong first, and how
   2  the words are no command
-  3  FILE could not be read
+  3  FILE or LIST could not be read
   4  standard output failed, or FILE of --output could not be written
   5  the zone was not fetched, or its serial is not greater than that of FILE
   6  memory ran out, or no random words could be had

@@ -89,11 +89,14 @@ pub(crate) fn course_of_changes(
     course_to(judged(have, got), Some(Detour::Misfits(misfits)))
 }
 
-/// Whether the server knows no such request, or does not serve it.
-fn is_unwilling(code: Rcode) -> bool
-    ensures { result ≡ plain.is_unwilling code.0 }
+/// Whether the server knows no such request, does not serve it, or fails at it, where that counts.
+fn is_unwilling(whole_at_servfail: bool, code: Rcode) -> bool
+    ensures { result ≡ plain.is_unwilling whole_at_servfail code.0 }
 {
-    code == Rcode::FORMERR || code == Rcode::NOTIMP || code == Rcode::REFUSED
+    code == Rcode::FORMERR
+        || code == Rcode::NOTIMP
+        || code == Rcode::REFUSED
+        || (whole_at_servfail && code == Rcode::SERVFAIL)
 }
 
 fn course_alone(have: Serial, fault: XfrFault) -> Result<Option<Detour>, Left>
@@ -106,12 +109,16 @@ fn course_alone(have: Serial, fault: XfrFault) -> Result<Option<Detour>, Left>
 }
 
 /// What comes of a request for changes that were not fetched.
-pub(crate) fn course_of_fault(have: Serial, fault: FetchFault) -> Result<Option<Detour>, Left>
-    ensures { result ≡ plain.course_of_fault have fault }
+pub(crate) fn course_of_fault(
+    whole_at_servfail: bool,
+    have: Serial,
+    fault: FetchFault,
+) -> Result<Option<Detour>, Left>
+    ensures { result ≡ plain.course_of_fault whole_at_servfail have fault }
 {
     match fault {
         FetchFault::Refused(code) => {
-            if is_unwilling(code) {
+            if is_unwilling(whole_at_servfail, code) {
                 Ok(Some(Detour::Refused(code)))
             } else {
                 Err(Left::NotFetched(FetchFault::Refused(code)))

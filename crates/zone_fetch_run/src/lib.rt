@@ -6,7 +6,7 @@
 //! Statuses 1, 2, 3, 5 and 9 have their causes: the file's text, the words, the file's source, the transfer (`IsCause`), the
 //! serial. Changes are asked for where a file has the zone, and the whole zone over the later edge exactly where they do
 //! not lead on (RFC 1995 4). Not said: what was written before status 6 where no file is to be replaced. By `run_fetch`,
-//! `fetch_to`.
+//! `fetch_to`, `fetch_for`.
 //!
 //! The program itself, the crate `zone_fetch`, only makes the real ones and hands them in.
 //!
@@ -20,7 +20,7 @@
 //! `zone_fetch` is the `main` of `fetch_to`, over two sinks, any files, what puts files in the place of others
 //! (`Replacing`), two edges, clock and words (`FetchWorld`); no edge was used before. `run_fetch` has one sink, and writes
 //! lines to it at 1, 5, 7 and 9 (`line_of`) where `fetch_to` writes a sentence to the second sink and nothing to the first
-//! (`FetchEnds` of either).
+//! (`FetchEnds` of either). `fetch_for` does the same for a command that no words need say (`CommandEnds`).
 //!
 //! Each status, with its clauses:
 //!
@@ -51,9 +51,10 @@
 //! the file's text says (`IsFiled`); and it was brought to what the server has (`IsBrought`). Without a serial the whole zone
 //! is asked for. With one its changes are, and what comes of them is a function of that serial and of what came
 //! (`course_of_changes`, `course_of_fault`): the zone that they lead to, if it is newer; or the whole zone is asked for over
-//! the later edge, where the server refuses changes, has none up to a greater serial, or sends some that do not fit; or the
-//! fault. No zone is taken but one with a greater serial (`judged`). Each transfer is `IsFetched` of `zone_transfer` behind
-//! the server's address, which the edge learned first.
+//! the later edge, where the server refuses changes (or fails at them, where the command has that count, which no words say),
+//! has none up to a greater serial, or sends some that do not fit; or the fault. No zone is taken but one with a greater
+//! serial (`judged`). Each transfer is `IsFetched` of `zone_transfer` behind the server's address, which the edge learned
+//! first.
 //!
 //! # Why it is so
 //!
@@ -89,10 +90,10 @@ mod taking;
 mod world;
 mod wrong;
 
-pub use command::Command;
+pub use command::{Command, MOST};
 pub use explaining::{tell_no_memory, tell_no_random};
 pub use help::tell_page;
 pub use progress_line::ProgressLine;
 pub use replacing::Replacing;
-pub use run::{fetch_to, run_fetch};
+pub use run::{fetch_for, fetch_to, run_fetch};
 pub use world::{FetchWorld, Means};

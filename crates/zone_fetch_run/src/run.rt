@@ -3,7 +3,7 @@
 ghost use Rattle.std.specs.Prelude.{◌≡◌, ◌≢◌, ◌⊎◌, Some, IfOk, IfErr, IfSome};
 ghost use Rattle.dns_values.specs.Sink.{IsFlushed};
 ghost use Rattle.dns_values.specs.Source.{Rose};
-ghost use Rattle.zone_fetch_run.specs.Ends.{FetchEndsIn, HasStopped, HasZone, IsBase, IsFiled, IsOfFile, IsOfReading, IsUnbased, LineEnds, RoseUnread, TellsBySentence, seen};
+ghost use Rattle.zone_fetch_run.specs.Ends.{CommandEndsIn, FetchEndsIn, HasStopped, HasZone, IsBase, IsFiled, IsOfFile, IsOfReading, IsUnbased, LineEnds, RoseUnread, TellsBySentence, Texts, seen};
 ghost use Rattle.zone_fetch_run.specs.Fetching.{over};
 
 use crate::command::{Command, command_of};
@@ -138,11 +138,54 @@ pub fn run_fetch<O: OpenFile, K: Sink, E: Edge, C: Clock, W: Words, P: Progress>
     }
 }
 
-/// Does the same as `run_fetch`, but puts the zone in the place of a file where the words say so, and tells in a sentence to `errors` why
-/// the status is another than 0: which word is wrong, or what is missing; which file can't be read or has no text of the zone, and why; which
-/// zone was not fetched of which server, and why; or that the sink or the file could not be written, or memory ran out. Nothing is
-/// written to the sink then, but what it took of a zone, and no file is replaced. Where changes did not lead on, a sentence before says
-/// why the zone was asked for whole, on status 0 too. A fault of `errors` changes no status.
+/// Does what a command says: the zone is put in the place of a file where it says so, and else written to the sink, and a sentence to
+/// `errors` tells why the status is another than 0: which file can't be read or has no text of the zone, and why; which zone was not fetched
+/// of which server, and why; or that the sink or the file could not be written, or memory ran out. Nothing is written to the sink then,
+/// but what it took of a zone, and no file is replaced. Where changes did not lead on, a sentence before says why the zone was asked for
+/// whole, on status 0 too. A fault of `errors` changes no status.
+pub fn fetch_for<
+    O: OpenFile,
+    K: Sink,
+    L: Sink,
+    E: Edge,
+    C: Clock,
+    W: Words,
+    P: Progress,
+    F: Replacing,
+>(
+    alloc: Global,
+    command: &Command,
+    sink: &mut K,
+    errors: &mut L,
+    world: &mut FetchWorld<O, E, C, W, P, F>,
+) -> Status
+    ensures ends { (words : Texts) → CommandEndsIn E.deeds E.polls C.given O.files W.stream command.now (seen K.held K.flushed K.faults F.placed F.faults L.held L.faults (sink.old, world.old.files, errors.old) (sink.new, world.new.files, errors.new) (TellsBySentence words)) result.0 world.old world.new }
+    ensures unread { result.0 ≡ 3 → Rose (O.faults world.old.opener) (O.faults world.new.opener) }
+    ensures unplaced { result.0 ≢ 0 → F.placed world.new.files ≡ F.placed world.old.files }
+    ensures handed_on { result.0 ≢ 0 → result.0 ≢ 6 → IsFlushed (L.held errors.new) (L.flushed errors.new) ⊎ Rose (L.faults errors.old) (L.faults errors.new) }
+{
+    let (detour, asked) = zone_asked(
+        alloc,
+        command,
+        &mut world.opener,
+        &mut world.edge,
+        &mut world.later,
+        &mut world.means,
+    );
+    let Ok(()) = tell_detour(alloc, command, detour, errors) else {
+        return tell_no_memory(errors);
+    };
+    match asked {
+        Ok(zone) => {
+            let status = put_zone(alloc, command, sink, &mut world.files, &zone);
+            tell_written(alloc, command, status, errors)
+        }
+        Err(stop) => tell_stop(alloc, command, stop, errors),
+    }
+}
+
+/// Does what the words ask for, as `run_fetch`, but puts the zone in the place of a file where they say so, and tells in a sentence to
+/// `errors` why the status is another than 0: which word is wrong, or what is missing, or what `fetch_for` tells.
 pub fn fetch_to<
     O: OpenFile,
     K: Sink,
@@ -164,27 +207,9 @@ pub fn fetch_to<
     ensures unplaced { result.0 ≢ 0 → F.placed world.new.files ≡ F.placed world.old.files }
     ensures handed_on { result.0 ≢ 0 → result.0 ≢ 6 → IsFlushed (L.held errors.new) (L.flushed errors.new) ⊎ Rose (L.faults errors.old) (L.faults errors.new) }
 {
-    let command = match command_of(alloc, words) {
-        Ok(command) => command,
-        Err(Fault::Refused(refusal)) => return tell_refusal(alloc, words, refusal, errors),
-        Err(Fault::NoMemory) => return tell_no_memory(errors),
-    };
-    let (detour, asked) = zone_asked(
-        alloc,
-        &command,
-        &mut world.opener,
-        &mut world.edge,
-        &mut world.later,
-        &mut world.means,
-    );
-    let Ok(()) = tell_detour(alloc, &command, detour, errors) else {
-        return tell_no_memory(errors);
-    };
-    match asked {
-        Ok(zone) => {
-            let status = put_zone(alloc, &command, sink, &mut world.files, &zone);
-            tell_written(alloc, &command, status, errors)
-        }
-        Err(stop) => tell_stop(alloc, &command, stop, errors),
+    match command_of(alloc, words) {
+        Ok(command) => fetch_for(alloc, &command, sink, errors, world),
+        Err(Fault::Refused(refusal)) => tell_refusal(alloc, words, refusal, errors),
+        Err(Fault::NoMemory) => tell_no_memory(errors),
     }
 }

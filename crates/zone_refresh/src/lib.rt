@@ -1,7 +1,6 @@
 //! When a zone that is kept is asked for, of which primary, and when it has expired (RFC 1034 4.3.5, RFC 1035 3.3.13).
 //!
-//! A zone that is kept asks its primaries in turn, fetches a greater serial, and that it has expired is told once. No
-//! program runs it yet.
+//! A zone that is kept asks its primaries in turn, fetches a greater serial, and that it has expired is told once.
 //!
 //! Nothing is asked here, and no clock is read: events come with their moment, and what is to be done goes out.
 //!

@@ -1,19 +1,22 @@
--- What a world tells of its deeds, some more at a time.
-use Rattle.std.proofs.Common.{◌≡◌, List, [], ◌∷◌, ◌++◌, Option, Some, None, refl, ap, sym, ◌∙◌, append_assoc}
-use Rattle.zone_refresh_run.specs.Deeds.{after_deeds}
+-- Deeds, some more at a time.
+use Rattle.std.proofs.Common.{◌≡◌, List, [], ◌∷◌, ◌++◌, refl, ap, sym, subst}
+use Rattle.zone_refresh_run.specs.Deeds.{Leads}
 use Rattle.zone_refresh_run.specs.declared.world.Deed.{Deed}
 
 pub append_nil : {A : Type 0} (xs : List A) → xs ++ [] ≡ xs
 append_nil [] = refl
 append_nil (x ∷ xs) = ap (λ ys. x ∷ ys) (append_nil xs)
 
-pub no_deeds : (told : Option (List Deed)) → told ≡ after_deeds [] told
-no_deeds None = refl
-no_deeds (Some before) = ap Some (sym (append_nil before))
+module _ {W : Type 0} (does : Deed → W → W → Type 0) where
+  pub no_deeds : (w : W) → Leads does [] w w
+  no_deeds w = refl
 
-pub more_deeds : (first second : List Deed) (a b c : Option (List Deed)) → b ≡ after_deeds first a → c ≡ after_deeds second b → c ≡ after_deeds (first ++ second) a
-more_deeds first second a b c f s = s ∙ ap (after_deeds second) f ∙ joined a
-  where
-    joined : (told : Option (List Deed)) → after_deeds second (after_deeds first told) ≡ after_deeds (first ++ second) told
-    joined None = refl
-    joined (Some before) = ap Some (append_assoc before first second)
+  pub one_deed : (deed : Deed) (old new : W) → does deed old new → Leads does (deed ∷ []) old new
+  one_deed deed old new done = (new, done, refl)
+
+  pub more_deeds : (first second : List Deed) (a b c : W) → Leads does first a b → Leads does second b c → Leads does (first ++ second) a c
+  more_deeds [] second a b c f s = subst (λ (w : W). Leads does second w c) (sym f) s
+  more_deeds (deed ∷ first) second a b c f s = (f.0, f.1, more_deeds first second f.0 b c f.2 s)
+
+  pub same_deeds : (deeds others : List Deed) (a b : W) → deeds ≡ others → Leads does deeds a b → Leads does others a b
+  same_deeds deeds others a b same h = subst (λ (ds : List Deed). Leads does ds a b) same h

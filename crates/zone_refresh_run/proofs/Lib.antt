@@ -5,3 +5,6 @@ pub mod Turning
 pub mod Going
 pub mod Promises
 pub mod Worked
+pub mod Starting
+pub mod Refusing
+pub mod Noting

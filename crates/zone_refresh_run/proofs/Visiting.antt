@@ -7,30 +7,35 @@ use Rattle.zone_refresh.specs.declared.kept.Event.{Event}
 use Rattle.zone_refresh.specs.declared.kept.KeptZone.{KeptZone}
 use Rattle.zone_refresh.specs.declared.kept.Outs.{Outs}
 use Rattle.zone_refresh.specs.Steps.{outs_after, zone_after}
-use Rattle.zone_refresh_run.specs.Deeds.{after_deed, after_deeds}
+use Rattle.zone_refresh_run.specs.Deeds.{Leads}
 use Rattle.zone_refresh_run.specs.Visits.{AreVisited, IsAwaited, IsVisited, Visit, befores, deeds_from, deeds_of, done_for, is_awaited, left_by, lefts, news_of, told_of}
 use Rattle.zone_refresh_run.specs.declared.world.Deed.{Deed}
 use Rattle.zone_refresh_run.specs.declared.world.Deed.TheVariants.{Looked}
 use Rattle.zone_refresh_run.specs.declared.world.ZoneNews.{ZoneNews}
-use Rattle.zone_refresh_run.proofs.Deeds.{append_nil, more_deeds, no_deeds}
+use Rattle.zone_refresh_run.proofs.Deeds.{append_nil, more_deeds, same_deeds}
 
--- what is done in a visit: this, then a look at the clock, then the telling
-pub done_so : (done told : List Deed) (look : Deed) (a b c d : Option (List Deed)) → b ≡ after_deeds done a → c ≡ after_deed look b → d ≡ after_deeds told c → d ≡ after_deeds (done ++ look ∷ told) a
-done_so done told look a b c d f g h = more_deeds done (look ∷ told) a b d f (more_deeds (look ∷ []) told b c d g h)
+module _ {W : Type 0} (does : Deed → W → W → Type 0) where
+  -- what is done in a visit: this, then a look at the clock, then the telling
+  pub done_so : (done told : List Deed) (look : Deed) (a b c d : W) → Leads does done a b → does look b c → Leads does told c d → Leads does (done ++ look ∷ told) a d
+  done_so done told look a b c d f g h = more_deeds does done (look ∷ told) a b d f (c, g, h)
 
-pub visited : (number : ℕ) (before after : KeptZone) (event : Event) (moment : ℕ) (outs : Outs) (news : Option ZoneNews) (a b c d : Option (List Deed)) → is_awaited before.phase event ≡ true
-    → after ≡ zone_after before moment event → outs ≡ outs_after before moment event → news ≡ news_of before.phase event moment after
-    → b ≡ after_deeds (done_for number before.phase event) a → c ≡ after_deed (Looked moment) b → d ≡ after_deeds (told_of number news outs.expired) c → IsVisited number before after a d
-visited number before after event moment outs news a b c d awaited left put told f g h = record {
-  visit = record { before = before; event = event; moment = moment };
-  was = refl;
-  awaited = awaited;
-  left = sym left;
-  deeds =
-      done_so (done_for number before.phase event) (told_of number news outs.expired) (Looked moment) a b c d f g h
-      ∙ ap (λ (o : Option ZoneNews). after_deeds (done_for number before.phase event ++ Looked moment ∷ told_of number o outs.expired) a) (told ∙ ap (news_of before.phase event moment) left)
-      ∙ ap (λ (o : Outs). after_deeds (done_for number before.phase event ++ Looked moment ∷ told_of number (news_of before.phase event moment (zone_after before moment event)) o.expired) a) put;
-}
+  pub visited : (number : ℕ) (before after : KeptZone) (event : Event) (moment : ℕ) (outs : Outs) (news : Option ZoneNews) (a b c d : W) → is_awaited before.phase event ≡ true
+      → after ≡ zone_after before moment event → outs ≡ outs_after before moment event → news ≡ news_of before.phase event moment after
+      → Leads does (done_for number before.phase event) a b → does (Looked moment) b c → Leads does (told_of number news outs.expired) c d → IsVisited does number before after a d
+  visited number before after event moment outs news a b c d awaited left put told f g h = record {
+    visit = record { before = before; event = event; moment = moment };
+    was = refl;
+    awaited = awaited;
+    left = sym left;
+    deeds =
+        same_deeds does (done_for number before.phase event ++ Looked moment ∷ told_of number news outs.expired)
+        (done_for number before.phase event ++ Looked moment ∷ told_of number (news_of before.phase event moment (zone_after before moment event)) (outs_after before moment event).expired) a d
+        (
+        ap (λ (o : Option ZoneNews). done_for number before.phase event ++ Looked moment ∷ told_of number o outs.expired) (told ∙ ap (news_of before.phase event moment) left)
+        ∙ ap (λ (o : Outs). done_for number before.phase event ++ Looked moment ∷ told_of number (news_of before.phase event moment (zone_after before moment event)) o.expired) put
+        )
+        (done_so (done_for number before.phase event) (told_of number news outs.expired) (Looked moment) a b c d f g h);
+  }
 
 -- ---- a list in its midst
 
@@ -53,35 +58,35 @@ deeds_more zone (v ∷ vs) visit =
 
 -- ---- the first zones were visited, and the rest is as it was
 
-pub record VisitedSo (index : ℕ) (zones now : List KeptZone) (old new : Option (List Deed)) : Type 0 where
+pub record VisitedSo {W : Type 0} (does : Deed → W → W → Type 0) (index : ℕ) (zones now : List KeptZone) (old new : W) : Type 0 where
   pub visits : List Visit
   pub rest : List KeptZone
   pub many : length visits ≡ index
   pub were : befores visits ++ rest ≡ zones
   pub left : lefts visits ++ rest ≡ now
   pub awaited : All IsAwaited visits
-  pub deeds : new ≡ after_deeds (deeds_from 0 visits) old
+  pub deeds : Leads does (deeds_from 0 visits) old new
 
-pub none_visited : (zones : List KeptZone) (told : Option (List Deed)) → VisitedSo 0 zones zones told told
-none_visited zones told = record {
+pub none_visited : {W : Type 0} (does : Deed → W → W → Type 0) (zones : List KeptZone) (world : W) → VisitedSo does 0 zones zones world world
+none_visited does zones world = record {
   visits = [];
   rest = zones;
   many = refl;
   were = refl;
   left = refl;
   awaited = All-nil IsAwaited;
-  deeds = no_deeds told;
+  deeds = refl;
 }
 
 -- the zone at the index is visited
-pub visited_more : (index : ℕ) (zones now : List KeptZone) (before after : KeptZone) (old mid new : Option (List Deed)) → VisitedSo index zones now old mid → index < length now
-    → IsVisited index before after mid new → before ≡ get_or now index before → VisitedSo (index + 1) zones (slice_set now index after) old new
-visited_more index zones now before after old mid new so within is at = go so.rest so.were so.left
+pub visited_more : {W : Type 0} (does : Deed → W → W → Type 0) (index : ℕ) (zones now : List KeptZone) (before after : KeptZone) (old mid new : W) → VisitedSo does index zones now old mid → index < length now
+    → IsVisited does index before after mid new → before ≡ get_or now index before → VisitedSo does (index + 1) zones (slice_set now index after) old new
+visited_more does index zones now before after old mid new so within is at = go so.rest so.were so.left
   where
     many_left : length (lefts so.visits) ≡ index
     many_left = length-map so.visits left_by ∙ so.many
 
-    go : (rest : List KeptZone) → befores so.visits ++ rest ≡ zones → lefts so.visits ++ rest ≡ now → VisitedSo (index + 1) zones (slice_set now index after) old new
+    go : (rest : List KeptZone) → befores so.visits ++ rest ≡ zones → lefts so.visits ++ rest ≡ now → VisitedSo does (index + 1) zones (slice_set now index after) old new
     go [] were left =
         let all : length now ≡ index = ap length (sym left) ∙ ap length (append_nil (lefts so.visits)) ∙ many_left in
         absurd (omega (arith, all, within))
@@ -112,19 +117,22 @@ visited_more index zones now before after old mid new so within is at = go so.re
               ∙ sym set;
           awaited = All-push IsAwaited so.visits is.visit so.awaited is.awaited;
           deeds =
-              more_deeds (deeds_from 0 so.visits) (deeds_of index is.visit) old mid new so.deeds is.deeds
-              ∙ ap (λ (n : ℕ). after_deeds (deeds_from 0 so.visits ++ deeds_of n is.visit) old) (let e : index ≡ 0 + length so.visits = omega (arith, so.many) in e)
-              ∙ ap (λ (ds : List Deed). after_deeds ds old) (sym (deeds_more 0 so.visits is.visit));
+              same_deeds does (deeds_from 0 so.visits ++ deeds_of index is.visit) (deeds_from 0 (so.visits ++ is.visit ∷ [])) old new
+              (
+              ap (λ (n : ℕ). deeds_from 0 so.visits ++ deeds_of n is.visit) (let e : index ≡ 0 + length so.visits = omega (arith, so.many) in e)
+              ∙ sym (deeds_more 0 so.visits is.visit)
+              )
+              (more_deeds does (deeds_from 0 so.visits) (deeds_of index is.visit) old mid new so.deeds is.deeds);
         }
 
 -- all were
-pub all_visited : (index : ℕ) (zones now : List KeptZone) (old new : Option (List Deed)) → VisitedSo index zones now old new → index ≡ length now → AreVisited zones now old new
-all_visited index zones now old new so all = go so.rest so.were so.left
+pub all_visited : {W : Type 0} (does : Deed → W → W → Type 0) (index : ℕ) (zones now : List KeptZone) (old new : W) → VisitedSo does index zones now old new → index ≡ length now → AreVisited does zones now old new
+all_visited does index zones now old new so all = go so.rest so.were so.left
   where
     many_left : length (lefts so.visits) ≡ index
     many_left = length-map so.visits left_by ∙ so.many
 
-    go : (rest : List KeptZone) → befores so.visits ++ rest ≡ zones → lefts so.visits ++ rest ≡ now → AreVisited zones now old new
+    go : (rest : List KeptZone) → befores so.visits ++ rest ≡ zones → lefts so.visits ++ rest ≡ now → AreVisited does zones now old new
     go [] were left = record {
       visits = so.visits;
       were = sym (append_nil (befores so.visits)) ∙ were;

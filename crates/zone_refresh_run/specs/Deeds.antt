@@ -1,10 +1,8 @@
 -- What is done with a world.
-use Rattle.std.specs.Prelude.{List, [], ◌∷◌, ◌++◌, Option, option_map}
+use Rattle.std.specs.Prelude.{◌≡◌, List, [], ◌∷◌}
 use Rattle.zone_refresh_run.specs.declared.world.Deed.{Deed}
 
-abbrev pub after_deed : Deed → Option (List Deed) → Option (List Deed)
-after_deed deed told = option_map (λ before. before ++ deed ∷ []) told
-
--- what a world tells after these too
-abbrev pub after_deeds : List Deed → Option (List Deed) → Option (List Deed)
-after_deeds deeds told = option_map (λ before. before ++ deeds) told
+-- Deeds lead a world on, one after another, where this is how each changes it.
+abbrev pub Leads : {W : Type 0} → (does : Deed → W → W → Type 0) → List Deed → (old new : W) → Type 0
+Leads does [] old new = old ≡ new
+Leads {W} does (deed ∷ deeds) old new = (mid : W) × does deed old mid × Leads does deeds mid new

@@ -2,3 +2,13 @@ pub mod Deeds
 pub mod Visits
 pub mod Turns
 pub mod Laws
+pub mod Serials
+pub mod Asking
+pub mod Timers
+pub mod Files
+pub mod Words
+pub mod Sentences
+pub mod Acts
+pub mod Fetching
+pub mod Listing
+pub mod Keeping

@@ -5,7 +5,7 @@ use Rattle.zone_refresh.specs.declared.kept.KeptZone.{KeptZone}
 use Rattle.zone_refresh.specs.declared.kept.Phase.{Phase}
 use Rattle.zone_refresh.specs.declared.kept.Phase.TheVariants.{Waiting, Asking, Fetching}
 use Rattle.zone_refresh.specs.Timing.{next_due}
-use Rattle.zone_refresh_run.specs.Deeds.{after_deeds}
+use Rattle.zone_refresh_run.specs.Deeds.{Leads}
 use Rattle.zone_refresh_run.specs.Visits.{IsAwaited, Visit, befores, deeds_from, lefts}
 use Rattle.zone_refresh_run.specs.declared.world.Deed.{Deed}
 use Rattle.zone_refresh_run.specs.declared.world.Deed.TheVariants.{Slept}
@@ -32,12 +32,12 @@ Turn = List Visit
 abbrev pub deeds_in : Turn → List Deed
 deeds_in visits = Slept (wake_of (befores visits)) ∷ deeds_from 0 visits
 
-pub record IsTurned (zones after : List KeptZone) (old new : Option (List Deed)) : Type 0 where
+pub record IsTurned {W : Type 0} (does : Deed → W → W → Type 0) (zones after : List KeptZone) (old new : W) : Type 0 where
   pub turn : Turn
   pub were : befores turn ≡ zones
   pub awaited : All IsAwaited turn
   pub left : lefts turn ≡ after
-  pub deeds : new ≡ after_deeds (deeds_in turn) old
+  pub deeds : Leads does (deeds_in turn) old new
 
 -- Turns lead from zones to zones.
 abbrev pub Lead : (zones : List KeptZone) → List Turn → (after : List KeptZone) → Type 0
@@ -45,8 +45,8 @@ Lead zones [] after = zones ≡ after
 Lead zones (turn ∷ turns) after = (befores turn ≡ zones) × All IsAwaited turn × Lead (lefts turn) turns after
 
 -- So many turns were made, and nothing else was done.
-pub record AreKept (count : ℕ) (zones after : List KeptZone) (old new : Option (List Deed)) : Type 0 where
+pub record AreKept {W : Type 0} (does : Deed → W → W → Type 0) (count : ℕ) (zones after : List KeptZone) (old new : W) : Type 0 where
   pub turns : List Turn
   pub many : length turns ≡ count
   pub lead : Lead zones turns after
-  pub deeds : new ≡ after_deeds (flat_map deeds_in turns) old
+  pub deeds : Leads does (flat_map deeds_in turns) old new

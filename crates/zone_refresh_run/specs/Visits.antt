@@ -8,7 +8,7 @@ use Rattle.zone_refresh.specs.declared.kept.Phase.{Phase}
 use Rattle.zone_refresh.specs.declared.kept.Phase.TheVariants.{Waiting, Asking, Fetching}
 use Rattle.zone_refresh.specs.declared.kept.ZoneTimers.{ZoneTimers}
 use Rattle.zone_refresh.specs.Steps.{outs_after, zone_after}
-use Rattle.zone_refresh_run.specs.Deeds.{after_deeds}
+use Rattle.zone_refresh_run.specs.Deeds.{Leads}
 use Rattle.zone_refresh_run.specs.declared.world.Deed.{Deed}
 use Rattle.zone_refresh_run.specs.declared.world.Deed.TheVariants.{Asked, Fetched, Looked, Told}
 use Rattle.zone_refresh_run.specs.declared.world.ZoneNews.{ZoneNews}
@@ -76,12 +76,12 @@ told_by zone visit =
 abbrev pub deeds_of : (zone : ℕ) → Visit → List Deed
 deeds_of zone visit = done_for zone visit.before.phase visit.event ++ Looked visit.moment ∷ told_by zone visit
 
-pub record IsVisited (zone : ℕ) (before after : KeptZone) (old new : Option (List Deed)) : Type 0 where
+pub record IsVisited {W : Type 0} (does : Deed → W → W → Type 0) (zone : ℕ) (before after : KeptZone) (old new : W) : Type 0 where
   pub visit : Visit
   pub was : visit.before ≡ before
   pub awaited : IsAwaited visit
   pub left : left_by visit ≡ after
-  pub deeds : new ≡ after_deeds (deeds_of zone visit) old
+  pub deeds : Leads does (deeds_of zone visit) old new
 
 -- ---- the visits of all zones, in order
 
@@ -96,9 +96,9 @@ abbrev pub deeds_from : (zone : ℕ) → List Visit → List Deed
 deeds_from zone [] = []
 deeds_from zone (visit ∷ visits) = deeds_of zone visit ++ deeds_from (zone + 1) visits
 
-pub record AreVisited (zones after : List KeptZone) (old new : Option (List Deed)) : Type 0 where
+pub record AreVisited {W : Type 0} (does : Deed → W → W → Type 0) (zones after : List KeptZone) (old new : W) : Type 0 where
   pub visits : List Visit
   pub were : befores visits ≡ zones
   pub awaited : All IsAwaited visits
   pub left : lefts visits ≡ after
-  pub deeds : new ≡ after_deeds (deeds_from 0 visits) old
+  pub deeds : Leads does (deeds_from 0 visits) old new

@@ -30,7 +30,7 @@ fn wake(zones: &[KeptZone]) -> u64
 
 /// A turn: the world sleeps until something is to be done, and then each zone gets its turn.
 fn turn<W: World>(zones: &mut [KeptZone], world: &mut W)
-    ensures { IsTurned zones.old zones.new (W.deeds world.old) (W.deeds world.new) }
+    ensures { IsTurned W.does zones.old zones.new world.old world.new }
 {
     world.sleep_until(wake(zones));
     visit_all(zones, world);
@@ -40,7 +40,7 @@ fn turn<W: World>(zones: &mut [KeptZone], world: &mut W)
 /// turn, in order, in which one primary is asked or the zone is fetched from one, where it is time. So no zone waits for another longer
 /// than one asking or fetching of each.
 pub fn keep_zones<W: World>(zones: &mut [KeptZone], world: &mut W, turns: u64)
-    ensures { AreKept turns zones.old zones.new (W.deeds world.old) (W.deeds world.new) }
+    ensures { AreKept W.does turns zones.old zones.new world.old world.new }
 {
     for _ in 0..turns {
         turn(zones, world);

@@ -1,7 +1,7 @@
 //! The turn of one zone, and of each.
 
 ghost use Rattle.std.specs.Prelude.{◌≡◌, true, length};
-ghost use Rattle.zone_refresh_run.specs.Deeds.{after_deeds};
+ghost use Rattle.zone_refresh_run.specs.Deeds.{Leads};
 ghost use Rattle.zone_refresh_run.specs.Visits.{AreVisited, IsVisited, done_for, is_awaited, news_of, told_of};
 
 use crate::world::{World, ZoneNews};
@@ -10,7 +10,7 @@ use zone_refresh::{Event, KeptZone, Phase};
 /// Does what a zone waits for. What comes of it.
 fn event_in<W: World>(zone: usize, phase: Phase, world: &mut W) -> Event
     ensures awaited { is_awaited phase result ≡ true }
-    ensures deeds { W.deeds world.new ≡ after_deeds (done_for zone phase result) (W.deeds world.old) }
+    ensures deeds { Leads W.does (done_for zone phase result) world.old world.new }
 {
     match phase {
         Phase::Waiting(_) => Event::Tick,
@@ -42,7 +42,7 @@ fn news_of(phase: Phase, event: Event, moment: u64, zone: KeptZone) -> Option<Zo
 
 /// Tells what there is to tell of a zone, and where it has expired that.
 fn tell<W: World>(zone: usize, news: Option<ZoneNews>, expired: bool, world: &mut W)
-    ensures { W.deeds world.new ≡ after_deeds (told_of zone news expired) (W.deeds world.old) }
+    ensures { Leads W.does (told_of zone news expired) world.old world.new }
 {
     if let Some(news) = news {
         world.tell(zone, news);
@@ -54,7 +54,7 @@ fn tell<W: World>(zone: usize, news: Option<ZoneNews>, expired: bool, world: &mu
 
 /// A zone gets its turn: what it waits for is done, what comes of it leads the zone on, and it is told.
 fn visit<W: World>(number: usize, zone: &mut KeptZone, world: &mut W)
-    ensures { IsVisited number zone.old zone.new (W.deeds world.old) (W.deeds world.new) }
+    ensures { IsVisited W.does number zone.old zone.new world.old world.new }
 {
     let phase = zone.phase;
     let event = event_in(number, phase, world);
@@ -66,7 +66,7 @@ fn visit<W: World>(number: usize, zone: &mut KeptZone, world: &mut W)
 
 /// Each zone gets its turn, in order.
 pub(crate) fn visit_all<W: World>(zones: &mut [KeptZone], world: &mut W)
-    ensures { AreVisited zones.old zones.new (W.deeds world.old) (W.deeds world.new) }
+    ensures { AreVisited W.does zones.old zones.new world.old world.new }
 {
     for (number, zone) in zones.iter_mut().enumerate() {
         visit(number, zone, world);

@@ -1,7 +1,5 @@
 //! The world of zones that are kept.
 
-ghost use Rattle.std.specs.Prelude.{◌≡◌, List, Option};
-ghost use Rattle.zone_refresh_run.specs.Deeds.{after_deed};
 ghost use Rattle.zone_refresh_run.specs.declared.world.Deed.{Deed};
 
 use dns_values::Serial;
@@ -47,29 +45,29 @@ pub enum Deed {
     },
 }
 
-/// Where zones are asked for and fetched, and what tells of them. Where it knows what was done with it, it tells that as one list.
+/// Where zones are asked for and fetched, and what tells of them. How a deed changes it is its own to say (`does`).
 ///
 /// A call that fails, for want of memory too, answers that nothing came.
 pub trait World {
-    ghost deeds: { Self → Option (List Deed) };
+    ghost does: { Deed → Self → Self → Type 0 };
 
     /// The moment, in microseconds since any start.
     fn now(&mut self) -> u64
-        ensures { deeds self.new ≡ after_deed (Deed.Looked result) (deeds self.old) };
+        ensures { does (Deed.Looked result) self.old self.new };
 
     /// Sleeps until its clock gives this moment. It may return sooner, and does at once where that moment is past.
     fn sleep_until(&mut self, moment: u64)
-        ensures { deeds self.new ≡ after_deed (Deed.Slept moment) (deeds self.old) };
+        ensures { does (Deed.Slept moment) self.old self.new };
 
     /// Asks a primary for the SOA of a zone: its serial, or none where there was no answer, or another one than an SOA.
     fn ask_soa(&mut self, zone: usize, primary: usize) -> Option<Serial>
-        ensures { deeds self.new ≡ after_deed (Deed.Asked zone primary result) (deeds self.old) };
+        ensures { does (Deed.Asked zone primary result) self.old self.new };
 
     /// Fetches a zone from a primary into its file: the times of the zone that the file has then, or none where the file is as it was.
     fn fetch(&mut self, zone: usize, primary: usize) -> Option<ZoneTimers>
-        ensures { deeds self.new ≡ after_deed (Deed.Fetched zone primary result) (deeds self.old) };
+        ensures { does (Deed.Fetched zone primary result) self.old self.new };
 
     /// Tells what there is to tell of a zone.
     fn tell(&mut self, zone: usize, news: ZoneNews)
-        ensures { deeds self.new ≡ after_deed (Deed.Told zone news) (deeds self.old) };
+        ensures { does (Deed.Told zone news) self.old self.new };
 }

@@ -1,9 +1,10 @@
-use Rattle.std.proofs.Common.{refl, arith}
-use Rattle.zone_fetch_run.specs.Ends.{TellsBySentence, is_out, is_unread, sight}
-use Rattle.zone_fetch_run.proofs.Asked.{stop_there, unread_there, zone_there}
-use Rattle.zone_fetch_run.proofs.Ended.{ended_refused, ended_stopped, ended_written, handed_on_at, handed_on_written, not_three, rose_at, told_at, told_unless, written_statuses}
-use Rattle.zone_fetch_run.proofs.Said.{flushed_or_rose, kept_at_four, no_zero_at_six, spared_of, spared_same, still_told}
+use Rattle.std.proofs.Common.{refl}
+use Rattle.zone_fetch_run.specs.Ends.{TellsBySentence, is_command, is_unread, sight}
+use Rattle.zone_fetch_run.proofs.Ended.{ended_refused, handed_on_at}
 use Rattle.zone_fetch_run.proofs.run.fetch_to.Goals as goal
+
+pub returns-in-Ok-clause-ends : goal.returns-in-Ok-clause-ends
+returns-in-Ok-clause-ends g c = is_command c.in-Ok.command c.in-Ok.ensures (c.fetch_for.ensures.ends c.args.words.now)
 
 pub returns-in-Err-Refused-clause-ends : goal.returns-in-Err-Refused-clause-ends
 returns-in-Err-Refused-clause-ends g c =
@@ -17,61 +18,3 @@ returns-in-Err-Refused-clause-handed_on g c no_zero no_six = handed_on_at c.tell
 
 pub returns-in-Err-NoMemory-clause-ends : goal.returns-in-Err-NoMemory-clause-ends
 returns-in-Err-NoMemory-clause-ends g c = is_unread c.tell_no_memory.ensures (refl, refl)
-
-pub returns-in_default-clause-ends : goal.returns-in_default-clause-ends
-returns-in_default-clause-ends g c = is_out c.in-Ok.command c.in-Ok.ensures c.tell_no_memory-in_default.ensures (spared_same c.in-Ok.command.output _, refl)
-
-pub returns-in-Ok-asked-clause-ends : goal.returns-in-Ok-asked-clause-ends
-returns-in-Ok-asked-clause-ends g c =
-    ended_written c.args.words.now (g.O.OpenFile.files c.args.world.now.opener) (g.W.Words.stream c.args.world.now.means.random)
-    (TellsBySentence c.args.words.now (sight g.K.Sink.held g.K.Sink.flushed g.K.Sink.faults g.F.Replacing.placed g.F.Replacing.faults g.L.Sink.held g.L.Sink.faults (c.args.sink.now, c.args.world.now.files, c.args.errors.now))
-    (sight g.K.Sink.held g.K.Sink.flushed g.K.Sink.faults g.F.Replacing.placed g.F.Replacing.faults g.L.Sink.held g.L.Sink.faults (c.put_zone-status.new.sink, c.put_zone-status.new.files, c.tell_written.new.errors))) c.tell_written.result.0 _ _ _ _
-    c.in-Ok.command c.zone_asked-detour.result.0 c.in-Ok-asked.zone c.in-Ok.ensures (zone_there _ _ _ _ _ _ _ _ c.zone_asked-detour.result.1 c.in-Ok-asked.zone c.in-Ok-asked.is c.zone_asked-detour.ensures.zone)
-    (λ zero. (
-      told_at c.tell_written.result c.put_zone-status.result 0 _ c.tell_written.ensures.status (λ h. omega arith) c.put_zone-status.ensures.whole zero,
-      still_told _ _ _ _ _ _ _ (c.tell_written.ensures.quiet zero) c.in-Ok-tell_detour.ensures.told,
-    ))
-    (λ four. (
-      told_at c.tell_written.result c.put_zone-status.result 4 _ c.tell_written.ensures.status (λ h. omega arith) c.put_zone-status.ensures.failed four,
-      c.put_zone-status.ensures.part,
-      told_at c.tell_written.result c.put_zone-status.result 4 _ c.tell_written.ensures.status (λ h. omega arith) (kept_at_four c.put_zone-status.result.0 _ c.put_zone-status.ensures.kept) four,
-      record { mid = g.L.Sink.held c.tell_detour.new.errors; faults_mid = g.L.Sink.faults c.tell_detour.new.errors; first_told = c.in-Ok-tell_detour.ensures.told; second_told = c.tell_written.ensures.said four },
-    ))
-    (λ six. (
-      spared_of c.in-Ok.command.output _ _ _ _ c.put_zone-status.ensures.part,
-      told_unless c.tell_written.result c.put_zone-status.result _ c.tell_written.ensures.status c.put_zone-status.ensures.kept (no_zero_at_six c.tell_written.result.0 six),
-    ))
-    (written_statuses c.tell_written.result c.put_zone-status.result c.tell_written.ensures.status c.put_zone-status.ensures.others)
-
-pub returns-in-Ok-asked-clause-unread : goal.returns-in-Ok-asked-clause-unread
-returns-in-Ok-asked-clause-unread g c e =
-    absurd (not_three c.tell_written.result.0 (written_statuses c.tell_written.result c.put_zone-status.result c.tell_written.ensures.status c.put_zone-status.ensures.others) e)
-
-pub returns-in-Ok-asked-clause-unplaced : goal.returns-in-Ok-asked-clause-unplaced
-returns-in-Ok-asked-clause-unplaced g c no_zero = told_unless c.tell_written.result c.put_zone-status.result _ c.tell_written.ensures.status c.put_zone-status.ensures.kept no_zero
-
-pub returns-in-Ok-asked-clause-handed_on : goal.returns-in-Ok-asked-clause-handed_on
-returns-in-Ok-asked-clause-handed_on g c no_zero no_six =
-    flushed_or_rose _ _ _ _ c.tell_detour.ensures.count
-    (handed_on_written c.tell_written.result.0 _ (written_statuses c.tell_written.result c.put_zone-status.result c.tell_written.ensures.status c.put_zone-status.ensures.others) c.tell_written.ensures.flushed no_zero no_six)
-
-pub returns-clause-ends : goal.returns-clause-ends
-returns-clause-ends g c =
-    ended_stopped c.args.words.now (g.O.OpenFile.files c.args.world.now.opener) (g.W.Words.stream c.args.world.now.means.random)
-    (TellsBySentence c.args.words.now (sight g.K.Sink.held g.K.Sink.flushed g.K.Sink.faults g.F.Replacing.placed g.F.Replacing.faults g.L.Sink.held g.L.Sink.faults (c.args.sink.now, c.args.world.now.files, c.args.errors.now))
-    (sight g.K.Sink.held g.K.Sink.flushed g.K.Sink.faults g.F.Replacing.placed g.F.Replacing.faults g.L.Sink.held g.L.Sink.faults (c.args.sink.now, c.args.world.now.files, c.tell_stop.new.errors))) c.tell_stop.result.0 _ _ _ _
-    c.in-Ok.command c.zone_asked-detour.result.0 c.in-Err.stop c.in-Ok.ensures (stop_there _ _ _ _ _ _ _ _ c.zone_asked-detour.result.1 c.in-Err.stop c.in-Err.is c.zone_asked-detour.ensures.stop)
-    c.tell_stop.ensures.status
-    (λ no_six. (
-      refl,
-      refl,
-      record { mid = g.L.Sink.held c.tell_detour.new.errors; faults_mid = g.L.Sink.faults c.tell_detour.new.errors; first_told = c.in-Ok-tell_detour.ensures.told; second_told = c.tell_stop.ensures.said no_six },
-    ))
-    (spared_same c.in-Ok.command.output _, refl)
-
-pub returns-clause-unread : goal.returns-clause-unread
-returns-clause-unread g c e =
-    rose_at _ _ c.in-Err.stop (unread_there c.zone_asked-detour.result.1 c.in-Err.stop _ _ c.in-Err.is c.zone_asked-detour.ensures.unread) (c.tell_stop.ensures.unread e)
-
-pub returns-clause-handed_on : goal.returns-clause-handed_on
-returns-clause-handed_on g c no_zero no_six = flushed_or_rose _ _ _ _ c.tell_detour.ensures.count (c.tell_stop.ensures.flushed no_six)

@@ -4,16 +4,15 @@ use Rattle.zone_refresh_run.proofs.Turning.{kept_more, none_kept}
 use Rattle.zone_refresh_run.proofs.turns.keep_zones.Goals as goal
 
 pub loop-init : goal.loop-init
-loop-init g c = none_kept c.args.zones.now (g.W.World.deeds c.args.world.now)
+loop-init g c = none_kept g.W.World.does c.args.zones.now c.args.world.now
 
 pub loop-preserved : goal.loop-preserved
 loop-preserved g c =
-    kept_more c.loop.counter c.args.zones.now c.loop.zones c.turn.new.zones
-    (g.W.World.deeds c.args.world.now) (g.W.World.deeds c.loop.world) (g.W.World.deeds c.turn.new.world) c.loop.invariant c.turn.ensures
+    kept_more g.W.World.does c.loop.counter c.args.zones.now c.loop.zones c.turn.new.zones c.args.world.now c.loop.world c.turn.new.world c.loop.invariant c.turn.ensures
 
 pub returns : goal.returns
 returns g c =
     let most = c.loop.auto.counter-end in
     let least = c.loop-test.false in
     let all : c.loop.counter ≡ c.args.turns = omega arith in
-    subst (λ (n : ℕ). AreKept n c.args.zones.now c.loop.zones (g.W.World.deeds c.args.world.now) (g.W.World.deeds c.loop.world)) all c.loop.invariant
+    subst (λ (n : ℕ). AreKept g.W.World.does n c.args.zones.now c.loop.zones c.args.world.now c.loop.world) all c.loop.invariant

@@ -3,6 +3,6 @@ use Rattle.zone_refresh_run.proofs.visits.visit.Goals as goal
 
 pub returns : goal.returns
 returns g c =
-    visited c.args.number c.args.zone.now c.step-outs.new.self c.event_in-event.result c.now-moment.result c.step-outs.result c.news_of-news.result
-    (g.W.World.deeds c.args.world.now) (g.W.World.deeds c.event_in-event.new.world) (g.W.World.deeds c.now-moment.new.self) (g.W.World.deeds c.tell.new.world)
+    visited g.W.World.does c.args.number c.args.zone.now c.step-outs.new.self c.event_in-event.result c.now-moment.result c.step-outs.result c.news_of-news.result
+    c.args.world.now c.event_in-event.new.world c.now-moment.new.self c.tell.new.world
     c.event_in-event.ensures.awaited c.step-outs.ensures.zone c.step-outs.ensures.outs c.news_of-news.ensures c.event_in-event.ensures.deeds c.now-moment.ensures c.tell.ensures

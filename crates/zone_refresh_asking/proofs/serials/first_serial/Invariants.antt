@@ -1,7 +1,0 @@
-use Rattle.std.proofs.Common.{◌≡◌}
-use Rattle.zone_refresh_asking.specs.Serials.{first_serial}
-use Rattle.zone_refresh_asking.proofs.serials.first_serial.Given as goal
-
--- What was passed over is no SOA of the zone.
-abbrev pub invariant-records : goal.invariant-records
-invariant-records l = first_serial l.zone l.initial.records ≡ first_serial l.zone l.records
