@@ -1,5 +1,5 @@
 -- Files of zones that are kept.
-use Rattle.std.specs.Prelude.{◌≡◌, ℕ, List, Option, None, Some, IfSome}
+use Rattle.std.specs.Prelude.{◌≡◌, ℕ, List, Option, Some, IfSome}
 use Rattle.dns_names.specs.Name.{Labels}
 use Rattle.dns_values.specs.Source.{Rose}
 use Rattle.zone_records.specs.Folding.{Zone}

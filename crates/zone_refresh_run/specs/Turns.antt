@@ -1,5 +1,5 @@
 -- Zones that are kept, turn by turn.
-use Rattle.std.specs.Prelude.{◌≡◌, ℕ, ◌-◌, ◌^◌, min, List, [], ◌∷◌, length, All, Option, unwrap_or}
+use Rattle.std.specs.Prelude.{◌≡◌, ℕ, ◌-◌, ◌^◌, min, List, [], ◌∷◌, length, All, unwrap_or}
 use Rattle.std.specs.List.{flat_map}
 use Rattle.zone_refresh.specs.declared.kept.KeptZone.{KeptZone}
 use Rattle.zone_refresh.specs.declared.kept.Phase.{Phase}

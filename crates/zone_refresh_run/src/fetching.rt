@@ -1,6 +1,6 @@
 //! A zone that is fetched into its file.
 
-ghost use Rattle.std.specs.Prelude.{◌≡◌, None, Some, IfOk, if◌then◌else◌, option_map, slice_get};
+ghost use Rattle.std.specs.Prelude.{◌≡◌, None, Some, IfOk, if◌then◌else◌, option_map};
 ghost use Rattle.std.specs.String.{string_bytes};
 ghost use Rattle.zone_refresh_run.specs.Fetching.{Brings, Fetches, FetchesOnce, IsCommandFor};
 ghost use Rattle.zone_refresh_run.specs.Fetching as spec;

@@ -1,6 +1,6 @@
 //! Files of zones that are kept.
 
-ghost use Rattle.std.specs.Prelude.{◌≡◌, Some, IfOk, IfErr, IfSome};
+ghost use Rattle.std.specs.Prelude.{IfOk, IfErr, IfSome};
 ghost use Rattle.zone_refresh_run.specs.Files.{HasTimers, IsAt, RoseUnread, SaysTimers};
 
 use crate::timers::timers_among;

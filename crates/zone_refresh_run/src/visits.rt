@@ -1,6 +1,6 @@
 //! The turn of one zone, and of each.
 
-ghost use Rattle.std.specs.Prelude.{◌≡◌, true, length};
+ghost use Rattle.std.specs.Prelude.{◌≡◌, true};
 ghost use Rattle.zone_refresh_run.specs.Deeds.{Leads};
 ghost use Rattle.zone_refresh_run.specs.Visits.{AreVisited, IsVisited, done_for, is_awaited, news_of, told_of};
 
