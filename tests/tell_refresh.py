@@ -108,6 +108,8 @@ def tells_of_zones(program, folder):
     come = f": FILE is up to date, serial 5 came from {one.name()}; asked again in 3600 s"
     got = kept(program, folder, [one], 3)
     expect("no zone yet", got, ([begins("no zone yet"), f": {one.name()} has serial 5, and FILE has not; it is fetched from {one.name()}", come], zone_of(5)))
+    other = kept(program, folder, [one], 3, text([soa(9, "other." + ZONE)]))
+    expect("the file of another zone", other, got)
     same = f": FILE is up to date, serial 5 as {one.name()} has it; asked again in 3600 s"
     expect("the same serial", kept(program, folder, [one], 2, zone_of(5)), ([begins("serial 5"), same], zone_of(5)))
     less = f": {one.name()} has serial 5, and FILE has not; asked again in 900 s"
