@@ -83,6 +83,7 @@ first_told conf redundant cache words events first later all h = record {
   servers = h.servers;
   options = h.options;
   settings = h.settings;
+  transports = h.transports;
   lane = refl;
   events = told_first first later (subst (λ (es : List Event). are_told_events es ≡ true) all h.events);
 }

@@ -5,6 +5,7 @@ use Rattle.std.specs.Str.Lines.{lines}
 use Rattle.std.proofs.lemmas.Bool.{eqb-true}
 use Rattle.std.proofs.lemmas.Grind.{flat_map-append}
 use Rattle.client_request.specs.declared.event.Event.{Event}
+use Rattle.client_settings.specs.Client.{default_transports}
 use Rattle.client_settings.specs.Settings.{CacheSettings, RedundantSettings, default_cache, default_redundant}
 use Rattle.resolv_conf.specs.Conf.{default_options}
 use Rattle.resolv_conf.specs.declared.conf.ResolvConf.{ResolvConf}
@@ -19,6 +20,7 @@ use Rattle.script_printing.proofs.Heads.{head_is_plain}
 use Rattle.script_printing.proofs.Lines.{reader_at, takes_more}
 use Rattle.script_printing.proofs.Plain.{IsPlain, lines_of_text}
 use Rattle.script_printing.proofs.SettingLines.{settings_taken, words_taken}
+use Rattle.script_printing.proofs.Transports.{told_transports}
 
 pub one_more_line : (conf : ResolvConf) (redundant : RedundantSettings) (cache : CacheSettings) (words : List ℕ) (events : List Event) (event : Event)
     → script_text_of (script_of conf redundant cache words (events ++ event ∷ [])) ≡ script_text_of (script_of conf redundant cache words events) ++ event_line event
@@ -51,16 +53,16 @@ scripts_are_read_back script told range =
     let ws : List ℕ = script.words in
     let events : List Event = first_lane script.lanes in
     let first : ResolvConf = record { servers = []; options = default_options } in
-    let s0 = reader_at first (record { redundant = default_redundant; cache = default_cache }) [] in
-    let s1 = reader_at conf (record { redundant = default_redundant; cache = default_cache }) [] in
-    let s2 = reader_at conf (record { redundant = r; cache = c }) [] in
-    let s3 = reader_at conf (record { redundant = r; cache = c }) ws in
+    let s0 = reader_at first (record { redundant = default_redundant; cache = default_cache; transports = default_transports }) [] in
+    let s1 = reader_at conf (record { redundant = default_redundant; cache = default_cache; transports = default_transports }) [] in
+    let s2 = reader_at conf (record { redundant = r; cache = c; transports = default_transports }) [] in
+    let s3 = reader_at conf (record { redundant = r; cache = c; transports = default_transports }) ws in
     let head : List (List ℕ) = head_lines conf r c ws in
-    let behind = events_taken conf (record { redundant = r; cache = c }) ws false events [] range.events told.events in
-    let s4 = reader_behind conf (record { redundant = r; cache = c }) ws behind.0 events in
-    let one : TakesLines (conf_lines conf) s0 s1 = conf_taken conf (record { redundant = default_redundant; cache = default_cache }) [] told.servers told.options range.addresses range.timeout in
+    let behind = events_taken conf (record { redundant = r; cache = c; transports = default_transports }) ws false events [] range.events told.events in
+    let s4 = reader_behind conf (record { redundant = r; cache = c; transports = default_transports }) ws behind.0 events in
+    let one : TakesLines (conf_lines conf) s0 s1 = conf_taken conf (record { redundant = default_redundant; cache = default_cache; transports = default_transports }) [] told.servers told.options range.addresses range.timeout in
     let two : TakesLines (choice_lines r ++ cache_lines c) s1 s2 = settings_taken conf r c [] told.settings in
-    let three : TakesLines (word_lines ws) s2 s3 = words_taken conf (record { redundant = r; cache = c }) ws range.words in
+    let three : TakesLines (word_lines ws) s2 s3 = words_taken conf (record { redundant = r; cache = c; transports = default_transports }) ws range.words in
     let before : TakesLines head s0 s3 =
     takes_more (conf_lines conf) (choice_lines r ++ cache_lines c ++ word_lines ws) s0 s1 s3 one (takes_more (choice_lines r ++ cache_lines c) (word_lines ws) s1 s2 s3 two three) in
     let all : TakesLines (head ++ map event_text events) s0 s4 = takes_more head (map event_text events) s0 s3 s4 before behind.1 in
@@ -72,7 +74,7 @@ scripts_are_read_back script told range =
       lines_taken = subst (λ ls. TakesLines ls s0 s4) (sym (ap lines (sym text) ∙ lines_of_text (head ++ map event_text events) plain)) all;
       lane = events;
       last_lane = refl;
-      says = ap (λ lanes. record script { lanes = lanes }) (one_lane script.lanes told.lane);
+      says = λ i. record script { transports = sym (told_transports script.transports told.transports) i; lanes = one_lane script.lanes told.lane i };
     }
 
 -- the same of a text that is that of a script

@@ -1,7 +1,10 @@
 -- Which scripts are told by their text.
-use Rattle.std.specs.Prelude.{◌≡◌, ℕ, ◌<◌, ◌/◌, ◌%◌, ◌^◌, ◌==◌, nat_le, Bool, true, false, not, ◌&&◌, List, length}
+use Rattle.std.specs.Prelude.{◌≡◌, ℕ, ◌<◌, ◌/◌, ◌%◌, ◌^◌, ◌==◌, nat_le, Bool, true, false, not, ◌&&◌, List, length, Option, Some, None}
 use Rattle.std.specs.List.{AllByRecursion, list_all}
 use Rattle.client_request.specs.declared.event.Event.{Event}
+use Rattle.client_settings.specs.Dgram as dgram
+use Rattle.client_settings.specs.MultiStream as multi_stream
+use Rattle.client_settings.specs.declared.settings.Transports.{Transports}
 use Rattle.client_settings.specs.Settings.{CacheSettings, no_bound, seconds}
 use Rattle.dns_script.specs.TextLaws.{IsU64, IsWhat}
 use Rattle.dns_script.specs.Told.{tells_well}
@@ -59,16 +62,35 @@ are_told_settings c =
     (nat_le 1 c.max_cache_entries && nat_le c.max_cache_entries 1000000000)
     && (c.max_cache_octets == no_bound && are_told_times c)
 
+abbrev pub is_first_size : Option ℕ → Bool
+is_first_size None = false
+is_first_size (Some size) = size == 1232
+
+abbrev pub are_first_dgrams : dgram.Settings → Bool
+are_first_dgrams d =
+    d.max_parallel == 100
+    && (d.read_timeout == 5000000 && (d.max_retries == 5 && (is_first_size d.udp_payload_size && d.recv_size == 2000)))
+
+abbrev pub are_first_streams : multi_stream.Settings → Bool
+are_first_streams m =
+    m.response_timeout == 30000000
+    && (m.stream.response_timeout == 19000000 && (m.stream.streaming_response_timeout == 19000000 && m.stream.idle_timeout == 10000000))
+
+-- Settings of transports are told where they are the defaults.
+abbrev pub are_told_transports : Transports → Bool
+are_told_transports t = are_first_dgrams t.dgram && are_first_streams t.multi_stream
+
 -- whether each event is one that a socket or the application tells
 abbrev pub are_told_events : List Event → Bool
 are_told_events events = list_all (λ event. tells_well event.what) events
 
 -- A script that its text tells: of its configuration the addresses, the time for a request and `use-vc` alone are not the defaults, its settings lie within
--- their limits, times are whole seconds, it has one lane, and no event has a fault that the client finds itself.
+-- their limits, those of transports are the defaults, times are whole seconds, it has one lane, and no event has a fault that the client finds itself.
 pub record CanBeTold (script : Script) : Type 0 where
   pub servers : list_all is_told_server script.conf.servers ≡ true
   pub options : are_told_options script.conf.options ≡ true
   pub settings : are_told_settings script.cache ≡ true
+  pub transports : are_told_transports script.transports ≡ true
   pub lane : (length script.lanes == 1) ≡ true
   pub events : are_told_events (first_lane script.lanes) ≡ true
 
@@ -77,6 +99,7 @@ abbrev pub IsUntold : Untold → Script → Type 0
 IsUntold untold.Server script = list_all is_told_server script.conf.servers ≡ false
 IsUntold untold.Options script = are_told_options script.conf.options ≡ false
 IsUntold untold.Settings script = are_told_settings script.cache ≡ false
+IsUntold untold.Transports script = are_told_transports script.transports ≡ false
 IsUntold untold.Lanes script = (length script.lanes == 1) ≡ false
 IsUntold untold.Event script = are_told_events (first_lane script.lanes) ≡ false
 IsUntold untold.NoMemory script = Unit {0}

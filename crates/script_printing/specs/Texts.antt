@@ -2,6 +2,7 @@
 use Rattle.std.specs.Prelude.{ℕ, ◌/◌, ◌==◌, Bool, true, false, not, List, [], ◌∷◌, ◌++◌, map, codes, decimal}
 use Rattle.std.specs.List.{flat_map, join_with_byte}
 use Rattle.client_request.specs.declared.event.Event.{Event}
+use Rattle.client_settings.specs.Client.{default_transports}
 use Rattle.client_settings.specs.Settings.{CacheSettings, RedundantSettings, seconds}
 use Rattle.dns_values.specs.Address.{address_text}
 use Rattle.dns_script.specs.Lines.{event_line}
@@ -87,9 +88,9 @@ ended line = line ++ 10 ∷ []
 abbrev pub head_text : ResolvConf → RedundantSettings → CacheSettings → List ℕ → List ℕ
 head_text conf redundant cache words = flat_map ended (head_lines conf redundant cache words)
 
--- a script of one lane
+-- a script of one lane, with the defaults of transports
 abbrev pub script_of : ResolvConf → RedundantSettings → CacheSettings → (words : List ℕ) → List Event → Script
-script_of conf redundant cache words events = record { conf = conf; redundant = redundant; cache = cache; words = words; lanes = events ∷ [] }
+script_of conf redundant cache words events = record { conf = conf; redundant = redundant; cache = cache; transports = default_transports; words = words; lanes = events ∷ [] }
 
 abbrev pub first_lane : List (List Event) → List Event
 first_lane [] = []

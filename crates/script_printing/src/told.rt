@@ -3,10 +3,10 @@
 ghost use Rattle.std.specs.Prelude.{◌≡◌};
 ghost use Rattle.std.specs.List.{list_all};
 ghost use Rattle.dns_script.specs.Told.{is_of_socket, tells_well};
-ghost use Rattle.script_printing.specs.CanBeTold.{are_counts_default, are_first_flags_default, are_last_flags_default, are_told_events, are_told_limits, are_told_options, are_told_settings, are_told_times, is_told_server, is_told_time, is_whole};
+ghost use Rattle.script_printing.specs.CanBeTold.{are_counts_default, are_first_dgrams, are_first_flags_default, are_first_streams, are_last_flags_default, are_told_events, are_told_limits, are_told_options, are_told_settings, are_told_times, are_told_transports, is_told_server, is_told_time, is_whole};
 
 use client_request::{Event, Fault, What};
-use client_settings::cache;
+use client_settings::{Transports, cache, dgram, multi_stream};
 use dns_base::Duration;
 use resolv_conf::{ResolvOptions, ServerConf, Transport};
 
@@ -119,6 +119,32 @@ pub fn settings_are_told(c: &cache::Config) -> bool
     (1 <= c.max_cache_entries() && c.max_cache_entries() <= 1_000_000_000)
         && c.max_cache_octets() == u64::MAX
         && times_are_told(c)
+}
+
+fn are_first_dgrams(d: &dgram::Config) -> bool
+    ensures { result ≡ are_first_dgrams d.now }
+{
+    d.max_parallel() == 100
+        && d.read_timeout() == Duration::from_secs(5)
+        && d.max_retries() == 5
+        && matches!(d.udp_payload_size(), Some(1232))
+        && d.recv_size() == 2000
+}
+
+fn are_first_streams(m: &multi_stream::Config) -> bool
+    ensures { result ≡ are_first_streams m.now }
+{
+    m.response_timeout() == Duration::from_secs(30)
+        && m.stream().response_timeout() == Duration::from_secs(19)
+        && m.stream().streaming_response_timeout() == Duration::from_secs(19)
+        && m.stream().idle_timeout() == Duration::from_secs(10)
+}
+
+/// Whether each setting of transports has its default.
+pub(crate) fn transports_are_told(t: &Transports) -> bool
+    ensures { result ≡ are_told_transports t.now }
+{
+    are_first_dgrams(&t.dgram) && are_first_streams(&t.multi_stream)
 }
 
 /// Whether a fault is of a socket; the client itself finds the others.

@@ -10,6 +10,8 @@ pub enum Untold {
     Options,
     /// A setting of the cache is outside its limits, or a time among them is no whole number of seconds.
     Settings,
+    /// A setting of transports has not its default.
+    Transports,
     /// There is not just one lane.
     Lanes,
     /// An event has a fault that the client finds itself.
