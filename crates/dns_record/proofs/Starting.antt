@@ -7,6 +7,7 @@ use Rattle.client_cache.specs.Plain as caching
 use Rattle.client_choice.specs.Redundant as choosing
 use Rattle.client_loop.proofs.Rows.{leads_nowhere}
 use Rattle.client_request.specs.Words.{listed}
+use Rattle.client_settings.specs.Client.{default_transports}
 use Rattle.client_settings.specs.Settings.{CacheSettings, RedundantSettings}
 use Rattle.client_steps.specs.Whole.{Servers, and_server, asks_by_streams, client_with, is_tcp, servers_of, started, with_servers}
 use Rattle.dns_record.specs.Recording.{GoesOn, IsToldStart, Opening, are_asked_alike, opening, text_of_rows, told_conf}
@@ -31,16 +32,16 @@ abbrev is_alike : ResolvConf → ServerConf → Bool
 is_alike conf server = conf.options.use_vc || not (is_tcp server.transport)
 
 served : (n : ℕ) (conf : ResolvConf) (servers : List ServerConf) (r : Servers) → list_all (is_alike conf) servers ≡ true
-    → with_servers n (told_conf conf).options (map told servers) r ≡ with_servers n conf.options servers r
+    → with_servers default_transports n (told_conf conf).options (map told servers) r ≡ with_servers default_transports n conf.options servers r
 served n conf [] r h = refl
 served n conf (s ∷ ss) r h =
     let both = and_parts (is_alike conf s) (list_all (is_alike conf) ss) h in
-    ap (λ b. with_servers (n + 1) (told_conf conf).options (map told ss) (and_server n b r)) (asks_same conf.options.use_vc s.transport both.0)
-    ∙ served (n + 1) conf ss (and_server n (asks_by_streams conf.options s) r) both.1
+    ap (λ b. with_servers default_transports (n + 1) (told_conf conf).options (map told ss) (and_server default_transports n b r)) (asks_same conf.options.use_vc s.transport both.0)
+    ∙ served (n + 1) conf ss (and_server default_transports n (asks_by_streams conf.options s) r) both.1
 
 pub same_start : (redundant : RedundantSettings) (cache : CacheSettings) (conf : ResolvConf) → are_asked_alike conf ≡ true → started redundant cache (told_conf conf) ≡ started redundant cache conf
 same_start redundant cache conf h =
-    let servers : Servers = servers_of redundant (told_conf conf).options (told_conf conf).servers in
+    let servers : Servers = servers_of default_transports redundant (told_conf conf).options (told_conf conf).servers in
     ap (λ n. record (started redundant cache conf) { count = n; layer = caching.started cache servers }) (length-map conf.servers told)
     ∙ ap (λ s. record (started redundant cache conf) { layer = caching.started cache s }) (served 0 conf conf.servers (choosing.started redundant) h)
 
@@ -70,7 +71,7 @@ begun conf redundant cache words held after text alike whole settings addresses 
     let all : text_of_rows o [] ≡ text = append-nil (head_text (told_conf conf) redundant cache words) ∙ told_head conf redundant cache words ∙ sym is in
     record {
       alike = alike;
-      told = record { servers = told_servers conf.servers; options = ap (λ b. b && true) whole; settings = settings; lane = refl; events = refl };
+      told = record { servers = told_servers conf.servers; options = ap (λ b. b && true) whole; settings = settings; transports = refl; lane = refl; events = refl };
       range = record { addresses = told_addresses conf.servers addresses; timeout = small; words = fit; events = tt };
       written = written ∙ ap (λ t. with_octets t held) (sym all);
       size_is = ap length (sym all);

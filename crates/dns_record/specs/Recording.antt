@@ -6,7 +6,7 @@ use Rattle.client_request.specs.Words.{listed, rest_of}
 use Rattle.client_request.specs.declared.event.Event.{Event}
 use Rattle.client_request.specs.declared.event.Row.{Row}
 use Rattle.client_settings.specs.Settings.{CacheSettings, RedundantSettings}
-use Rattle.client_steps.specs.Whole.{Whole, client_with, is_tcp, plain_step, plain_trace, started}
+use Rattle.client_steps.specs.Whole.{Whole, client_with, is_tcp, plain_step, plain_trace_with, started}
 use Rattle.dns_record.specs.declared.ended.Ended.{Ended}
 use Rattle.dns_record.specs.declared.ended.Ended.TheVariants as endings
 use Rattle.dns_record.specs.declared.ended.Refused.{Refused}
@@ -60,7 +60,7 @@ pub record IsRecord (text : List ℕ) (rows : List Row) : Type 0 where
   pub script : Script
   pub is_script : IsScript false text script
   pub fits : length text ≤ 16777216
-  pub replay : plain_trace script.redundant script.cache script.conf (listed script.words) (first_lane script.lanes) ≡ Some rows
+  pub replay : plain_trace_with script.transports script.redundant script.cache script.conf (listed script.words) (first_lane script.lanes) ≡ Some rows
 
 -- These are first octets of the record of rows: up to their last whole line the record of the first of the rows.
 pub record IsCutRecord (o : Opening) (rows : List Row) (octets : List ℕ) : Type 0 where
