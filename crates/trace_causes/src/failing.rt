@@ -14,19 +14,30 @@ use number_table::NumberTable;
 use request_validity::RequestValidity;
 use std::alloc::Global;
 use trace_exchanges::Coming;
+use trace_questions::TraceConf;
 use trace_tables::{Asked, Books, Newest, Place, Sent, Stand};
 
 /// Whether some send of a request carried it.
 fn some_carried(
+    conf: &TraceConf,
     alloc: Global,
     asked: &RequestMessage,
     request: u64,
     sends: &Newest<Sent>,
 ) -> Result<bool, NoMemory>
-    ensures { IfOk result (λ b. b ≡ plain.some_carried asked.now request sends.now) }
+    ensures { IfOk result (λ b. b ≡ plain.some_carried conf.now asked.now request sends.now) }
 {
     for sent in sends {
-        if sent.request == request && carries(alloc, Via::Dgram, &sent.octets, asked, sent.id)? {
+        if sent.request == request
+            && carries(
+                alloc,
+                conf.udp_payload_size(),
+                Via::Dgram,
+                &sent.octets,
+                asked,
+                sent.id,
+            )?
+        {
             return Ok(true);
         }
     }
@@ -35,20 +46,21 @@ fn some_carried(
 
 /// The same of a request that was asked, at a place.
 fn was_carried(
+    conf: &TraceConf,
     alloc: Global,
     askings: &NumberTable<Asked>,
     sent: &NumberTable<Newest<Sent>>,
     request: u64,
     place: u64,
 ) -> Result<bool, NoMemory>
-    ensures { IfOk result (λ b. b ≡ plain.was_carried request (entry_at request askings.now) (listed place sent.now)) }
+    ensures { IfOk result (λ b. b ≡ plain.was_carried conf.now request (entry_at request askings.now) (listed place sent.now)) }
 {
     let Some(asked) = askings.get(request) else {
         return Ok(false);
     };
     match sent.get(place) {
         None => Ok(false),
-        Some(sends) => some_carried(alloc, &asked.request, request, sends),
+        Some(sends) => some_carried(conf, alloc, &asked.request, request, sends),
     }
 }
 
@@ -65,8 +77,14 @@ fn server_at(places: &NumberTable<Place>, number: u64) -> Option<u32>
 }
 
 /// Whether a request was sent at a place that is alive, of a server that has it.
-fn is_hit(alloc: Global, past: &Books, request: u64, place: u64) -> Result<bool, NoMemory>
-    ensures { IfOk result (λ b. b ≡ plain.is_hit past.now request place) }
+fn is_hit(
+    conf: &TraceConf,
+    alloc: Global,
+    past: &Books,
+    request: u64,
+    place: u64,
+) -> Result<bool, NoMemory>
+    ensures { IfOk result (λ b. b ≡ plain.is_hit conf.now past.now request place) }
 {
     let Some(server) = server_at(&past.places, place) else {
         return Ok(false);
@@ -75,6 +93,7 @@ fn is_hit(alloc: Global, past: &Books, request: u64, place: u64) -> Result<bool,
         return Ok(false);
     }
     was_carried(
+        conf,
         alloc,
         &past.requests.askings,
         &past.sends.sent,
@@ -90,24 +109,25 @@ fn if_hit(is_hit: bool, error: Error) -> Option<Error>
 }
 
 fn find_failure(
+    conf: &TraceConf,
     alloc: Global,
     past: &Books,
     what: &What,
     request: u64,
 ) -> Result<Option<Error>, NoMemory>
-    ensures { IfOk result (λ e. e ≡ plain.failure past.now request what.now) }
+    ensures { IfOk result (λ e. e ≡ plain.failure conf.now past.now request what.now) }
 {
     match what {
         What::SendFailed { place, fault } => Ok(if_hit(
-            is_hit(alloc, past, request, *place)?,
+            is_hit(conf, alloc, past, request, *place)?,
             Error::Dgram(QueryError::Send(*fault)),
         )),
         What::ShortSend { place } => Ok(if_hit(
-            is_hit(alloc, past, request, *place)?,
+            is_hit(conf, alloc, past, request, *place)?,
             Error::Dgram(QueryError::Send(Fault::ShortSend)),
         )),
         What::RecvFailed { place, fault } => Ok(if_hit(
-            is_hit(alloc, past, request, *place)?,
+            is_hit(conf, alloc, past, request, *place)?,
             Error::Dgram(QueryError::Receive(*fault)),
         )),
         _ => Ok(None),
@@ -117,15 +137,16 @@ fn find_failure(
 /// The error of sending or receiving that an event tells of a request, which was sent where it happened: `past` is what was
 /// known before the row.
 pub fn failure(
+    conf: &TraceConf,
     alloc: Global,
     past: &Books,
     what: &What,
     request: u64,
 ) -> Result<Option<Error>, NoMemory>
-    ensures value { IfOk result (λ e. e ≡ plain.failure past.now request what.now) }
-    ensures told { IfOk result (plain.TellsFailure past.now request what.now) }
+    ensures value { IfOk result (λ e. e ≡ plain.failure conf.now past.now request what.now) }
+    ensures told { IfOk result (plain.TellsFailure conf.now past.now request what.now) }
 {
-    find_failure(alloc, past, what, request)
+    find_failure(conf, alloc, past, what, request)
 }
 
 /// Whether a message came for a request by stream and does not answer it.

@@ -3,3 +3,4 @@ pub mod Knowing
 pub mod Writing
 pub mod Keeping
 pub mod Opening
+pub mod Receiving
