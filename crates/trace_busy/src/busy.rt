@@ -23,7 +23,7 @@ use std::alloc::Global;
 use trace_exchanges::Open;
 use trace_frames::{Brought, Ledger, Written};
 use trace_loads::Loads;
-use trace_questions::ServerUse;
+use trace_questions::{ServerUse, TraceConf};
 use trace_sets::{Members, count};
 use trace_tables::{Newest, Place, Sent, Stand, Started, same_via};
 use trace_writes::Writing;
@@ -57,8 +57,8 @@ impl Drop for Scene<'_> {
 }
 
 /// Whether a send is of a request, under an id, and 5 seconds are not over.
-fn is_waited_for(request: u64, id: u16, now: u64, send: &Sent) -> bool
-    ensures { result ≡ is_for request id now send.now }
+fn is_waited_for(conf: &TraceConf, request: u64, id: u16, now: u64, send: &Sent) -> bool
+    ensures { result ≡ is_for conf.now request id now send.now }
 {
     send.request == request
         && send.id == id
@@ -108,12 +108,12 @@ fn brings_at(brought: &Option<Brought>, place: u64, id: u16) -> bool
 }
 
 /// Whether 30 seconds are not over since a start.
-fn has_begun_lately(now: u64, begun: Option<u64>) -> bool
-    ensures { result ≡ is_young now begun }
+fn has_begun_lately(conf: &TraceConf, now: u64, begun: Option<u64>) -> bool
+    ensures { result ≡ is_young conf.now now begun }
 {
     match begun {
         None => false,
-        Some(begun) => u128::from(now) < u128::from(begun) + 30_000_000,
+        Some(begun) => u128::from(now) < u128::from(begun) + conf.stream_timeout().as_micros(),
     }
 }
 
@@ -187,6 +187,7 @@ impl<'a> Scene<'a> {
     /// Whether octets carry a request.
     fn carries(
         &self,
+        conf: &TraceConf,
         alloc: Global,
         via: Via,
         asked: &RequestMessage,
@@ -194,29 +195,30 @@ impl<'a> Scene<'a> {
         id: u16,
         octets: &Octets,
     ) -> Result<bool, NoMemory>
-        ensures { IfOk result (λ b. b ≡ plain.carries_seen via asked.now request id octets.now self.now) }
+        ensures { IfOk result (λ b. b ≡ plain.carries_seen conf.now via asked.now request id octets.now self.now) }
     {
         match self.noted(via, request, id, octets) {
             Some(carries) => Ok(carries),
-            None => carries(alloc, via, octets, asked, id),
+            None => carries(alloc, conf.udp_payload_size(), via, octets, asked, id),
         }
     }
 
     /// Whether one of these is waited for, and carries the request.
     fn some_sent(
         &self,
+        conf: &TraceConf,
         alloc: Global,
         asked: &RequestMessage,
         request: u64,
         id: u16,
         sends: &[Sent],
     ) -> Result<bool, NoMemory>
-        ensures { IfOk result (λ b. b ≡ plain.some_sent asked.now request id self.now.ledger.now.books.requests.clock sends.now self.now) }
+        ensures { IfOk result (λ b. b ≡ plain.some_sent conf.now asked.now request id self.now.ledger.now.books.requests.clock sends.now self.now) }
     {
         let now = self.ledger.books.requests.clock;
         for send in sends {
-            if is_waited_for(request, id, now, send)
-                && self.carries(alloc, Via::Dgram, asked, request, id, &send.octets)?
+            if is_waited_for(conf, request, id, now, send)
+                && self.carries(conf, alloc, Via::Dgram, asked, request, id, &send.octets)?
             {
                 return Ok(true);
             }
@@ -227,17 +229,26 @@ impl<'a> Scene<'a> {
     /// Whether one of these is the request's, and carries it.
     fn some_written(
         &self,
+        conf: &TraceConf,
         alloc: Global,
         asked: &RequestMessage,
         request: u64,
         id: u16,
         writes: &Newest<Written>,
     ) -> Result<bool, NoMemory>
-        ensures { IfOk result (λ b. b ≡ plain.some_written asked.now request id writes.now self.now) }
+        ensures { IfOk result (λ b. b ≡ plain.some_written conf.now asked.now request id writes.now self.now) }
     {
         for written in writes {
             if written.request == request
-                && self.carries(alloc, Via::Stream, asked, request, id, &written.octets)?
+                && self.carries(
+                    conf,
+                    alloc,
+                    Via::Stream,
+                    asked,
+                    request,
+                    id,
+                    &written.octets,
+                )?
             {
                 return Ok(true);
             }
@@ -250,56 +261,62 @@ impl<'a> Scene<'a> {
     /// Whether an exchange of a request by datagrams is open at a place.
     fn is_open_dgram(
         &self,
+        conf: &TraceConf,
         alloc: Global,
         asked: &RequestMessage,
         request: u64,
         spot: Spot,
     ) -> Result<bool, NoMemory>
-        ensures { IfOk result (λ b. b ≡ plain.some_sent asked.now request spot.id self.now.ledger.now.books.requests.clock (listed spot.place self.now.sends.now) self.now) }
+        ensures { IfOk result (λ b. b ≡ plain.some_sent conf.now asked.now request spot.id self.now.ledger.now.books.requests.clock (listed spot.place self.now.sends.now) self.now) }
     {
         match self.sends.get(spot.place) {
             None => Ok(false),
-            Some(sends) => self.some_sent(alloc, asked, request, spot.id, sends.as_slice()),
+            Some(sends) => self.some_sent(conf, alloc, asked, request, spot.id, sends.as_slice()),
         }
     }
 
     /// Whether something waits at a place that is the request's and carries it.
     fn is_written(
         &self,
+        conf: &TraceConf,
         alloc: Global,
         asked: &RequestMessage,
         request: u64,
         spot: Spot,
     ) -> Result<bool, NoMemory>
-        ensures { IfOk result (λ b. b ≡ plain.some_written asked.now request spot.id (waiting_seen spot.place spot.id self.now.ledger.now.waiting) self.now) }
+        ensures { IfOk result (λ b. b ≡ plain.some_written conf.now asked.now request spot.id (waiting_seen spot.place spot.id self.now.ledger.now.waiting) self.now) }
     {
         let Some(at) = self.ledger.waiting.get(spot.place) else {
             return Ok(false);
         };
         match at.get(u64::from(spot.id)) {
             None => Ok(false),
-            Some(writes) => self.some_written(alloc, asked, request, spot.id, writes),
+            Some(writes) => self.some_written(conf, alloc, asked, request, spot.id, writes),
         }
     }
 
     /// Whether an exchange of a request by stream is open at a place of a server.
     fn is_open_stream(
         &self,
+        conf: &TraceConf,
         alloc: Global,
         asked: &RequestMessage,
         request: u64,
         spot: Spot,
         server: u32,
     ) -> Result<bool, NoMemory>
-        ensures { IfOk result (λ b. b ≡ plain.is_open_by Stream asked.now request spot.place spot.id server self.now) }
+        ensures { IfOk result (λ b. b ≡ plain.is_open_by conf.now Stream asked.now request spot.place spot.id server self.now) }
     {
         let requests = &self.ledger.books.requests;
-        if !has_begun_lately(requests.clock, requests.start(request, server, Via::Stream))
-            || brings_at(&self.ledger.frames.brought, spot.place, spot.id)
+        if !has_begun_lately(
+            conf,
+            requests.clock,
+            requests.start(request, server, Via::Stream),
+        ) || brings_at(&self.ledger.frames.brought, spot.place, spot.id)
         {
             return Ok(false);
         }
-        self.is_written(alloc, asked, request, spot)
+        self.is_written(conf, alloc, asked, request, spot)
     }
 
     /// Whether a request was handed to a server.
@@ -314,12 +331,13 @@ impl<'a> Scene<'a> {
     /// Whether an exchange of a request is open where it was sent or written.
     fn is_open_at(
         &self,
+        conf: &TraceConf,
         alloc: Global,
         asked: &RequestMessage,
         request: u64,
         spot: Spot,
     ) -> Result<bool, NoMemory>
-        ensures { IfOk result (λ b. b ≡ plain.is_open_at asked.now request spot (entry_at spot.place self.now.ledger.now.books.places) self.now) }
+        ensures { IfOk result (λ b. b ≡ plain.is_open_at conf.now asked.now request spot (entry_at spot.place self.now.ledger.now.books.places) self.now) }
     {
         let Some(place) = self.ledger.books.places.get(spot.place) else {
             return Ok(false);
@@ -331,23 +349,24 @@ impl<'a> Scene<'a> {
             return Ok(false);
         }
         match place.via {
-            Via::Dgram => self.is_open_dgram(alloc, asked, request, spot),
-            Via::Stream => self.is_open_stream(alloc, asked, request, spot, place.server),
+            Via::Dgram => self.is_open_dgram(conf, alloc, asked, request, spot),
+            Via::Stream => self.is_open_stream(conf, alloc, asked, request, spot, place.server),
         }
     }
 
     /// Whether one of them is.
     fn some_open(
         &self,
+        conf: &TraceConf,
         alloc: Global,
         asked: &RequestMessage,
         request: u64,
         spots: &Newest<Spot>,
     ) -> Result<bool, NoMemory>
-        ensures { IfOk result (λ b. b ≡ plain.some_open asked.now request spots.now self.now) }
+        ensures { IfOk result (λ b. b ≡ plain.some_open conf.now asked.now request spots.now self.now) }
     {
         for spot in spots {
-            if self.is_open_at(alloc, asked, request, *spot)? {
+            if self.is_open_at(conf, alloc, asked, request, *spot)? {
                 return Ok(true);
             }
         }
@@ -356,15 +375,16 @@ impl<'a> Scene<'a> {
 
     fn some_open_of(
         &self,
+        conf: &TraceConf,
         alloc: Global,
         asked: &RequestMessage,
         request: u64,
     ) -> Result<bool, NoMemory>
-        ensures { IfOk result (λ b. b ≡ plain.some_open asked.now request (listed request self.now.waits.now.spots) self.now) }
+        ensures { IfOk result (λ b. b ≡ plain.some_open conf.now asked.now request (listed request self.now.waits.now.spots) self.now) }
     {
         match self.waits.spots.get(request) {
             None => Ok(false),
-            Some(spots) => self.some_open(alloc, asked, request, spots),
+            Some(spots) => self.some_open(conf, alloc, asked, request, spots),
         }
     }
 }
@@ -391,12 +411,13 @@ impl<'a> Scene<'a> {
     }
 
     /// Whether a server is busy for all requests that it has so.
-    fn serves(&self, via: Via, server: u32) -> bool
-        ensures { result ≡ plain.serves via server self.now }
+    fn serves(&self, conf: &TraceConf, via: Via, server: u32) -> bool
+        ensures { result ≡ plain.serves conf.now via server self.now }
     {
         match via {
             Via::Dgram => {
-                count(&self.loads.dgrams, u64::from(server)) >= 100 || self.some_dgram_opens(server)
+                count(&self.loads.dgrams, u64::from(server)) >= conf.max_places()
+                    || self.some_dgram_opens(server)
             }
             Via::Stream => {
                 self.some_stream_moves(server)
@@ -409,44 +430,49 @@ impl<'a> Scene<'a> {
     }
 
     /// Whether one of the servers that these are starts at is.
-    fn some_serves(&self, starts: &Newest<Started>) -> bool
-        ensures { result ≡ plain.some_serves starts.now self.now }
+    fn some_serves(&self, conf: &TraceConf, starts: &Newest<Started>) -> bool
+        ensures { result ≡ plain.some_serves conf.now starts.now self.now }
     {
         for start in starts {
-            if self.serves(start.via, start.server) {
+            if self.serves(conf, start.via, start.server) {
                 return true;
             }
         }
         false
     }
 
-    fn some_serves_of(&self, request: u64) -> bool
-        ensures { result ≡ plain.some_serves (listed request self.now.ledger.now.books.requests.starts) self.now }
+    fn some_serves_of(&self, conf: &TraceConf, request: u64) -> bool
+        ensures { result ≡ plain.some_serves conf.now (listed request self.now.ledger.now.books.requests.starts) self.now }
     {
         match self.ledger.books.requests.starts.get(request) {
             None => false,
-            Some(starts) => self.some_serves(starts),
+            Some(starts) => self.some_serves(conf, starts),
         }
     }
 
     /// Whether a request is busy at a server.
-    fn is_busy(&self, alloc: Global, request: u64) -> Result<bool, NoMemory>
-        ensures { IfOk result (λ b. b ≡ plain.busy_seen self.now request) }
+    fn is_busy(&self, conf: &TraceConf, alloc: Global, request: u64) -> Result<bool, NoMemory>
+        ensures { IfOk result (λ b. b ≡ plain.busy_seen conf.now self.now request) }
     {
         let Some(asked) = self.ledger.books.requests.askings.get(request) else {
             return Ok(false);
         };
-        if self.some_open_of(alloc, &asked.request, request)? {
+        if self.some_open_of(conf, alloc, &asked.request, request)? {
             return Ok(true);
         }
-        Ok(self.some_serves_of(request))
+        Ok(self.some_serves_of(conf, request))
     }
 
-    fn all_busy(&self, alloc: Global, requests: &Members) -> Result<bool, NoMemory>
-        ensures { IfOk result (λ b. b ≡ plain.all_busy self.now requests.now) }
+    fn all_busy(
+        &self,
+        conf: &TraceConf,
+        alloc: Global,
+        requests: &Members,
+    ) -> Result<bool, NoMemory>
+        ensures { IfOk result (λ b. b ≡ plain.all_busy conf.now self.now requests.now) }
     {
         for (request, _) in requests {
-            if !self.is_busy(alloc, request)? {
+            if !self.is_busy(conf, alloc, request)? {
                 return Ok(false);
             }
         }
@@ -454,9 +480,9 @@ impl<'a> Scene<'a> {
     }
 
     /// Whether each valid request that waits is busy. It goes over the requests that wait.
-    pub fn are_waiting_busy(&self, alloc: Global) -> Result<bool, NoMemory>
+    pub fn are_waiting_busy(&self, conf: &TraceConf, alloc: Global) -> Result<bool, NoMemory>
         ensures { IfOk result (plain.TellsBusy self.now) }
     {
-        self.all_busy(alloc, &self.waits.requests)
+        self.all_busy(conf, alloc, &self.waits.requests)
     }
 }

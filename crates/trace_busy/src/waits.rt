@@ -10,6 +10,7 @@ use message_matching::carries;
 use number_table::NumberTable;
 use request_validity::RequestValidity;
 use std::alloc::Global;
+use trace_questions::TraceConf;
 use trace_sets::Members;
 use trace_tables::{Newest, Requests, add};
 
@@ -117,6 +118,7 @@ impl Waits {
     /// What a request is sent or written as is noted, if it was asked.
     fn note(
         &mut self,
+        conf: &TraceConf,
         alloc: Global,
         requests: &Requests,
         via: Via,
@@ -124,7 +126,7 @@ impl Waits {
         id: u16,
         octets: &Octets,
     ) -> Result<(), NoMemory>
-        ensures { OnOk result (self.new ≡ plain.notes via request id octets.now requests.now self.old) }
+        ensures { OnOk result (self.new ≡ plain.notes conf.now via request id octets.now requests.now self.old) }
     {
         let Some(asked) = requests.askings.get(request) else {
             return Ok(());
@@ -133,14 +135,27 @@ impl Waits {
             via,
             id,
             octets: octets.try_clone()?,
-            carries: carries(alloc, via, octets, &asked.request, id)?,
+            carries: carries(
+                alloc,
+                conf.udp_payload_size(),
+                via,
+                octets,
+                &asked.request,
+                id,
+            )?,
         };
         add(&mut self.carried, alloc, request, noted)
     }
 
     /// An out is put, over the requests as they were.
-    pub fn put(&mut self, alloc: Global, requests: &Requests, out: &Out) -> Result<(), NoMemory>
-        ensures { OnOk result (self.new ≡ plain.has_put out.now requests.now self.old) }
+    pub fn put(
+        &mut self,
+        conf: &TraceConf,
+        alloc: Global,
+        requests: &Requests,
+        out: &Out,
+    ) -> Result<(), NoMemory>
+        ensures { OnOk result (self.new ≡ plain.has_put conf.now out.now requests.now self.old) }
     {
         match out {
             Out::Send {
@@ -149,7 +164,7 @@ impl Waits {
                 id,
                 octets,
             } => {
-                self.note(alloc, requests, Via::Dgram, *request, *id, octets)?;
+                self.note(conf, alloc, requests, Via::Dgram, *request, *id, octets)?;
                 self.go_to(alloc, *request, *place, *id)
             }
             Out::Write {
@@ -158,7 +173,7 @@ impl Waits {
                 id,
                 octets,
             } => {
-                self.note(alloc, requests, Via::Stream, *request, *id, octets)?;
+                self.note(conf, alloc, requests, Via::Stream, *request, *id, octets)?;
                 self.go_to(alloc, *request, *place, *id)
             }
             Out::Reply { request, .. } => {

@@ -55,7 +55,7 @@ fn is_stream_right(point: &Point<'_>, loads: &Loads, held: &Held, place: u64, se
     ensures { plain.TellsOut point.now loads.now held.now (outs.OpenStream place server) result }
 {
     let is_free = may_open(point, place, server);
-    let may = may_open_stream(&point.here.books.places, loads, held, server);
+    let may = may_open_stream(point.conf, &point.here.books.places, loads, held, server);
     both(is_free, may)
 }
 
