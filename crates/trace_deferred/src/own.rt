@@ -52,6 +52,7 @@ fn some_matching(request: u64, comings: &[Coming]) -> bool
 
 /// Whether no message came for a request that may not be passed over.
 fn none_came(
+    conf: &TraceConf,
     past: &Ledger,
     timers: &Timers,
     here: &Ledger,
@@ -60,10 +61,10 @@ fn none_came(
     comings: &[Coming],
     request: u64,
 ) -> bool
-    ensures { result ≡ plain.none_came past.now timers.now here.now outs.now earlier.now comings.now request }
+    ensures { result ≡ plain.none_came conf.now past.now timers.now here.now outs.now earlier.now comings.now request }
 {
     !earlier.arrivals.came.contains_key(request)
-        && (is_excused(past, timers, here, outs) || !some_matching(request, comings))
+        && (is_excused(conf, past, timers, here, outs) || !some_matching(request, comings))
 }
 
 fn find_own(
@@ -100,7 +101,7 @@ fn find_own(
         error,
     )?;
     let done = are_all_done(alloc, conf, books, here, sends, exchanged, what, request)?;
-    let none = none_came(past, timers, here, outs, earlier, comings, request);
+    let none = none_came(conf, past, timers, here, outs, earlier, comings, request);
     Ok(is_own(direct, is_deferred(error, settings), done, none))
 }
 

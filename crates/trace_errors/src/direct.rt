@@ -84,6 +84,7 @@ fn has_other(
 
 /// Whether a server gives the error here, or gave it in a row before and it was deferred.
 fn is_by_server(
+    conf: &TraceConf,
     alloc: Global,
     settings: &TraceSettings,
     past: &Books,
@@ -97,7 +98,9 @@ fn is_by_server(
 ) -> Result<bool, NoMemory>
     ensures { IfOk result (plain.ByServers settings.now past.now heard.now here.now earlier.now what.now comings.now request error) }
 {
-    let now = server_cause(alloc, past, heard, here, what, comings, request, error)?;
+    let now = server_cause(
+        conf, alloc, past, heard, here, what, comings, request, error,
+    )?;
     let before = earlier.was_caused(past, heard, request, error);
     Ok(now || (settings.defers_errors() && before))
 }
@@ -145,7 +148,7 @@ fn find_direct(
         conf, settings, past, here, earlier, what, comings, request, error,
     )?;
     let by_server = is_by_server(
-        alloc, settings, past, heard, here, earlier, what, comings, request, error,
+        conf, alloc, settings, past, heard, here, earlier, what, comings, request, error,
     )?;
     Ok(other || by_server)
 }

@@ -13,12 +13,12 @@ use std::alloc::Global;
 use trace_causes::{came_wrong, failure, has_too_many, is_unread};
 use trace_exchanges::Coming;
 use trace_promptness::{Heards, are_tries_up, is_stream_silent};
-use trace_questions::opening_fault;
+use trace_questions::{TraceConf, opening_fault};
 use trace_tables::Books;
 
 /// Whether this error is found.
 #[tactic(auto, using(crate::proofs::Telltale::some_told))]
-fn is_error(found: Option<Error>, wanted: Failing) -> bool
+fn is_error(conf: &TraceConf, found: Option<Error>, wanted: Failing) -> bool
     ensures { Tells (found ≡ Some (error_of wanted)) result }
 {
     match found {
@@ -30,16 +30,17 @@ fn is_error(found: Option<Error>, wanted: Failing) -> bool
 /// Whether an event tells a request of an error in sending or receiving.
 #[tactic(auto, using(crate::proofs::Caused::tells_failed))]
 fn has_failed(
+    conf: &TraceConf,
     alloc: Global,
     past: &Books,
     what: &What,
     request: u64,
     wanted: Failing,
 ) -> Result<bool, NoMemory>
-    ensures { IfOk result (plain.TellsFails past.now request what.now (error_of wanted)) }
+    ensures { IfOk result (plain.TellsFails conf.now past.now request what.now (error_of wanted)) }
 {
-    let found = failure(alloc, past, what, request)?;
-    Ok(is_error(found, wanted))
+    let found = failure(conf, alloc, past, what, request)?;
+    Ok(is_error(conf, found, wanted))
 }
 
 /// Whether an event tells a request of a fault of its opening.
@@ -50,6 +51,7 @@ fn has_not_opened(past: &Books, here: &Books, what: &What, request: u64, fault: 
 }
 
 fn find(
+    conf: &TraceConf,
     alloc: Global,
     past: &Books,
     heard: &Heards,
@@ -59,7 +61,7 @@ fn find(
     request: u64,
     error: Error,
 ) -> Result<bool, NoMemory>
-    ensures { IfOk result (plain.AnswersFor past.now heard.now here.now what.now comings.now request error) }
+    ensures { IfOk result (plain.AnswersFor conf.now past.now heard.now here.now what.now comings.now request error) }
 {
     let moment = here.requests.clock;
     match error {
@@ -67,14 +69,20 @@ fn find(
             Ok(has_not_opened(past, here, what, request, fault))
         }
         Error::Dgram(QueryError::Send(fault)) => {
-            has_failed(alloc, past, what, request, Failing::Sending(fault))
+            has_failed(conf, alloc, past, what, request, Failing::Sending(fault))
         }
         Error::Dgram(QueryError::Receive(fault)) => {
-            has_failed(alloc, past, what, request, Failing::Receiving(fault))
+            has_failed(conf, alloc, past, what, request, Failing::Receiving(fault))
         }
-        Error::Dgram(QueryError::Timeout) => Ok(are_tries_up(past, here, request, moment)),
+        Error::Dgram(QueryError::Timeout) => Ok(are_tries_up(conf, past, here, request, moment)),
         Error::WrongReplyForQuery => Ok(came_wrong(request, comings)),
-        Error::StreamReadTimeout => Ok(is_stream_silent(&past.requests, heard, request, moment)),
+        Error::StreamReadTimeout => Ok(is_stream_silent(
+            conf,
+            &past.requests,
+            heard,
+            request,
+            moment,
+        )),
         Error::MessageParseError => Ok(is_unread(here, request)),
         Error::MessageBuilderPushError => Ok(has_too_many(here, request)),
         _ => Ok(false),
@@ -85,6 +93,7 @@ fn find(
 /// are what was known before the row, `here` is what is known where the error is given, and `comings` all that came for the
 /// request by there.
 pub fn server_cause(
+    conf: &TraceConf,
     alloc: Global,
     past: &Books,
     heard: &Heards,
@@ -96,5 +105,7 @@ pub fn server_cause(
 ) -> Result<bool, NoMemory>
     ensures { IfOk result (plain.TellsServer past.now heard.now here.now what.now comings.now request error) }
 {
-    find(alloc, past, heard, here, what, comings, request, error)
+    find(
+        conf, alloc, past, heard, here, what, comings, request, error,
+    )
 }

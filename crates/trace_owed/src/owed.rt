@@ -25,8 +25,8 @@ use trace_questions::TraceConf;
 use trace_tables::{Books, Newest, Place, Requests, Sent, Stand};
 
 /// Whether a send is one of a request under an id, less than five seconds ago.
-fn is_for(sent: &Sent, request: u64, id: u16, now: u64) -> bool
-    ensures { result ≡ is_for request id now sent.now }
+fn is_for(conf: &TraceConf, sent: &Sent, request: u64, id: u16, now: u64) -> bool
+    ensures { result ≡ is_for conf.now request id now sent.now }
 {
     sent.request == request
         && sent.id == id
@@ -35,6 +35,7 @@ fn is_for(sent: &Sent, request: u64, id: u16, now: u64) -> bool
 
 /// Whether some of these is so and carries the request.
 fn some_sent(
+    conf: &TraceConf,
     alloc: Global,
     sends: &[Sent],
     asked: &RequestMessage,
@@ -42,11 +43,18 @@ fn some_sent(
     id: u16,
     now: u64,
 ) -> Result<bool, NoMemory>
-    ensures { IfOk result (λ b. b ≡ plain.some_sent asked.now request id now sends.now) }
+    ensures { IfOk result (λ b. b ≡ plain.some_sent conf.now asked.now request id now sends.now) }
 {
     for sent in sends {
-        if is_for(sent, request, id, now)
-            && carries(alloc, Via::Dgram, &sent.octets, asked, sent.id)?
+        if is_for(conf, sent, request, id, now)
+            && carries(
+                alloc,
+                conf.udp_payload_size(),
+                Via::Dgram,
+                &sent.octets,
+                asked,
+                sent.id,
+            )?
         {
             return Ok(true);
         }
@@ -56,16 +64,26 @@ fn some_sent(
 
 /// Whether something that was written for a request carries it.
 fn some_written(
+    conf: &TraceConf,
     alloc: Global,
     writes: &Newest<Written>,
     asked: &RequestMessage,
     request: u64,
     id: u16,
 ) -> Result<bool, NoMemory>
-    ensures { IfOk result (λ b. b ≡ plain.some_written asked.now request id writes.now) }
+    ensures { IfOk result (λ b. b ≡ plain.some_written conf.now asked.now request id writes.now) }
 {
     for written in writes {
-        if written.request == request && carries(alloc, Via::Stream, &written.octets, asked, id)? {
+        if written.request == request
+            && carries(
+                alloc,
+                conf.udp_payload_size(),
+                Via::Stream,
+                &written.octets,
+                asked,
+                id,
+            )?
+        {
             return Ok(true);
         }
     }
@@ -74,6 +92,7 @@ fn some_written(
 
 /// The same of what waits at a place under an id.
 fn some_waiting(
+    conf: &TraceConf,
     alloc: Global,
     waiting: &Waiting,
     asked: &RequestMessage,
@@ -81,14 +100,14 @@ fn some_waiting(
     place: u64,
     id: u16,
 ) -> Result<bool, NoMemory>
-    ensures { IfOk result (λ b. b ≡ plain.some_written asked.now request id (waiting_seen place id waiting.now)) }
+    ensures { IfOk result (λ b. b ≡ plain.some_written conf.now asked.now request id (waiting_seen place id waiting.now)) }
 {
     let Some(at) = waiting.get(place) else {
         return Ok(false);
     };
     match at.get(u64::from(id)) {
         None => Ok(false),
-        Some(writes) => some_written(alloc, writes, asked, request, id),
+        Some(writes) => some_written(conf, alloc, writes, asked, request, id),
     }
 }
 
@@ -127,12 +146,12 @@ fn is_brought(brought: &Option<Brought>, place: u64, id: u16) -> bool
 }
 
 /// Whether 30 seconds are not over since a start.
-fn is_young(now: u64, begun: Option<u64>) -> bool
-    ensures { result ≡ is_young now begun }
+fn is_young(conf: &TraceConf, now: u64, begun: Option<u64>) -> bool
+    ensures { result ≡ is_young conf.now now begun }
 {
     match begun {
         None => false,
-        Some(begun) => u128::from(now) < u128::from(begun) + 30_000_000,
+        Some(begun) => u128::from(now) < u128::from(begun) + conf.stream_timeout().as_micros(),
     }
 }
 
@@ -186,13 +205,19 @@ impl Drop for Asking<'_> {
 
 impl<'a> Asking<'a> {
     /// Whether a datagram is waited for.
-    fn waits_for_datagram(&self, alloc: Global, exchange: Exchange) -> Result<bool, NoMemory>
-        ensures { IfOk result (λ b. b ≡ plain.some_sent self.now.asked.now self.now.request exchange.id self.now.here.now.books.requests.clock (listed exchange.place self.now.sends.now)) }
+    fn waits_for_datagram(
+        &self,
+        conf: &TraceConf,
+        alloc: Global,
+        exchange: Exchange,
+    ) -> Result<bool, NoMemory>
+        ensures { IfOk result (λ b. b ≡ plain.some_sent conf.now self.now.asked.now self.now.request exchange.id self.now.here.now.books.requests.clock (listed exchange.place self.now.sends.now)) }
     {
         let now = self.here.books.requests.clock;
         match self.sends.get(exchange.place) {
             None => Ok(false),
             Some(sends) => some_sent(
+                conf,
                 alloc,
                 sends.as_slice(),
                 self.asked,
@@ -206,21 +231,23 @@ impl<'a> Asking<'a> {
     /// Whether a frame is waited for.
     fn waits_for_frame(
         &self,
+        conf: &TraceConf,
         alloc: Global,
         server: u32,
         exchange: Exchange,
     ) -> Result<bool, NoMemory>
-        ensures { IfOk result (λ b. b ≡ plain.waits_by Stream server self.now.asked.now self.now.request exchange.place exchange.id self.now.here.now self.now.sends.now) }
+        ensures { IfOk result (λ b. b ≡ plain.waits_by conf.now Stream server self.now.asked.now self.now.request exchange.place exchange.id self.now.here.now self.now.sends.now) }
     {
         let requests = &self.here.books.requests;
         let begun = requests.start(self.request, server, Via::Stream);
-        if !is_young(requests.clock, begun) {
+        if !is_young(conf, requests.clock, begun) {
             return Ok(false);
         }
         if is_brought(&self.here.frames.brought, exchange.place, exchange.id) {
             return Ok(false);
         }
         some_waiting(
+            conf,
             alloc,
             &self.here.waiting,
             self.asked,
@@ -249,8 +276,8 @@ impl<'a> Asking<'a> {
             return Ok(false);
         }
         match place.via {
-            Via::Dgram => self.waits_for_datagram(alloc, sent),
-            Via::Stream => self.waits_for_frame(alloc, place.server, sent),
+            Via::Dgram => self.waits_for_datagram(conf, alloc, sent),
+            Via::Stream => self.waits_for_frame(conf, alloc, place.server, sent),
         }
     }
 
