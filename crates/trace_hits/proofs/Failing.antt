@@ -205,9 +205,9 @@ so_fails k d (o ∷ os) i (inl e) =
 so_fails k d (o ∷ os) i (inr a) = or_right (is_number k (failing o)) (fails_in k os) (so_fails k d os i a)
 
 -- behind a moment nothing is asked any more
-past_limit : (k limit : ℕ) (past : History) (rows : List Row) → limit < now past → NeverFails k limit past rows
-past_limit k limit past [] lt = tt
-past_limit k limit past (row ∷ rows) lt = ((λ le d i a. over row.event.moment.0 (now past) lt le), past_limit k limit (after row past) rows (subst (λ n. limit < n) (sym (now_all row.outs (Came row.event ∷ past))) (later row.event.moment.0 (now past) lt)))
+past_limit : (c : Conf) (k limit : ℕ) (past : History) (rows : List Row) → limit < now past → NeverFails c k limit past rows
+past_limit c k limit past [] lt = tt
+past_limit c k limit past (row ∷ rows) lt = ((λ le d i a. over row.event.moment.0 (now past) lt le), past_limit c k limit (after row past) rows (subst (λ n. limit < n) (sym (now_all row.outs (Came row.event ∷ past))) (later row.event.moment.0 (now past) lt)))
   where
     over : (a n : ℕ) → limit < n → max a n ≤ limit → ⊥
     over a n lt le = omega arith
@@ -215,9 +215,9 @@ past_limit k limit past (row ∷ rows) lt = ((λ le d i a. over row.event.moment
     later : (a n : ℕ) → limit < n → limit < max a n
     later a n lt = omega arith
 
-pub fails_then : (k limit n : ℕ) (past : History) (rows : List Row) → first_failure k past rows ≡ Some n → n ≤ limit → NeverFails k limit past rows → ⊥
-fails_then k limit n past [] e le never = absurd (cc)
-fails_then k limit n past (row ∷ rows) e le never = go (λ e. fails_then k limit n (after row past) rows e le never.1) (fails_in k row.outs) refl e
+pub fails_then : (c : Conf) (k limit n : ℕ) (past : History) (rows : List Row) → first_failure k past rows ≡ Some n → n ≤ limit → NeverFails c k limit past rows → ⊥
+fails_then c k limit n past [] e le never = absurd (cc)
+fails_then c k limit n past (row ∷ rows) e le never = go (λ e. fails_then c k limit n (after row past) rows e le never.1) (fails_in k row.outs) refl e
   where
     go : (first_failure k (after row past) rows ≡ Some n → ⊥) → (b : Bool) → fails_in k row.outs ≡ b → (if b then Some (now (Came row.event ∷ past)) else first_failure k (after row past) rows) ≡ Some n → ⊥
     go rest true i e =
@@ -231,17 +231,17 @@ abbrev pub IsLater : (limit : ℕ) → Option ℕ → Type 0
 IsLater limit None = Unit {0}
 IsLater limit (Some n) = limit < n
 
-pub never_then : (k limit : ℕ) (past : History) (rows : List Row) → IsLater limit (first_failure k past rows) → NeverFails k limit past rows
-never_then k limit past [] later = tt
-never_then k limit past (row ∷ rows) later = go (never_then k limit (after row past) rows) (fails_in k row.outs) refl later
+pub never_then : (c : Conf) (k limit : ℕ) (past : History) (rows : List Row) → IsLater limit (first_failure k past rows) → NeverFails c k limit past rows
+never_then c k limit past [] later = tt
+never_then c k limit past (row ∷ rows) later = go (never_then c k limit (after row past) rows) (fails_in k row.outs) refl later
   where
     not_both : (n : ℕ) → limit < n → n ≤ limit → ⊥
     not_both n lt le = omega arith
 
-    go : (IsLater limit (first_failure k (after row past) rows) → NeverFails k limit (after row past) rows) → (b : Bool) → fails_in k row.outs ≡ b
-        → IsLater limit (if b then Some (now (Came row.event ∷ past)) else first_failure k (after row past) rows) → NeverFails k limit past (row ∷ rows)
+    go : (IsLater limit (first_failure k (after row past) rows) → NeverFails c k limit (after row past) rows) → (b : Bool) → fails_in k row.outs ≡ b
+        → IsLater limit (if b then Some (now (Came row.event ∷ past)) else first_failure k (after row past) rows) → NeverFails c k limit past (row ∷ rows)
     go rest true i lt = (
       (λ le d f a. not_both (now (Came row.event ∷ past)) lt le),
-      past_limit k limit (after row past) rows (subst (λ n. limit < n) (sym (now_all row.outs (Came row.event ∷ past))) lt),
+      past_limit c k limit (after row past) rows (subst (λ n. limit < n) (sym (now_all row.outs (Came row.event ∷ past))) lt),
     )
     go rest false i later = ((λ le d f a. clash (fails_in k row.outs) (so_fails k d row.outs f a) i), rest later)

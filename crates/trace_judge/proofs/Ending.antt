@@ -32,11 +32,11 @@ pub record IsScene (r : Rules) (t : Course) (q : Scene) : Type 0 where
 pub all_busy : (r : Rules) (t : Course) (q : Scene) (b : Bool) → IsScene r t q → busy.TellsBusy q b → TellsAllBusy r t b
 all_busy r t q b a f h n = f r.conf h (r.servers_are ∙ ap (map use_of) (sym a.servers)) (record {
   ledger = subst (ledger.Known h) (sym a.ledger) n.pass.ledger;
-  sends = subst (open_sends.Known h) (sym a.sends) n.pass.sends;
+  sends = subst (open_sends.Known r.conf h) (sym a.sends) n.pass.sends;
   writing = subst (writing.Known h) (sym a.writing) n.pass.timers.writes;
-  loads = subst (loads.Known h) (sym a.loads) n.loads;
-  waits = subst (waits.Known h) (sym a.waits) n.waits;
-  backs = subst (backs.Known h) (sym a.backs) n.backs;
+  loads = subst (loads.Known r.conf h) (sym a.loads) n.loads;
+  waits = subst (waits.Known r.conf h) (sym a.waits) n.waits;
+  backs = subst (backs.Known r.conf h) (sym a.backs) n.backs;
 })
 
 -- where there is no server nobody is asked
@@ -70,7 +70,7 @@ some_busy r t b some f h n =
         let n : length r.conf.servers ≡ length r.servers.items = ap length r.servers_are ∙ length_map use_of r.servers.items in
         omega arith
 
-pub at_end : (r : Rules) (t : Course) (os : List Out) (kept : Kept) (busy met stand few : Bool) → TellsBusy r t busy → TellsMet t.here.loads met → Tells (MarksStand os) stand → Tells (faults os ≤ 1) few
+pub at_end : (r : Rules) (t : Course) (os : List Out) (kept : Kept) (busy met stand few : Bool) → TellsBusy r t busy → TellsMet r.conf t.here.loads met → Tells (MarksStand os) stand → Tells (faults os ≤ 1) few
     → TellsEnd r t os kept (record { messages = kept.messages; firsts = kept.firsts; causes = kept.causes && (not r.defers_nothing || few); orders = kept.orders && (busy && (met && stand)) })
 at_end r t os kept busy met stand few b m u f h n exact = record {
   messages = refl;
@@ -82,7 +82,7 @@ at_end r t os kept busy met stand few b m u f h n exact = record {
 }
 
 pub at_end_is : (r : Rules) (t : Course) (os : List Out) (kept : Kept) (busy met stand few causes orders : Bool) → causes ≡ (kept.causes && (not r.defers_nothing || few)) → orders ≡ (kept.orders && (busy && (met && stand)))
-    → TellsBusy r t busy → TellsMet t.here.loads met → Tells (MarksStand os) stand → Tells (faults os ≤ 1) few
+    → TellsBusy r t busy → TellsMet r.conf t.here.loads met → Tells (MarksStand os) stand → Tells (faults os ≤ 1) few
     → TellsEnd r t os kept (record { messages = kept.messages; firsts = kept.firsts; causes = causes; orders = orders })
 at_end_is r t os kept busy met stand few causes orders e f b m u g =
     subst (λ d. TellsEnd r t os kept (record { messages = kept.messages; firsts = kept.firsts; causes = d; orders = orders })) (sym e)

@@ -138,9 +138,9 @@ module _ (p : Case) (t : Course) (q : Point) (a : IsAt p t q) where
   is_point : (x h : History) → Known x h p t → points.Known (conf_in p) x h (after p.row.now x) q
   is_point x h n = record {
     past = subst (ledger.Known x) (sym a.past) n.past.pass.ledger;
-    past_timers = subst (timers.Known x) (sym a.past_timers) n.past.pass.timers;
+    past_timers = subst (timers.Known (conf_in p) x) (sym a.past_timers) n.past.pass.timers;
     here = subst (ledger.Known h) (sym a.here) n.course.here.pass.ledger;
-    timers = subst (timers.Known h) (sym a.timers) n.course.here.pass.timers;
+    timers = subst (timers.Known (conf_in p) h) (sym a.timers) n.course.here.pass.timers;
     made = subst (λ (l : Ledger). here_outs.Known l.books.places h q.made.now) (sym a.past) (subst (here_outs.Known p.past.now.pass.ledger.books.places h) (sym a.made) n.course.made);
     before = n.within.before;
     event = n.within.event ∙ ap (λ (r : Row). r.event.what) (sym a.row);
@@ -164,7 +164,7 @@ module _ (p : Case) (t : Course) (q : Point) (a : IsAt p t q) where
 pub not_bad : (p : Case) (t : Course) (o : Out) → ((q : ℕ) → o ≡ Close q → ⊥) → TellsBad p t o false
 not_bad p t o non x h n = go o non
   where
-    go : (o : Out) → ((q : ℕ) → o ≡ Close q → ⊥) → TellsEnd o h false
+    go : (o : Out) → ((q : ℕ) → o ≡ Close q → ⊥) → TellsEnd (conf_in p) o h false
     go (Close q) non = absurd (non q refl)
     go _ non = tt
 

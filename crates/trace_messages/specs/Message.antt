@@ -49,7 +49,7 @@ pub record IsJudged (c : Conf) (s : Settings) (k : ℕ) (m : Octets) (past h : H
 -- of every two histories that the tables know, where the first is what was before the row of the second
 abbrev pub TellsMessage : Conf → Settings → (k : ℕ) → Octets → What → (past : Books) → Open → (here : Ledger) → Table → Told → Judged → Type 0
 TellsMessage c s k m w past sent here t told j =
-    (x h : History) → row_before h ≡ x → newest h ≡ w → books.Known x past → open_sends.Known x sent → ledger.Known h here → earlier.Known c s h t → IsTold c s k m x h told → IsJudged c s k m x h j
+    (x h : History) → row_before h ≡ x → newest h ≡ w → books.Known x past → open_sends.Known c x sent → ledger.Known h here → earlier.Known c s h t → IsTold c s k m x h told → IsJudged c s k m x h j
 
 -- the mark of request k was put last
 abbrev pub is_marked_seen : (k : ℕ) → Ledger → Bool
