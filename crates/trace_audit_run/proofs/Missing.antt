@@ -11,6 +11,6 @@ use Rattle.trace_audit_run.specs.Missed.{TellsMissed}
 
 pub missed_told : (script : Script) (rows qs : List Row) (hit stale : Option ℕ) → qs ≡ rows → TellsMissedHit script.cache qs hit → TellsMissedStale script.cache qs stale → TellsMissed script rows (record { hit = hit; stale = stale })
 missed_told script rows qs hit stale same h s right = record {
-  hit = subst (λ rows. TellsMissedHit script.cache rows hit) same h (conf_of script.conf) (settings_of script.redundant script.cache) refl right;
-  stale = subst (λ rows. TellsMissedStale script.cache rows stale) same s (conf_of script.conf) (settings_of script.redundant script.cache) refl right;
+  hit = subst (λ rows. TellsMissedHit script.cache rows hit) same h (conf_of script.conf script.transports) (settings_of script.redundant script.cache) refl right;
+  stale = subst (λ rows. TellsMissedStale script.cache rows stale) same s (conf_of script.conf script.transports) (settings_of script.redundant script.cache) refl right;
 }
