@@ -35,18 +35,18 @@ module _ (c : Conf) (end : History) (t : Scene) (servers : c.servers ≡ map use
     so_begun : (s : ℕ) (v : Via) → started k s v end ≡ true → is_some (start_of s v (listed k t.ledger.now.books.requests.starts)) ≡ true
     so_begun s v e = ap is_some (known.ledger.books.requests.starts k s v) ∙ e
 
-    seen_is : busy_seen c t k ≡ (some_open c a.request k (listed k t.waits.now.spots) t || some_serves c (listed k t.ledger.now.books.requests.starts) t)
+    seen_is : busy_seen c t k ≡ (some_open c a.request k (listed k t.waits.now.spots) t || some_serves c k (listed k t.ledger.now.books.requests.starts) t)
     seen_is = ap (λ o. is_busy_as c k o t) (known.ledger.books.requests.askings k ∙ asked)
 
     busy_so : busy_seen c t k ≡ true → IsBusy c k end
     busy_so e = go (either (some_open c a.request k (listed k t.waits.now.spots) t) _ (sym seen_is ∙ e))
       where
-        go : (some_open c a.request k (listed k t.waits.now.spots) t ≡ true) ⊎ (some_serves c (listed k t.ledger.now.books.requests.starts) t ≡ true) → IsBusy c k end
+        go : (some_open c a.request k (listed k t.waits.now.spots) t ≡ true) ⊎ (some_serves c k (listed k t.ledger.now.books.requests.starts) t ≡ true) → IsBusy c k end
         go (inl e) = some_so c end t servers known k a.moment a.request asked waiting (listed k t.waits.now.spots) e
-        go (inr e) = (let f = start_so c (listed k t.ledger.now.books.requests.starts) t e in (f.0, serves_so c end t known k f.1.0 f.0 (begun_so f.0 f.1.0 f.1.1.0) f.1.1.1))
+        go (inr e) = (let f = start_so c k (listed k t.ledger.now.books.requests.starts) t e in (f.0, serves_so c end t known k f.1.0 f.0 (begun_so f.0 f.1.0 f.1.1.0) f.1.1.1))
 
-    served : (s : ℕ) (v : Via) → started k s v end ≡ true → serves c v s t ≡ true → busy_seen c t k ≡ true
-    served s v begun e = seen_is ∙ second_true (some_open c a.request k (listed k t.waits.now.spots) t) _ (so_start c s v (listed k t.ledger.now.books.requests.starts) t (so_begun s v begun) e)
+    served : (s : ℕ) (v : Via) → started k s v end ≡ true → serves c v s k t ≡ true → busy_seen c t k ≡ true
+    served s v begun e = seen_is ∙ second_true (some_open c a.request k (listed k t.waits.now.spots) t) _ (so_start c s k v (listed k t.ledger.now.books.requests.starts) t (so_begun s v begun) e)
 
     so_busy : (s : ℕ) → IsBusyAt c s k end → busy_seen c t k ≡ true
     so_busy s (Exchanging r v u p id begun left) =
@@ -99,5 +99,8 @@ module _ (c : Conf) (end : History) (t : Scene) (servers : c.servers ≡ map use
       let b = f k a.0 a.1 a.2 q.0 in
       so_busy k a.0 a.1 (not_true (replied k end) (both (is_some (asking k end)) (not (replied k end)) q.0).1) b.0 b.1)
 
-pub tells_busy : (conf : Conf) (t : Scene) (b : Bool) → b ≡ all_busy conf t t.waits.now.requests → TellsBusy t b
-tells_busy conf t b e c end servers known = ((λ u. all_so c end t servers known (sym e ∙ u)), (λ f. e ∙ so_all c end t servers known f))
+pub tells_busy : (t : Scene) (b : Bool) → b ≡ all_busy t.conf.now t t.waits.now.requests → TellsBusy t b
+tells_busy t b e c end conf servers known = ((λ u. all_so c end t servers known (sym is ∙ u)), (λ f. is ∙ so_all c end t servers known f))
+  where
+    is : b ≡ all_busy c t t.waits.now.requests
+    is = e ∙ ap (λ (v : Conf). all_busy v t t.waits.now.requests) conf

@@ -30,12 +30,13 @@ use Rattle.trace_exchanges.specs.Coming.{is_young}
 use Rattle.trace_exchanges.specs.Open.{is_for}
 use Rattle.trace_exchanges.specs.Open as open_sends
 use Rattle.trace_due.specs.Loose.{brings_seen}
-use Rattle.trace_sets.specs.Sets.{Members, members, size, some_of}
+use Rattle.trace_sets.specs.Sets.{Members, count_of, members, some_of}
 use Rattle.trace_loads.specs.Loads as loads
 use Rattle.trace_busy.specs.declared.waits.Carried.{Carried}
 use Rattle.trace_busy.specs.declared.waits.Spot.{Spot}
 use Rattle.trace_busy.specs.declared.busy.Scene.{Scene}
 use Rattle.trace_busy.specs.Backs.{is_within}
+use Rattle.trace_busy.specs.Taken.{taken_seen}
 use Rattle.trace_busy.specs.Backs as backs
 use Rattle.trace_busy.specs.Waits as waits
 
@@ -101,20 +102,22 @@ opens_seen places p = is_opening (stand_seen (entry_at p places))
 abbrev pub moves_seen : List (ℕ × Place) → Writing → (p : ℕ) → Bool
 moves_seen places w p = is_opening (stand_seen (entry_at p places)) || (is_alive (stand_seen (entry_at p places)) && unwritten_seen p w)
 
--- a server is busy for all requests that it has so
-abbrev pub serves : (c : Conf) → Via → (s : ℕ) → Scene → Bool
-serves c Dgram s t = nat_le (max_places c) (size s t.loads.now.dgrams) || some_of (opens_seen t.ledger.now.books.places) (members s t.loads.now.dgrams)
-serves c Stream s t =
+-- a server is busy for request k, which it has so
+abbrev pub serves : (c : Conf) → Via → (s k : ℕ) → Scene → Bool
+serves c Dgram s k t =
+    some_of (opens_seen t.ledger.now.books.places) (members s t.loads.now.dgrams)
+    || nat_le (max_places c) (count_of (taken_seen k t.ledger.now.books) (members s t.loads.now.dgrams))
+serves c Stream s k t =
     some_of (moves_seen t.ledger.now.books.places t.writing.now) (members s t.loads.now.streams)
     || is_within t.ledger.now.books.requests.clock (entry_at s t.backs.now)
 
-abbrev pub some_serves : (c : Conf) → List Started → Scene → Bool
-some_serves c [] t = false
-some_serves c (x ∷ xs) t = serves c x.via x.server t || some_serves c xs t
+abbrev pub some_serves : (c : Conf) → (k : ℕ) → List Started → Scene → Bool
+some_serves c k [] t = false
+some_serves c k (x ∷ xs) t = serves c x.via x.server k t || some_serves c k xs t
 
 abbrev pub is_busy_as : (c : Conf) (k : ℕ) → Option Asking → Scene → Bool
 is_busy_as c k None t = false
-is_busy_as c k (Some a) t = some_open c a.request k (listed k t.waits.now.spots) t || some_serves c (listed k t.ledger.now.books.requests.starts) t
+is_busy_as c k (Some a) t = some_open c a.request k (listed k t.waits.now.spots) t || some_serves c k (listed k t.ledger.now.books.requests.starts) t
 
 abbrev pub busy_seen : (c : Conf) → Scene → (k : ℕ) → Bool
 busy_seen c t k = is_busy_as c k (entry_at k t.ledger.now.books.requests.askings) t
@@ -124,6 +127,6 @@ abbrev pub all_busy : (c : Conf) → Scene → Members → Bool
 all_busy c t [] = true
 all_busy c t (e ∷ es) = busy_seen c t e.0 && all_busy c t es
 
--- the answer, of every configuration with these servers
+-- the answer, of every history that is known so
 abbrev pub TellsBusy : Scene → Bool → Type 0
-TellsBusy t b = (c : Conf) (end : History) → c.servers ≡ map use_of t.servers.now → Known c end t → Tells (WaitingIsBusy c end) b
+TellsBusy t b = (c : Conf) (end : History) → t.conf.now ≡ c → c.servers ≡ map use_of t.servers.now → Known c end t → Tells (WaitingIsBusy c end) b

@@ -14,6 +14,7 @@ ghost use Rattle.client_request.specs.declared.event.Via.TheVariants.{Stream};
 ghost use Rattle.trace_busy.specs.Busy as plain;
 
 use crate::backs::Backs;
+use crate::taken::are_taken;
 use crate::waits::{Carried, Spot, Waits};
 use client_request::{RequestMessage, Via};
 use dns_base::{NoMemory, Octets};
@@ -24,12 +25,13 @@ use trace_exchanges::Open;
 use trace_frames::{Brought, Ledger, Written};
 use trace_loads::Loads;
 use trace_questions::{ServerUse, TraceConf};
-use trace_sets::{Members, count};
+use trace_sets::Members;
 use trace_tables::{Newest, Place, Sent, Stand, Started, same_via};
 use trace_writes::Writing;
 
 /// What is known behind a row.
 pub struct Scene<'a> {
+    pub conf: &'a TraceConf,
     /// How each server is used, in order.
     pub servers: &'a [ServerUse],
     pub ledger: &'a Ledger,
@@ -45,6 +47,7 @@ pub struct Scene<'a> {
 impl Drop for Scene<'_> {
     fn drop(self) {
         let Scene {
+            conf: _,
             servers: _,
             ledger: _,
             sends: _,
@@ -56,13 +59,13 @@ impl Drop for Scene<'_> {
     }
 }
 
-/// Whether a send is of a request, under an id, and 5 seconds are not over.
+/// Whether a send is of a request, under an id, and waited for still.
 fn is_waited_for(conf: &TraceConf, request: u64, id: u16, now: u64, send: &Sent) -> bool
     ensures { result ≡ is_for conf.now request id now send.now }
 {
     send.request == request
         && send.id == id
-        && u128::from(now) < u128::from(send.moment) + 5_000_000
+        && u128::from(now) < u128::from(send.moment) + conf.read_timeout().as_micros()
 }
 
 /// Whether what was noted was noted of these octets, under this id.
@@ -107,7 +110,7 @@ fn brings_at(brought: &Option<Brought>, place: u64, id: u16) -> bool
     }
 }
 
-/// Whether 30 seconds are not over since a start.
+/// Whether the time of a request by stream is not over since a start.
 fn has_begun_lately(conf: &TraceConf, now: u64, begun: Option<u64>) -> bool
     ensures { result ≡ is_young conf.now now begun }
 {
@@ -187,7 +190,6 @@ impl<'a> Scene<'a> {
     /// Whether octets carry a request.
     fn carries(
         &self,
-        conf: &TraceConf,
         alloc: Global,
         via: Via,
         asked: &RequestMessage,
@@ -195,30 +197,29 @@ impl<'a> Scene<'a> {
         id: u16,
         octets: &Octets,
     ) -> Result<bool, NoMemory>
-        ensures { IfOk result (λ b. b ≡ plain.carries_seen conf.now via asked.now request id octets.now self.now) }
+        ensures { IfOk result (λ b. b ≡ plain.carries_seen self.now.conf.now via asked.now request id octets.now self.now) }
     {
         match self.noted(via, request, id, octets) {
             Some(carries) => Ok(carries),
-            None => carries(alloc, conf.udp_payload_size(), via, octets, asked, id),
+            None => carries(alloc, self.conf.udp_payload_size(), via, octets, asked, id),
         }
     }
 
     /// Whether one of these is waited for, and carries the request.
     fn some_sent(
         &self,
-        conf: &TraceConf,
         alloc: Global,
         asked: &RequestMessage,
         request: u64,
         id: u16,
         sends: &[Sent],
     ) -> Result<bool, NoMemory>
-        ensures { IfOk result (λ b. b ≡ plain.some_sent conf.now asked.now request id self.now.ledger.now.books.requests.clock sends.now self.now) }
+        ensures { IfOk result (λ b. b ≡ plain.some_sent self.now.conf.now asked.now request id self.now.ledger.now.books.requests.clock sends.now self.now) }
     {
         let now = self.ledger.books.requests.clock;
         for send in sends {
-            if is_waited_for(conf, request, id, now, send)
-                && self.carries(conf, alloc, Via::Dgram, asked, request, id, &send.octets)?
+            if is_waited_for(self.conf, request, id, now, send)
+                && self.carries(alloc, Via::Dgram, asked, request, id, &send.octets)?
             {
                 return Ok(true);
             }
@@ -229,19 +230,17 @@ impl<'a> Scene<'a> {
     /// Whether one of these is the request's, and carries it.
     fn some_written(
         &self,
-        conf: &TraceConf,
         alloc: Global,
         asked: &RequestMessage,
         request: u64,
         id: u16,
         writes: &Newest<Written>,
     ) -> Result<bool, NoMemory>
-        ensures { IfOk result (λ b. b ≡ plain.some_written conf.now asked.now request id writes.now self.now) }
+        ensures { IfOk result (λ b. b ≡ plain.some_written self.now.conf.now asked.now request id writes.now self.now) }
     {
         for written in writes {
             if written.request == request
                 && self.carries(
-                    conf,
                     alloc,
                     Via::Stream,
                     asked,
@@ -261,62 +260,59 @@ impl<'a> Scene<'a> {
     /// Whether an exchange of a request by datagrams is open at a place.
     fn is_open_dgram(
         &self,
-        conf: &TraceConf,
         alloc: Global,
         asked: &RequestMessage,
         request: u64,
         spot: Spot,
     ) -> Result<bool, NoMemory>
-        ensures { IfOk result (λ b. b ≡ plain.some_sent conf.now asked.now request spot.id self.now.ledger.now.books.requests.clock (listed spot.place self.now.sends.now) self.now) }
+        ensures { IfOk result (λ b. b ≡ plain.some_sent self.now.conf.now asked.now request spot.id self.now.ledger.now.books.requests.clock (listed spot.place self.now.sends.now) self.now) }
     {
         match self.sends.get(spot.place) {
             None => Ok(false),
-            Some(sends) => self.some_sent(conf, alloc, asked, request, spot.id, sends.as_slice()),
+            Some(sends) => self.some_sent(alloc, asked, request, spot.id, sends.as_slice()),
         }
     }
 
     /// Whether something waits at a place that is the request's and carries it.
     fn is_written(
         &self,
-        conf: &TraceConf,
         alloc: Global,
         asked: &RequestMessage,
         request: u64,
         spot: Spot,
     ) -> Result<bool, NoMemory>
-        ensures { IfOk result (λ b. b ≡ plain.some_written conf.now asked.now request spot.id (waiting_seen spot.place spot.id self.now.ledger.now.waiting) self.now) }
+        ensures { IfOk result (λ b. b ≡ plain.some_written self.now.conf.now asked.now request spot.id (waiting_seen spot.place spot.id self.now.ledger.now.waiting) self.now) }
     {
         let Some(at) = self.ledger.waiting.get(spot.place) else {
             return Ok(false);
         };
         match at.get(u64::from(spot.id)) {
             None => Ok(false),
-            Some(writes) => self.some_written(conf, alloc, asked, request, spot.id, writes),
+            Some(writes) => self.some_written(alloc, asked, request, spot.id, writes),
         }
     }
 
     /// Whether an exchange of a request by stream is open at a place of a server.
     fn is_open_stream(
         &self,
-        conf: &TraceConf,
         alloc: Global,
         asked: &RequestMessage,
         request: u64,
         spot: Spot,
         server: u32,
     ) -> Result<bool, NoMemory>
-        ensures { IfOk result (λ b. b ≡ plain.is_open_by conf.now Stream asked.now request spot.place spot.id server self.now) }
+        ensures { IfOk result (λ b. b ≡ plain.is_open_by self.now.conf.now Stream asked.now request spot.place spot.id server self.now) }
     {
         let requests = &self.ledger.books.requests;
         if !has_begun_lately(
-            conf,
+            self.conf,
             requests.clock,
             requests.start(request, server, Via::Stream),
         ) || brings_at(&self.ledger.frames.brought, spot.place, spot.id)
         {
             return Ok(false);
         }
-        self.is_written(conf, alloc, asked, request, spot)
+        self.is_written(alloc, asked, request, spot)
     }
 
     /// Whether a request was handed to a server.
@@ -331,13 +327,12 @@ impl<'a> Scene<'a> {
     /// Whether an exchange of a request is open where it was sent or written.
     fn is_open_at(
         &self,
-        conf: &TraceConf,
         alloc: Global,
         asked: &RequestMessage,
         request: u64,
         spot: Spot,
     ) -> Result<bool, NoMemory>
-        ensures { IfOk result (λ b. b ≡ plain.is_open_at conf.now asked.now request spot (entry_at spot.place self.now.ledger.now.books.places) self.now) }
+        ensures { IfOk result (λ b. b ≡ plain.is_open_at self.now.conf.now asked.now request spot (entry_at spot.place self.now.ledger.now.books.places) self.now) }
     {
         let Some(place) = self.ledger.books.places.get(spot.place) else {
             return Ok(false);
@@ -349,24 +344,23 @@ impl<'a> Scene<'a> {
             return Ok(false);
         }
         match place.via {
-            Via::Dgram => self.is_open_dgram(conf, alloc, asked, request, spot),
-            Via::Stream => self.is_open_stream(conf, alloc, asked, request, spot, place.server),
+            Via::Dgram => self.is_open_dgram(alloc, asked, request, spot),
+            Via::Stream => self.is_open_stream(alloc, asked, request, spot, place.server),
         }
     }
 
     /// Whether one of them is.
     fn some_open(
         &self,
-        conf: &TraceConf,
         alloc: Global,
         asked: &RequestMessage,
         request: u64,
         spots: &Newest<Spot>,
     ) -> Result<bool, NoMemory>
-        ensures { IfOk result (λ b. b ≡ plain.some_open conf.now asked.now request spots.now self.now) }
+        ensures { IfOk result (λ b. b ≡ plain.some_open self.now.conf.now asked.now request spots.now self.now) }
     {
         for spot in spots {
-            if self.is_open_at(conf, alloc, asked, request, *spot)? {
+            if self.is_open_at(alloc, asked, request, *spot)? {
                 return Ok(true);
             }
         }
@@ -375,16 +369,15 @@ impl<'a> Scene<'a> {
 
     fn some_open_of(
         &self,
-        conf: &TraceConf,
         alloc: Global,
         asked: &RequestMessage,
         request: u64,
     ) -> Result<bool, NoMemory>
-        ensures { IfOk result (λ b. b ≡ plain.some_open conf.now asked.now request (listed request self.now.waits.now.spots) self.now) }
+        ensures { IfOk result (λ b. b ≡ plain.some_open self.now.conf.now asked.now request (listed request self.now.waits.now.spots) self.now) }
     {
         match self.waits.spots.get(request) {
             None => Ok(false),
-            Some(spots) => self.some_open(conf, alloc, asked, request, spots),
+            Some(spots) => self.some_open(alloc, asked, request, spots),
         }
     }
 }
@@ -410,14 +403,20 @@ impl<'a> Scene<'a> {
         }
     }
 
-    /// Whether a server is busy for all requests that it has so.
-    fn serves(&self, conf: &TraceConf, via: Via, server: u32) -> bool
-        ensures { result ≡ plain.serves conf.now via server self.now }
+    /// Whether a server is busy for a request that it has so.
+    fn serves(&self, via: Via, server: u32, request: u64) -> bool
+        ensures { result ≡ plain.serves self.now.conf.now via server request self.now }
     {
         match via {
             Via::Dgram => {
-                count(&self.loads.dgrams, u64::from(server)) >= conf.max_places()
-                    || self.some_dgram_opens(server)
+                self.some_dgram_opens(server)
+                    || are_taken(
+                        &self.ledger.books,
+                        &self.loads.dgrams,
+                        request,
+                        u64::from(server),
+                        self.conf.max_places(),
+                    )
             }
             Via::Stream => {
                 self.some_stream_moves(server)
@@ -430,49 +429,48 @@ impl<'a> Scene<'a> {
     }
 
     /// Whether one of the servers that these are starts at is.
-    fn some_serves(&self, conf: &TraceConf, starts: &Newest<Started>) -> bool
-        ensures { result ≡ plain.some_serves conf.now starts.now self.now }
+    fn some_serves(&self, request: u64, starts: &Newest<Started>) -> bool
+        ensures { result ≡ plain.some_serves self.now.conf.now request starts.now self.now }
     {
         for start in starts {
-            if self.serves(conf, start.via, start.server) {
+            if self.serves(start.via, start.server, request) {
                 return true;
             }
         }
         false
     }
 
-    fn some_serves_of(&self, conf: &TraceConf, request: u64) -> bool
-        ensures { result ≡ plain.some_serves conf.now (listed request self.now.ledger.now.books.requests.starts) self.now }
+    fn some_serves_of(&self, request: u64) -> bool
+        ensures { result ≡ plain.some_serves self.now.conf.now request (listed request self.now.ledger.now.books.requests.starts) self.now }
     {
         match self.ledger.books.requests.starts.get(request) {
             None => false,
-            Some(starts) => self.some_serves(conf, starts),
+            Some(starts) => self.some_serves(request, starts),
         }
     }
 
     /// Whether a request is busy at a server.
-    fn is_busy(&self, conf: &TraceConf, alloc: Global, request: u64) -> Result<bool, NoMemory>
-        ensures { IfOk result (λ b. b ≡ plain.busy_seen conf.now self.now request) }
+    fn is_busy(&self, alloc: Global, request: u64) -> Result<bool, NoMemory>
+        ensures { IfOk result (λ b. b ≡ plain.busy_seen self.now.conf.now self.now request) }
     {
         let Some(asked) = self.ledger.books.requests.askings.get(request) else {
             return Ok(false);
         };
-        if self.some_open_of(conf, alloc, &asked.request, request)? {
+        if self.some_open_of(alloc, &asked.request, request)? {
             return Ok(true);
         }
-        Ok(self.some_serves_of(conf, request))
+        Ok(self.some_serves_of(request))
     }
 
     fn all_busy(
         &self,
-        conf: &TraceConf,
         alloc: Global,
         requests: &Members,
     ) -> Result<bool, NoMemory>
-        ensures { IfOk result (λ b. b ≡ plain.all_busy conf.now self.now requests.now) }
+        ensures { IfOk result (λ b. b ≡ plain.all_busy self.now.conf.now self.now requests.now) }
     {
         for (request, _) in requests {
-            if !self.is_busy(conf, alloc, request)? {
+            if !self.is_busy(alloc, request)? {
                 return Ok(false);
             }
         }
@@ -480,9 +478,9 @@ impl<'a> Scene<'a> {
     }
 
     /// Whether each valid request that waits is busy. It goes over the requests that wait.
-    pub fn are_waiting_busy(&self, conf: &TraceConf, alloc: Global) -> Result<bool, NoMemory>
+    pub fn are_waiting_busy(&self, alloc: Global) -> Result<bool, NoMemory>
         ensures { IfOk result (plain.TellsBusy self.now) }
     {
-        self.all_busy(conf, alloc, &self.waits.requests)
+        self.all_busy(alloc, &self.waits.requests)
     }
 }

@@ -119,7 +119,6 @@ impl Waits {
     fn note(
         &mut self,
         conf: &TraceConf,
-        alloc: Global,
         requests: &Requests,
         via: Via,
         request: u64,
@@ -136,7 +135,7 @@ impl Waits {
             id,
             octets: octets.try_clone()?,
             carries: carries(
-                alloc,
+                conf.alloc(),
                 conf.udp_payload_size(),
                 via,
                 octets,
@@ -144,14 +143,13 @@ impl Waits {
                 id,
             )?,
         };
-        add(&mut self.carried, alloc, request, noted)
+        add(&mut self.carried, conf.alloc(), request, noted)
     }
 
     /// An out is put, over the requests as they were.
     pub fn put(
         &mut self,
         conf: &TraceConf,
-        alloc: Global,
         requests: &Requests,
         out: &Out,
     ) -> Result<(), NoMemory>
@@ -164,8 +162,8 @@ impl Waits {
                 id,
                 octets,
             } => {
-                self.note(conf, alloc, requests, Via::Dgram, *request, *id, octets)?;
-                self.go_to(alloc, *request, *place, *id)
+                self.note(conf, requests, Via::Dgram, *request, *id, octets)?;
+                self.go_to(conf.alloc(), *request, *place, *id)
             }
             Out::Write {
                 place,
@@ -173,8 +171,8 @@ impl Waits {
                 id,
                 octets,
             } => {
-                self.note(conf, alloc, requests, Via::Stream, *request, *id, octets)?;
-                self.go_to(alloc, *request, *place, *id)
+                self.note(conf, requests, Via::Stream, *request, *id, octets)?;
+                self.go_to(conf.alloc(), *request, *place, *id)
             }
             Out::Reply { request, .. } => {
                 take_out(&mut self.requests, *request);

@@ -12,7 +12,6 @@ use dns_base::NoMemory;
 use message_matching::carries;
 use number_table::NumberTable;
 use request_validity::RequestValidity;
-use std::alloc::Global;
 use trace_exchanges::Coming;
 use trace_questions::TraceConf;
 use trace_tables::{Asked, Books, Newest, Place, Sent, Stand};
@@ -20,7 +19,6 @@ use trace_tables::{Asked, Books, Newest, Place, Sent, Stand};
 /// Whether some send of a request carried it.
 fn some_carried(
     conf: &TraceConf,
-    alloc: Global,
     asked: &RequestMessage,
     request: u64,
     sends: &Newest<Sent>,
@@ -30,7 +28,7 @@ fn some_carried(
     for sent in sends {
         if sent.request == request
             && carries(
-                alloc,
+                conf.alloc(),
                 conf.udp_payload_size(),
                 Via::Dgram,
                 &sent.octets,
@@ -47,7 +45,6 @@ fn some_carried(
 /// The same of a request that was asked, at a place.
 fn was_carried(
     conf: &TraceConf,
-    alloc: Global,
     askings: &NumberTable<Asked>,
     sent: &NumberTable<Newest<Sent>>,
     request: u64,
@@ -60,7 +57,7 @@ fn was_carried(
     };
     match sent.get(place) {
         None => Ok(false),
-        Some(sends) => some_carried(conf, alloc, &asked.request, request, sends),
+        Some(sends) => some_carried(conf, &asked.request, request, sends),
     }
 }
 
@@ -79,7 +76,6 @@ fn server_at(places: &NumberTable<Place>, number: u64) -> Option<u32>
 /// Whether a request was sent at a place that is alive, of a server that has it.
 fn is_hit(
     conf: &TraceConf,
-    alloc: Global,
     past: &Books,
     request: u64,
     place: u64,
@@ -94,7 +90,6 @@ fn is_hit(
     }
     was_carried(
         conf,
-        alloc,
         &past.requests.askings,
         &past.sends.sent,
         request,
@@ -110,7 +105,6 @@ fn if_hit(is_hit: bool, error: Error) -> Option<Error>
 
 fn find_failure(
     conf: &TraceConf,
-    alloc: Global,
     past: &Books,
     what: &What,
     request: u64,
@@ -119,15 +113,15 @@ fn find_failure(
 {
     match what {
         What::SendFailed { place, fault } => Ok(if_hit(
-            is_hit(conf, alloc, past, request, *place)?,
+            is_hit(conf, past, request, *place)?,
             Error::Dgram(QueryError::Send(*fault)),
         )),
         What::ShortSend { place } => Ok(if_hit(
-            is_hit(conf, alloc, past, request, *place)?,
+            is_hit(conf, past, request, *place)?,
             Error::Dgram(QueryError::Send(Fault::ShortSend)),
         )),
         What::RecvFailed { place, fault } => Ok(if_hit(
-            is_hit(conf, alloc, past, request, *place)?,
+            is_hit(conf, past, request, *place)?,
             Error::Dgram(QueryError::Receive(*fault)),
         )),
         _ => Ok(None),
@@ -138,7 +132,6 @@ fn find_failure(
 /// known before the row.
 pub fn failure(
     conf: &TraceConf,
-    alloc: Global,
     past: &Books,
     what: &What,
     request: u64,
@@ -146,7 +139,7 @@ pub fn failure(
     ensures value { IfOk result (λ e. e ≡ plain.failure conf.now past.now request what.now) }
     ensures told { IfOk result (plain.TellsFailure conf.now past.now request what.now) }
 {
-    find_failure(conf, alloc, past, what, request)
+    find_failure(conf, past, what, request)
 }
 
 /// Whether a message came for a request by stream and does not answer it.

@@ -33,9 +33,12 @@ abbrev pub some_matching : (k : ℕ) → List Coming → Bool
 some_matching k [] = false
 some_matching k (x ∷ xs) = ((x.request == k) && matches x) || some_matching k xs
 
--- none came for it that may not be passed over
+-- none came for it that may not be passed over, where those of the row may or not
+abbrev pub none_of : (excused : Bool) → Earlier → List Coming → (k : ℕ) → Bool
+none_of b e xs k = not (is_marked k e.arrivals.came) && (b || not (some_matching k xs))
+
 abbrev pub none_came : (c : Conf) (past : Ledger) → Timers → (here : Ledger) → Here → Earlier → List Coming → (k : ℕ) → Bool
-none_came c l t l' o e xs k = not (is_marked k e.arrivals.came) && (excused_in c l'.frames.brought l'.books.requests.clock l t l' o || not (some_matching k xs))
+none_came c l t l' o e xs k = none_of (excused_in c l'.frames.brought l'.books.requests.clock l t l' o) e xs k
 
 -- how an answer is found: a server's error that is deferred may be given only when all is done and nothing came
 pub record IsOwn (c : Conf) (s : Settings) (l : Ledger) (t : Timers) (heard : Heards) (l' : Ledger) (o : Here) (e : Earlier) (sent : Open) (x : Exchanged) (w : What) (xs : List Coming) (k : ℕ) (error : Error) (b : Bool) : Type 0 where

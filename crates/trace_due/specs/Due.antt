@@ -26,7 +26,7 @@ use Rattle.trace_due.specs.Invalid.{invalid_seen}
 use Rattle.trace_due.specs.Timers as timers
 use Rattle.trace_questions.specs.Outs.{Tells}
 
--- something here was written more than 19 s before a moment
+-- something here was written longer before a moment than a frame is waited for
 abbrev pub has_old : (c : Conf) (moment : ℕ) → List Written → Bool
 has_old c n [] = false
 has_old c n (w ∷ ws) = nat_lt (w.moment + response_timeout c) n || has_old c n ws

@@ -10,7 +10,7 @@ ghost use Rattle.trace_due.specs.Due as plain;
 use crate::loose::{brings, ends_loose, frames_at, id_of};
 use crate::timers::Timers;
 use client_request::Via;
-use dns_base::{NoMemory, Octets};
+use dns_base::{Duration, NoMemory, Octets};
 use number_table::NumberTable;
 use std::alloc::Global;
 use trace_frames::{AtPlace, Ledger, Waiting, Written};
@@ -156,10 +156,10 @@ fn free(freed: &mut NumberTable<()>, frame: &[u8]) -> Result<(), NoMemory>
 }
 
 /// Whether a sum is at most a moment.
-fn has_passed(quiet: u64, idle: u64, now: u64) -> bool
+fn has_passed(quiet: u64, idle: Duration, now: u64) -> bool
     ensures { result ≡ nat_le (quiet + idle) now }
 {
-    u128::from(quiet) + u128::from(idle) <= u128::from(now)
+    u128::from(quiet) + idle.as_micros() <= u128::from(now)
 }
 
 /// Whether a place is idle for long enough at once, or behind some of these frames.
@@ -168,7 +168,7 @@ fn is_due_behind(
     waiting: &Waiting,
     place: u64,
     quiet: u64,
-    idle: u64,
+    idle: Duration,
     now: u64,
     frames: &[Octets],
 ) -> Result<bool, NoMemory>
@@ -183,7 +183,7 @@ fn is_due_behind(
         }
         free(&mut freed, frame.as_slice())?;
         if let Some(told) = told_in(frame)? {
-            idle = told;
+            idle = Duration::from_micros(told);
         }
         quiet = now;
     }
@@ -214,7 +214,7 @@ fn is_idle_due(
     }
     let frames = frames_at(&ledger.frames.brought, number);
     let quiet = quiet_of(timers, number);
-    let idle = idle_of(conf.idle_timeout().as_micros() as u64, &timers.idle, number);
+    let idle = idle_of(conf.idle_timeout(), &timers.idle, number);
     let now = ledger.books.requests.clock;
     is_due_behind(alloc, &ledger.waiting, number, quiet, idle, now, frames)
 }

@@ -61,11 +61,7 @@ impl Timers {
     {
         let brought = &ledger.frames.brought;
         meet_loose(&mut self.loose, brought, &ledger.waiting, &self.writing)?;
-        meet_idle(
-            conf.idle_timeout().as_micros() as u64,
-            &mut self.idle,
-            brought,
-        )?;
+        meet_idle(conf.idle_timeout(), &mut self.idle, brought)?;
         let clock = ledger.books.requests.clock;
         meet_quiet(&mut self.quiet, &ledger.books.places, brought, clock, event)?;
         self.writing.meet(&event.what)

@@ -126,6 +126,6 @@ module _ (past here : Books) (heard : Heards) (w : What) (xs : List Coming) (k :
   answered errors.AlreadyDone b t = tells_never b t
   answered errors.Failed b t = tells_never b t
 
-pub tells_server : (conf : Conf) (past : Books) (heard : Heards) (here : Books) (w : What) (xs : List Coming) (k : ℕ) (e : Error) (b : Bool) → AnswersFor conf past heard here w xs k e b → TellsServer past heard here w xs k e b
-tells_server conf past heard here w xs k e b t c want x h kx kd kh is wanted cs =
-    tells_same b (of_cause c k x w h e) (cause_of c k x w h e) (answered past here heard w xs k c want x h kx kd kh is wanted cs e b t)
+pub tells_server : (conf : Conf) (past : Books) (heard : Heards) (here : Books) (w : What) (xs : List Coming) (k : ℕ) (e : Error) (b : Bool) → AnswersFor conf past heard here w xs k e b → TellsServer conf past heard here w xs k e b
+tells_server conf past heard here w xs k e b t want x h kx kd kh is wanted cs =
+    tells_same b (of_cause conf k x w h e) (cause_of conf k x w h e) (answered past here heard w xs k conf want x h kx kd kh is wanted cs e b t)

@@ -135,12 +135,12 @@ module _ (c : Conf) (s : Settings) (past : Books) (heard : Heards) (here : Books
   so_before : (e : Error) → EarlierRow (IsCaused c k e) h → WasCaused c k e x
   so_before e d = subst (ByRow (IsCaused c k e)) before (earlier_so (IsCaused c k e) h d)
 
-  module _ (e : Error) (b : Bool) (d : ByServers s past heard here t w xs k e b) where
+  module _ (e : Error) (b : Bool) (d : ByServers c s past heard here t w xs k e b) where
     now_told : Tells (ServerCause c k x w h e) d.now
-    now_told = d.told c want x h kp kd kh is wanted cs
+    now_told = d.told want x h kp kd kh is wanted cs
 
     was_told : Tells (WasCaused c k e x) d.before
-    was_told = d.was c s x kp kd kt
+    was_told = d.was s x kp kd kt
 
     servers_so : b ≡ true → ByOne e
     servers_so u = go (either d.now (s.defers_errors && d.before) (sym d.is ∙ u))

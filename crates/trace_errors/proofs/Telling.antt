@@ -148,8 +148,8 @@ module _ (c : Conf) (s : Settings) (b : Books) (heard : Heards) (t : Earlier) (k
   answered errors.AlreadyDone a q = nobody errors.AlreadyDone (λ g d. d) a q
   answered errors.Failed a q = nobody errors.Failed (λ g d. d) a q
 
-pub tells_earlier : (conf : Conf) (b : Books) (heard : Heards) (t : Earlier) (k : ℕ) (e : Error) (a : Bool) → AnswersFor conf b heard t k e a → TellsEarlier b heard t k e a
-tells_earlier conf b heard t k e a q c s x kb kd kt = answered c s b heard t k x kb kd kt e a q
+pub tells_earlier : (conf : Conf) (b : Books) (heard : Heards) (t : Earlier) (k : ℕ) (e : Error) (a : Bool) → AnswersFor conf b heard t k e a → TellsEarlier conf b heard t k e a
+tells_earlier conf b heard t k e a q s x kb kd kt = answered conf s b heard t k x kb kd kt e a q
 
 pub goes_on : GoesOn
 goes_on = record {

@@ -74,5 +74,5 @@ AnswersFor c b heard t k errors.MessageBuilderPushError a = TellsTooMany k b a
 AnswersFor c b heard t k _ a = a ≡ false
 
 -- the answer, of every history that the tables know, where rows are done
-abbrev pub TellsEarlier : (past : Books) → Heards → Earlier → (k : ℕ) → Error → Bool → Type 0
-TellsEarlier b heard t k e a = (c : Conf) (s : Settings) (x : History) → books.Known x b → heards.Known c x heard → Known c s x t → Tells (WasCaused c k e x) a
+abbrev pub TellsEarlier : (c : Conf) (past : Books) → Heards → Earlier → (k : ℕ) → Error → Bool → Type 0
+TellsEarlier c b heard t k e a = (s : Settings) (x : History) → books.Known x b → heards.Known c x heard → Known c s x t → Tells (WasCaused c k e x) a

@@ -35,7 +35,7 @@ AnswersFor c past heard here w xs k errors.MessageBuilderPushError b = TellsTooM
 AnswersFor c past heard here w xs k _ b = b ≡ false
 
 -- the answer, of every two histories that the tables know, where all that came for the request in the row is among these
-abbrev pub TellsServer : (past : Books) → Heards → (here : Books) → What → List Coming → (k : ℕ) → Error → Bool → Type 0
-TellsServer past heard here w xs k e b =
-    (c : Conf) (want : Option ℕ) (x h : History) → books.Known x past → heards.Known c x heard → books.Known h here → newest h ≡ w → is_wanted want k ≡ true → AllComing c want x h xs
+abbrev pub TellsServer : (c : Conf) (past : Books) → Heards → (here : Books) → What → List Coming → (k : ℕ) → Error → Bool → Type 0
+TellsServer c past heard here w xs k e b =
+    (want : Option ℕ) (x h : History) → books.Known x past → heards.Known c x heard → books.Known h here → newest h ≡ w → is_wanted want k ≡ true → AllComing c want x h xs
     → Tells (ServerCause c k x w h e) b

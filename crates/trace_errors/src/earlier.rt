@@ -44,7 +44,7 @@ impl Drop for Earlier {
 fn is_lost(conf: &TraceConf, noted: &Noted, past: &Books, request: u64) -> bool
     ensures { Tells (plain.IsLost conf.now request noted.now past.now) result }
 {
-    if is_noted(conf, noted, request, Failing::Lost) {
+    if is_noted(noted, request, Failing::Lost) {
         return true;
     }
     are_tries_up(conf, past, past, request, past.requests.clock)
@@ -54,7 +54,7 @@ fn is_lost(conf: &TraceConf, noted: &Noted, past: &Books, request: u64) -> bool
 fn is_silent(conf: &TraceConf, noted: &Noted, past: &Books, heard: &Heards, request: u64) -> bool
     ensures { Tells (plain.IsSilent conf.now request noted.now past.now heard.now) result }
 {
-    if is_noted(conf, noted, request, Failing::Silent) {
+    if is_noted(noted, request, Failing::Silent) {
         return true;
     }
     is_stream_silent(conf, &past.requests, heard, request, past.requests.clock)
@@ -77,7 +77,6 @@ impl Earlier {
     pub fn take(
         &mut self,
         conf: &TraceConf,
-        alloc: Global,
         settings: &TraceSettings,
         past: &Ledger,
         timers: &Timers,
@@ -91,11 +90,10 @@ impl Earlier {
     {
         let Ledger { books, .. } = ledger;
         self.openings
-            .take(conf, alloc, &past.books.places, &books.places, row)?;
+            .take(conf.alloc(), &past.books.places, &books.places, row)?;
         note_row(
             conf,
             &mut self.noted,
-            alloc,
             &past.books,
             heard,
             books,
@@ -119,13 +117,13 @@ impl Earlier {
         match error {
             Error::Dgram(QueryError::Connect(fault)) => self.openings.is_refused(request, fault),
             Error::Dgram(QueryError::Send(fault)) => {
-                is_noted(conf, &self.noted, request, Failing::Sending(fault))
+                is_noted(&self.noted, request, Failing::Sending(fault))
             }
             Error::Dgram(QueryError::Receive(fault)) => {
-                is_noted(conf, &self.noted, request, Failing::Receiving(fault))
+                is_noted(&self.noted, request, Failing::Receiving(fault))
             }
             Error::Dgram(QueryError::Timeout) => is_lost(conf, &self.noted, past, request),
-            Error::WrongReplyForQuery => is_noted(conf, &self.noted, request, Failing::Wrong),
+            Error::WrongReplyForQuery => is_noted(&self.noted, request, Failing::Wrong),
             Error::StreamReadTimeout => is_silent(conf, &self.noted, past, heard, request),
             Error::MessageParseError => is_unread(past, request),
             Error::MessageBuilderPushError => has_too_many(past, request),
@@ -143,7 +141,7 @@ impl Earlier {
         request: u64,
         error: Error,
     ) -> bool
-        ensures { plain.TellsEarlier past.now heard.now self.now request error result }
+        ensures { plain.TellsEarlier conf.now past.now heard.now self.now request error result }
     {
         self.find(conf, past, heard, request, error)
     }

@@ -9,7 +9,6 @@ ghost use Rattle.trace_errors.specs.Failures as plain;
 use crate::failing::Failing;
 use client_request::{Error, Fault, QueryError, What};
 use dns_base::NoMemory;
-use std::alloc::Global;
 use trace_causes::{came_wrong, failure, has_too_many, is_unread};
 use trace_exchanges::Coming;
 use trace_promptness::{Heards, are_tries_up, is_stream_silent};
@@ -18,7 +17,7 @@ use trace_tables::Books;
 
 /// Whether this error is found.
 #[tactic(auto, using(crate::proofs::Telltale::some_told))]
-fn is_error(conf: &TraceConf, found: Option<Error>, wanted: Failing) -> bool
+fn is_error(found: Option<Error>, wanted: Failing) -> bool
     ensures { Tells (found ≡ Some (error_of wanted)) result }
 {
     match found {
@@ -31,7 +30,6 @@ fn is_error(conf: &TraceConf, found: Option<Error>, wanted: Failing) -> bool
 #[tactic(auto, using(crate::proofs::Caused::tells_failed))]
 fn has_failed(
     conf: &TraceConf,
-    alloc: Global,
     past: &Books,
     what: &What,
     request: u64,
@@ -39,8 +37,8 @@ fn has_failed(
 ) -> Result<bool, NoMemory>
     ensures { IfOk result (plain.TellsFails conf.now past.now request what.now (error_of wanted)) }
 {
-    let found = failure(conf, alloc, past, what, request)?;
-    Ok(is_error(conf, found, wanted))
+    let found = failure(conf, past, what, request)?;
+    Ok(is_error(found, wanted))
 }
 
 /// Whether an event tells a request of a fault of its opening.
@@ -52,7 +50,6 @@ fn has_not_opened(past: &Books, here: &Books, what: &What, request: u64, fault: 
 
 fn find(
     conf: &TraceConf,
-    alloc: Global,
     past: &Books,
     heard: &Heards,
     here: &Books,
@@ -69,10 +66,10 @@ fn find(
             Ok(has_not_opened(past, here, what, request, fault))
         }
         Error::Dgram(QueryError::Send(fault)) => {
-            has_failed(conf, alloc, past, what, request, Failing::Sending(fault))
+            has_failed(conf, past, what, request, Failing::Sending(fault))
         }
         Error::Dgram(QueryError::Receive(fault)) => {
-            has_failed(conf, alloc, past, what, request, Failing::Receiving(fault))
+            has_failed(conf, past, what, request, Failing::Receiving(fault))
         }
         Error::Dgram(QueryError::Timeout) => Ok(are_tries_up(conf, past, here, request, moment)),
         Error::WrongReplyForQuery => Ok(came_wrong(request, comings)),
@@ -94,7 +91,6 @@ fn find(
 /// request by there.
 pub fn server_cause(
     conf: &TraceConf,
-    alloc: Global,
     past: &Books,
     heard: &Heards,
     here: &Books,
@@ -103,9 +99,7 @@ pub fn server_cause(
     request: u64,
     error: Error,
 ) -> Result<bool, NoMemory>
-    ensures { IfOk result (plain.TellsServer past.now heard.now here.now what.now comings.now request error) }
+    ensures { IfOk result (plain.TellsServer conf.now past.now heard.now here.now what.now comings.now request error) }
 {
-    find(
-        conf, alloc, past, heard, here, what, comings, request, error,
-    )
+    find(conf, past, heard, here, what, comings, request, error)
 }

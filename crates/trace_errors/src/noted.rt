@@ -70,7 +70,6 @@ fn closed_place(out: &Out) -> Option<u64>
 fn note_failures(
     conf: &TraceConf,
     noted: &mut Noted,
-    alloc: Global,
     past: &Books,
     what: &What,
     sends: &Newest<Sent>,
@@ -78,8 +77,8 @@ fn note_failures(
     ensures { OnOk result (noted.new ≡ plain.note_all (λ x. x.request) (λ x. failure conf.now past.now x.request what.now) sends.now noted.old) }
 {
     for sent in sends {
-        let error = failure(conf, alloc, past, what, sent.request)?;
-        note(noted, alloc, sent.request, error)?;
+        let error = failure(conf, past, what, sent.request)?;
+        note(noted, conf.alloc(), sent.request, error)?;
     }
     Ok(())
 }
@@ -87,7 +86,6 @@ fn note_failures(
 fn note_failed(
     conf: &TraceConf,
     noted: &mut Noted,
-    alloc: Global,
     past: &Books,
     what: &What,
     place: Option<u64>,
@@ -99,7 +97,7 @@ fn note_failed(
     };
     match past.sends.sent.get(place) {
         None => Ok(()),
-        Some(sends) => note_failures(conf, noted, alloc, past, what, sends),
+        Some(sends) => note_failures(conf, noted, past, what, sends),
     }
 }
 
@@ -117,7 +115,6 @@ fn lost(conf: &TraceConf, past: &Books, here: &Books, request: u64) -> Option<Er
 fn note_losses(
     conf: &TraceConf,
     noted: &mut Noted,
-    alloc: Global,
     past: &Books,
     here: &Books,
     sends: &Newest<Sent>,
@@ -125,12 +122,8 @@ fn note_losses(
     ensures { OnOk result (noted.new ≡ plain.note_all (λ x. x.request) (λ x. plain.lost conf.now past.now here.now x.request) sends.now noted.old) }
 {
     for sent in sends {
-        note(
-            noted,
-            alloc,
-            sent.request,
-            lost(conf, past, here, sent.request),
-        )?;
+        let error = lost(conf, past, here, sent.request);
+        note(noted, conf.alloc(), sent.request, error)?;
     }
     Ok(())
 }
@@ -139,7 +132,6 @@ fn note_losses(
 fn note_lost(
     conf: &TraceConf,
     noted: &mut Noted,
-    alloc: Global,
     past: &Books,
     here: &Books,
     place: Option<u64>,
@@ -151,14 +143,13 @@ fn note_lost(
     };
     match here.sends.sent.get(place) {
         None => Ok(()),
-        Some(sends) => note_losses(conf, noted, alloc, past, here, sends),
+        Some(sends) => note_losses(conf, noted, past, here, sends),
     }
 }
 
 fn note_closed(
     conf: &TraceConf,
     noted: &mut Noted,
-    alloc: Global,
     past: &Books,
     here: &Books,
     outs: &[Out],
@@ -166,7 +157,7 @@ fn note_closed(
     ensures { OnOk result (noted.new ≡ plain.note_closed conf.now past.now here.now outs.now noted.old) }
 {
     for out in outs {
-        note_lost(conf, noted, alloc, past, here, closed_place(out))?;
+        note_lost(conf, noted, past, here, closed_place(out))?;
     }
     Ok(())
 }
@@ -213,7 +204,6 @@ fn note_wrong(noted: &mut Noted, alloc: Global, comings: &[Coming]) -> Result<()
 fn note_silent(
     conf: &TraceConf,
     noted: &mut Noted,
-    alloc: Global,
     past: &Books,
     here: &Books,
     heard: &Heards,
@@ -223,7 +213,7 @@ fn note_silent(
 {
     for coming in comings {
         let error = silent_of(conf, past, here, heard, coming);
-        note(noted, alloc, coming.request, error)?;
+        note(noted, conf.alloc(), coming.request, error)?;
     }
     Ok(())
 }
@@ -232,7 +222,6 @@ fn note_silent(
 pub fn note_row(
     conf: &TraceConf,
     noted: &mut Noted,
-    alloc: Global,
     past: &Books,
     heard: &Heards,
     here: &Books,
@@ -242,14 +231,14 @@ pub fn note_row(
     ensures { OnOk result (noted.new ≡ plain.after_row conf.now past.now here.now heard.now row.now comings.now noted.old) }
 {
     let what = &row.event.what;
-    note_failed(conf, noted, alloc, past, what, failed_place(what))?;
-    note_lost(conf, noted, alloc, past, here, unopened_place(what))?;
-    note_closed(conf, noted, alloc, past, here, row.outs.as_slice())?;
-    note_wrong(noted, alloc, comings)?;
-    note_silent(conf, noted, alloc, past, here, heard, comings)
+    note_failed(conf, noted, past, what, failed_place(what))?;
+    note_lost(conf, noted, past, here, unopened_place(what))?;
+    note_closed(conf, noted, past, here, row.outs.as_slice())?;
+    note_wrong(noted, conf.alloc(), comings)?;
+    note_silent(conf, noted, past, here, heard, comings)
 }
 
-fn is_among(conf: &TraceConf, errors: &Newest<Error>, wanted: Failing) -> bool
+fn is_among(errors: &Newest<Error>, wanted: Failing) -> bool
     ensures { Tells (IsIn (error_of wanted) errors.now) result }
 {
     for one in errors {
@@ -261,11 +250,11 @@ fn is_among(conf: &TraceConf, errors: &Newest<Error>, wanted: Failing) -> bool
 }
 
 /// Whether an error of a request is kept.
-pub fn is_noted(conf: &TraceConf, noted: &Noted, request: u64, wanted: Failing) -> bool
+pub fn is_noted(noted: &Noted, request: u64, wanted: Failing) -> bool
     ensures { Tells (plain.IsNoted request (error_of wanted) noted.now) result }
 {
     match noted.get(request) {
         None => false,
-        Some(errors) => is_among(conf, errors, wanted),
+        Some(errors) => is_among(errors, wanted),
     }
 }

@@ -66,7 +66,7 @@ found_in f (y ∷ ys) = before (f y) (found_in f ys)
 abbrev pub on_sends : (c : Conf) → Option ℕ → (past : Books) → Place → (p now : ℕ) → Octets → List Sent → List Coming
 on_sends c want past x p n m ys = found_in (on_send c want past x p n m) ys
 
--- 30 s are not over since a start
+-- the time of a request by stream is not over since a start
 abbrev pub is_young : (c : Conf) (now : ℕ) → Option ℕ → Bool
 is_young c n None = false
 is_young c n (Some t) = nat_lt n (t + stream_timeout c)

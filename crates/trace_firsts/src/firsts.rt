@@ -197,7 +197,6 @@ fn add_all(firsts: &mut Firsts, alloc: Global, news: &[News]) -> Result<(), NoMe
 pub fn note_arrivals(
     conf: &TraceConf,
     firsts: &mut Firsts,
-    alloc: Global,
     past: &Ledger,
     timers: &Timers,
     ledger: &Ledger,
@@ -207,8 +206,8 @@ pub fn note_arrivals(
     ensures { OnOk result (firsts.new ≡ plain.after_row (excused_in conf.now ledger.now.frames.brought ledger.now.books.requests.clock past.now timers.now ledger.now here.now) comings.now firsts.old) }
 {
     let counts = !is_excused(conf, past, timers, ledger, here);
-    let news = all_news(alloc, firsts, counts, comings)?;
-    add_all(firsts, alloc, news.as_slice())
+    let news = all_news(conf.alloc(), firsts, counts, comings)?;
+    add_all(firsts, conf.alloc(), news.as_slice())
 }
 
 fn find_earlier(firsts: &Firsts, request: u64, message: &Message) -> bool

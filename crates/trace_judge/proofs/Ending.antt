@@ -70,7 +70,7 @@ some_busy r t b some f h n =
         let n : length r.conf.servers ≡ length r.servers.items = ap length r.servers_are ∙ length_map use_of r.servers.items in
         omega arith
 
-pub at_end : (r : Rules) (t : Course) (os : List Out) (kept : Kept) (busy met stand few : Bool) → TellsBusy r t busy → TellsMet r.conf t.here.loads met → Tells (MarksStand os) stand → Tells (faults os ≤ 1) few
+pub at_end : (r : Rules) (t : Course) (os : List Out) (kept : Kept) (busy met stand few : Bool) → TellsBusy r t busy → TellsMet t.here.loads met → Tells (MarksStand os) stand → Tells (faults os ≤ 1) few
     → TellsEnd r t os kept (record { messages = kept.messages; firsts = kept.firsts; causes = kept.causes && (not r.defers_nothing || few); orders = kept.orders && (busy && (met && stand)) })
 at_end r t os kept busy met stand few b m u f h n exact = record {
   messages = refl;
@@ -78,11 +78,11 @@ at_end r t os kept busy met stand few b m u f h n exact = record {
   causes = both_told kept.causes (not r.defers_nothing || few) (own_told kept.causes)
       (where_told r.defers_nothing few (subst (λ d. Tells (d ≡ true) r.defers_nothing) r.exact_is (own_told r.defers_nothing)) f);
   orders = same_told (kept.orders && (busy && (met && stand))) (λ q. (q.0, q.1.0, q.1.1.0, q.1.1.1)) (λ q. (q.0, (q.1, (q.2, q.3))))
-      (both_told kept.orders (busy && (met && stand)) (own_told kept.orders) (both_told busy (met && stand) (b h n) (both_told met stand (m r.settings h exact n.loads) u)));
+      (both_told kept.orders (busy && (met && stand)) (own_told kept.orders) (both_told busy (met && stand) (b h n) (both_told met stand (m r.conf r.settings h exact n.loads) u)));
 }
 
 pub at_end_is : (r : Rules) (t : Course) (os : List Out) (kept : Kept) (busy met stand few causes orders : Bool) → causes ≡ (kept.causes && (not r.defers_nothing || few)) → orders ≡ (kept.orders && (busy && (met && stand)))
-    → TellsBusy r t busy → TellsMet r.conf t.here.loads met → Tells (MarksStand os) stand → Tells (faults os ≤ 1) few
+    → TellsBusy r t busy → TellsMet t.here.loads met → Tells (MarksStand os) stand → Tells (faults os ≤ 1) few
     → TellsEnd r t os kept (record { messages = kept.messages; firsts = kept.firsts; causes = causes; orders = orders })
 at_end_is r t os kept busy met stand few causes orders e f b m u g =
     subst (λ d. TellsEnd r t os kept (record { messages = kept.messages; firsts = kept.firsts; causes = d; orders = orders })) (sym e)

@@ -93,8 +93,8 @@ module _ (c : Conf) (s : ℕ) (places : List (ℕ × Place)) (l : Loads) (t : He
           less : (a b : ℕ) → a ≤ b → nat_le a b ≡ true
           less a b le = grind (arith, nat_tests)
 
-pub tells_open : (c : Conf) (s : ℕ) (places : List (ℕ × Place)) (l : Loads) (t : Held) (b : Bool) → b ≡ may_open_seen s places l t → TellsOpenStream c s places l t b
-tells_open c s places l t b e h kp kl kt = (
+pub tells_open : (s : ℕ) (places : List (ℕ × Place)) (l : Loads) (t : Held) (b : Bool) → b ≡ may_open_seen s places l t → TellsOpenStream s places l t b
+tells_open s places l t b e c h kp kl kt = (
   (λ u. open_so c s places l t h kp kl kt (sym e ∙ u)),
   (λ may. e ∙ so_open c s places l t h kp kl kt may (some_of (blocks_at places t) (members s l.streams)) refl),
 )

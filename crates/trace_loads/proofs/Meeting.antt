@@ -24,7 +24,7 @@ use Rattle.trace_tables.specs.Books as books
 use Rattle.trace_tables.proofs.Keeping as keeping
 use Rattle.trace_exchanges.specs.Asked.{AskedFirst}
 use Rattle.trace_questions.proofs.Deciding.{both, all}
-use Rattle.trace_sets.specs.Sets.{Members, has, size, AreSets}
+use Rattle.trace_sets.specs.Sets.{Members, has, size, AreSets, Holds}
 use Rattle.trace_sets.proofs.Keeping as sets
 use Rattle.trace_loads.specs.declared.loads.Loads.{Loads}
 use Rattle.trace_loads.specs.Loads.{Known, GoesOn, TellsMet, nothing, are_met, met_at, are_all_met, met, has_put, places_of, is_wanting}
@@ -150,11 +150,14 @@ is_sited : (v : Via) (s : ℕ) (o : Option Site) → is_site v s o ≡ true → 
 is_sited v s None e = e
 is_sited v s (Some x) e = refl
 
-pub live_is : (c : Conf) (s : ℕ) (h : History) (t : Loads) → Known c h t → size s t.dgrams ≡ live s h
-live_is c s h t is = sets.goes_on.counted s (reach h) (λ p. is_at Dgram s p h && is_live (stand p h)) t.dgrams (is.sets Dgram) (record {
+pub dgrams_held : (c : Conf) (s : ℕ) (h : History) (t : Loads) → Known c h t → Holds s (reach h) (λ p. is_at Dgram s p h && is_live (stand p h)) t.dgrams
+dgrams_held c s h t is = record {
   same = is.places Dgram s;
   below = λ p e. opened_below p h (is_sited Dgram s (site p h) (both (is_at Dgram s p h) _ e).0);
-})
+}
+
+pub live_is : (c : Conf) (s : ℕ) (h : History) (t : Loads) → Known c h t → size s t.dgrams ≡ live s h
+live_is c s h t is = sets.goes_on.counted s (reach h) (λ p. is_at Dgram s p h && is_live (stand p h)) t.dgrams (is.sets Dgram) (dgrams_held c s h t is)
 
 pub demand_is : (c : Conf) (s : ℕ) (h : History) (t : Loads) → Known c h t → size s t.demand ≡ demand s h
 demand_is c s h t is = sets.goes_on.counted s (asks h) (λ k. is_wanting s k h) t.demand is.demand (record {
@@ -205,8 +208,8 @@ not_false : (b : Bool) → not b ≡ false → b ≡ true
 not_false true e = refl
 not_false false e = absurd (cc)
 
-pub tells_met : (c : Conf) (t : Loads) (b : Bool) → b ≡ are_all_met t → TellsMet c t b
-tells_met c t b e s h exact is = (so, back)
+pub tells_met : (t : Loads) (b : Bool) → b ≡ are_all_met t → TellsMet t b
+tells_met t b e c s h exact is = (so, back)
   where
     so : b ≡ true → PlacesAreMet c s h
     so u i =

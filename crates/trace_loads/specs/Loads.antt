@@ -132,8 +132,8 @@ pub record Known (c : Conf) (h : History) (t : Loads) : Type 0 where
 abbrev pub are_all_met : Loads → Bool
 are_all_met t = length t.unmet == 0
 
-abbrev pub TellsMet : (c : Conf) → Loads → Bool → Type 0
-TellsMet c t b = (s : Settings) (h : History) → t.exact ≡ defers_nothing s → Known c h t → Tells (PlacesAreMet c s h) b
+abbrev pub TellsMet : Loads → Bool → Type 0
+TellsMet t b = (c : Conf) (s : Settings) (h : History) → t.exact ≡ defers_nothing s → Known c h t → Tells (PlacesAreMet c s h) b
 
 -- it is known before the first row, and goes on over events and outs; whether places are met is told
 pub record GoesOn (c : Conf) : Type 0 where

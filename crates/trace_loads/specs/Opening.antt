@@ -26,5 +26,5 @@ abbrev pub may_open_seen : (s : ℕ) → List (ℕ × Place) → Loads → Held 
 may_open_seen s places l t = not (some_of (blocks_at places t) (members s l.streams))
 
 -- the answer, of every history that the tables know
-abbrev pub TellsOpenStream : (c : Conf) (s : ℕ) → List (ℕ × Place) → Loads → Held → Bool → Type 0
-TellsOpenStream c s places l t b = (h : History) → places_seen.Known h places → loads.Known c h l → held.Known h t → Tells (MayOpenStream s h) b
+abbrev pub TellsOpenStream : (s : ℕ) → List (ℕ × Place) → Loads → Held → Bool → Type 0
+TellsOpenStream s places l t b = (c : Conf) (h : History) → places_seen.Known h places → loads.Known c h l → held.Known h t → Tells (MayOpenStream s h) b

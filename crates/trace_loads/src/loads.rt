@@ -124,7 +124,6 @@ impl Loads {
     fn give(
         &mut self,
         conf: &TraceConf,
-        alloc: Global,
         via: Via,
         server: u32,
         place: u64,
@@ -133,10 +132,10 @@ impl Loads {
     {
         match via {
             Via::Dgram => {
-                join(&mut self.dgrams, alloc, u64::from(server), place)?;
+                join(&mut self.dgrams, conf.alloc(), u64::from(server), place)?;
                 self.check(conf, server)
             }
-            Via::Stream => join(&mut self.streams, alloc, u64::from(server), place),
+            Via::Stream => join(&mut self.streams, conf.alloc(), u64::from(server), place),
         }
     }
 
@@ -144,7 +143,6 @@ impl Loads {
     fn take(
         &mut self,
         conf: &TraceConf,
-        alloc: Global,
         via: Via,
         server: u32,
         place: u64,
@@ -153,10 +151,10 @@ impl Loads {
     {
         match via {
             Via::Dgram => {
-                leave(&mut self.dgrams, alloc, u64::from(server), place)?;
+                leave(&mut self.dgrams, conf.alloc(), u64::from(server), place)?;
                 self.check(conf, server)
             }
-            Via::Stream => leave(&mut self.streams, alloc, u64::from(server), place),
+            Via::Stream => leave(&mut self.streams, conf.alloc(), u64::from(server), place),
         }
     }
 
@@ -164,13 +162,12 @@ impl Loads {
     fn wait_at(
         &mut self,
         conf: &TraceConf,
-        alloc: Global,
         server: u32,
         request: u64,
     ) -> Result<(), NoMemory>
         ensures { OnOk result (self.new ≡ plain.waits_at conf.now server request self.old) }
     {
-        join(&mut self.demand, alloc, u64::from(server), request)?;
+        join(&mut self.demand, conf.alloc(), u64::from(server), request)?;
         self.check(conf, server)
     }
 
@@ -178,13 +175,12 @@ impl Loads {
     fn go_from(
         &mut self,
         conf: &TraceConf,
-        alloc: Global,
         server: u32,
         request: u64,
     ) -> Result<(), NoMemory>
         ensures { OnOk result (self.new ≡ plain.goes_from conf.now server request self.old) }
     {
-        leave(&mut self.demand, alloc, u64::from(server), request)?;
+        leave(&mut self.demand, conf.alloc(), u64::from(server), request)?;
         self.check(conf, server)
     }
 
@@ -192,14 +188,13 @@ impl Loads {
     fn go_from_all(
         &mut self,
         conf: &TraceConf,
-        alloc: Global,
         request: u64,
         starts: &Newest<Started>,
     ) -> Result<(), NoMemory>
         ensures { OnOk result (self.new ≡ plain.goes_from_all conf.now request starts.now self.old) }
     {
         for start in starts {
-            self.go_from(conf, alloc, start.server, request)?;
+            self.go_from(conf, start.server, request)?;
         }
         Ok(())
     }
@@ -208,7 +203,6 @@ impl Loads {
     fn fail(
         &mut self,
         conf: &TraceConf,
-        alloc: Global,
         place: Option<&Place>,
         number: u64,
     ) -> Result<(), NoMemory>
@@ -218,7 +212,7 @@ impl Loads {
             return Ok(());
         };
         match place.stand {
-            Stand::Opening => self.take(conf, alloc, place.via, place.server, number),
+            Stand::Opening => self.take(conf, place.via, place.server, number),
             _ => Ok(()),
         }
     }
@@ -227,7 +221,6 @@ impl Loads {
     fn close(
         &mut self,
         conf: &TraceConf,
-        alloc: Global,
         place: Option<&Place>,
         number: u64,
     ) -> Result<(), NoMemory>
@@ -235,7 +228,7 @@ impl Loads {
     {
         match place {
             None => Ok(()),
-            Some(place) => self.take(conf, alloc, place.via, place.server, number),
+            Some(place) => self.take(conf, place.via, place.server, number),
         }
     }
 
@@ -243,7 +236,6 @@ impl Loads {
     fn open(
         &mut self,
         conf: &TraceConf,
-        alloc: Global,
         places: &NumberTable<Place>,
         what: &What,
         via: Via,
@@ -257,7 +249,7 @@ impl Loads {
         }
         match begun(what, number) {
             Stand::Gone => Ok(()),
-            _ => self.give(conf, alloc, via, server, number),
+            _ => self.give(conf, via, server, number),
         }
     }
 
@@ -265,7 +257,6 @@ impl Loads {
     fn start(
         &mut self,
         conf: &TraceConf,
-        alloc: Global,
         requests: &Requests,
         request: u64,
         server: u32,
@@ -276,12 +267,12 @@ impl Loads {
         match via {
             Via::Dgram => {
                 if waits(requests, request) && !requests.is_started(request, server, Via::Stream) {
-                    self.wait_at(conf, alloc, server, request)
+                    self.wait_at(conf, server, request)
                 } else {
                     Ok(())
                 }
             }
-            Via::Stream => self.go_from(conf, alloc, server, request),
+            Via::Stream => self.go_from(conf, server, request),
         }
     }
 
@@ -289,14 +280,13 @@ impl Loads {
     pub fn meet(
         &mut self,
         conf: &TraceConf,
-        alloc: Global,
         places: &NumberTable<Place>,
         what: &What,
     ) -> Result<(), NoMemory>
         ensures { OnOk result (self.new ≡ plain.met conf.now what.now places.now self.old) }
     {
         match what {
-            What::OpenFailed { place, .. } => self.fail(conf, alloc, places.get(*place), *place),
+            What::OpenFailed { place, .. } => self.fail(conf, places.get(*place), *place),
             _ => Ok(()),
         }
     }
@@ -305,7 +295,6 @@ impl Loads {
     fn reply(
         &mut self,
         conf: &TraceConf,
-        alloc: Global,
         requests: &Requests,
         request: u64,
     ) -> Result<(), NoMemory>
@@ -313,7 +302,7 @@ impl Loads {
     {
         match requests.starts.get(request) {
             None => Ok(()),
-            Some(starts) => self.go_from_all(conf, alloc, request, starts),
+            Some(starts) => self.go_from_all(conf, request, starts),
         }
     }
 
@@ -321,7 +310,6 @@ impl Loads {
     pub fn put(
         &mut self,
         conf: &TraceConf,
-        alloc: Global,
         books: &Books,
         what: &What,
         out: &Out,
@@ -332,7 +320,6 @@ impl Loads {
             Out::OpenDgram { place, server } => {
                 self.open(
                     conf,
-                    alloc,
                     &books.places,
                     what,
                     Via::Dgram,
@@ -343,7 +330,6 @@ impl Loads {
             Out::OpenStream { place, server } => {
                 self.open(
                     conf,
-                    alloc,
                     &books.places,
                     what,
                     Via::Stream,
@@ -351,22 +337,22 @@ impl Loads {
                     *place,
                 )
             }
-            Out::Close { place } => self.close(conf, alloc, books.places.get(*place), *place),
+            Out::Close { place } => self.close(conf, books.places.get(*place), *place),
             Out::Start {
                 request,
                 server,
                 via,
-            } => self.start(conf, alloc, &books.requests, *request, *server, *via),
-            Out::Reply { request, .. } => self.reply(conf, alloc, &books.requests, *request),
+            } => self.start(conf, &books.requests, *request, *server, *via),
+            Out::Reply { request, .. } => self.reply(conf, &books.requests, *request),
             _ => Ok(()),
         }
     }
 
-    /// Whether at most as many datagram places of each server are live as requests wait there, and at most 100; just so many
-    /// where nothing is deferred.
-    pub fn are_met(&self, conf: &TraceConf) -> bool
+    /// Whether at most as many datagram places of each server are live as requests wait there, and at most as many as are set;
+    /// just so many where nothing is deferred.
+    pub fn are_met(&self) -> bool
         ensures value { result ≡ plain.are_all_met self.now }
-        ensures told { plain.TellsMet conf.now self.now result }
+        ensures told { plain.TellsMet self.now result }
     {
         self.unmet.is_empty()
     }

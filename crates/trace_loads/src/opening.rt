@@ -8,7 +8,6 @@ ghost use Rattle.trace_loads.specs.Opening as plain;
 use crate::held::Held;
 use crate::loads::Loads;
 use number_table::NumberTable;
-use trace_questions::TraceConf;
 use trace_sets::Members;
 use trace_tables::{Place, Stand};
 
@@ -50,15 +49,9 @@ fn some_blocks_at(places: &NumberTable<Place>, loads: &Loads, held: &Held, serve
 
 /// Whether a stream place may be opened to a server: none of the server opens, and each that is alive holds all ids. It goes
 /// over the server's live stream places.
-pub fn may_open_stream(
-    conf: &TraceConf,
-    places: &NumberTable<Place>,
-    loads: &Loads,
-    held: &Held,
-    server: u32,
-) -> bool
+pub fn may_open_stream(places: &NumberTable<Place>, loads: &Loads, held: &Held, server: u32) -> bool
     ensures value { result ≡ plain.may_open_seen server places.now loads.now held.now }
-    ensures told { plain.TellsOpenStream conf.now server places.now loads.now held.now result }
+    ensures told { plain.TellsOpenStream server places.now loads.now held.now result }
 {
     !some_blocks_at(places, loads, held, server)
 }

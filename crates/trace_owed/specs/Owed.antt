@@ -32,7 +32,7 @@ use Rattle.trace_owed.specs.declared.exchanged.Exchange.{Exchange}
 use Rattle.trace_owed.specs.Exchanged.{Exchanged}
 use Rattle.trace_owed.specs.Exchanged as exchanged
 
--- something that was sent for request k, which is r, under this id less than 5 s ago carries it
+-- something that was sent for request k, which is r, under this id less than a read timeout ago carries it
 abbrev pub some_sent : (c : Conf) → Request → (k id now : ℕ) → List Sent → Bool
 some_sent c r k id n [] = false
 some_sent c r k id n (x ∷ xs) = (is_for c k id n x && carries_by c.transports.dgram_udp_payload_size Dgram x.octets r x.id) || some_sent c r k id n xs

@@ -22,12 +22,12 @@ use Rattle.trace_questions.specs.Outs.{Tells}
 use Rattle.trace_promptness.specs.Heard.{Heards, heard_seen}
 use Rattle.trace_promptness.specs.Heard as heards
 
--- a send is 5 s old, and its place was live
+-- a send is a read timeout old, and its place was live
 abbrev pub is_lost : (c : Conf) (moment : ℕ) → (past : List (ℕ × Place)) → Option Try → Bool
 is_lost c n past None = false
 is_lost c n past (Some t) = nat_le (t.moment + read_timeout c) n && live_seen (entry_at t.place past)
 
--- six sends to a server, of which the last is lost
+-- all sends to a server, of which the last is lost
 abbrev pub are_up_at : (c : Conf) (moment : ℕ) → (past : List (ℕ × Place)) → List Tried → (server : ℕ) → Bool
 are_up_at c n past all s = (count_at s all == max_tries c) && is_lost c n past (last_at s all)
 
@@ -39,7 +39,7 @@ are_up_among c n past all (x ∷ xs) = are_up_at c n past all x.server || are_up
 abbrev pub tries_are_up : (c : Conf) (k moment : ℕ) → (past : List (ℕ × Place)) → (here : Books) → Bool
 tries_are_up c k n past here = are_up_among c n past (listed k here.sends.tries) (listed k here.sends.tries)
 
--- 30 s are over since a start
+-- the time of a request by stream is over since a start
 abbrev pub is_over : (c : Conf) (moment : ℕ) → Option ℕ → Bool
 is_over c n None = false
 is_over c n (Some t) = nat_le (t + stream_timeout c) n

@@ -94,7 +94,6 @@ fn note_all(heard: &mut Heards, alloc: Global, comings: &[Coming]) -> Result<(),
 pub fn hear(
     conf: &TraceConf,
     heard: &mut Heards,
-    alloc: Global,
     past: &Ledger,
     timers: &Timers,
     ledger: &Ledger,
@@ -106,5 +105,5 @@ pub fn hear(
     if is_passed_over_in(conf, past, timers, ledger, here) {
         return Ok(());
     }
-    note_all(heard, alloc, comings)
+    note_all(heard, conf.alloc(), comings)
 }

@@ -46,20 +46,20 @@ fn last_at(tries: &Newest<Tried>, server: u32) -> Option<LastTry>
     None
 }
 
-/// How many of these went to a server. Seven are as many as more.
-fn count_at(tries: &Newest<Tried>, server: u32) -> u8
-    ensures { result ≡ min 7 (count_at server tries.now) }
+/// How many of these went to a server. As many as `most` are as many as more.
+fn count_at(tries: &Newest<Tried>, server: u32, most: u64) -> u64
+    ensures { result ≡ min most (count_at server tries.now) }
 {
     let mut count = 0;
     for tried in tries {
-        if tried.server == server && count < 7 {
+        if tried.server == server && count < most {
             count += 1;
         }
     }
     count
 }
 
-/// Whether a send is five seconds old at a moment, and its place was live.
+/// Whether a send is as old at a moment as an answer is waited for, and its place was live.
 fn is_lost(conf: &TraceConf, moment: u64, past: &NumberTable<Place>, last: Option<LastTry>) -> bool
     ensures { result ≡ plain.is_lost conf.now moment past.now last }
 {
@@ -72,7 +72,7 @@ fn is_lost(conf: &TraceConf, moment: u64, past: &NumberTable<Place>, last: Optio
     }
 }
 
-/// Whether six of these went to a server, and the last is lost.
+/// Whether all tries at a server are among these, and the last is lost.
 fn are_up_at(
     conf: &TraceConf,
     moment: u64,
@@ -82,8 +82,8 @@ fn are_up_at(
 ) -> bool
     ensures { result ≡ plain.are_up_at conf.now moment past.now tries.now server }
 {
-    count_at(tries, server) == conf.max_tries()
-        && is_lost(conf, moment, past, last_at(tries, server))
+    let all = u64::from(conf.max_tries());
+    count_at(tries, server, all + 1) == all && is_lost(conf, moment, past, last_at(tries, server))
 }
 
 fn are_up_among(
@@ -102,8 +102,8 @@ fn are_up_among(
     false
 }
 
-/// Whether by a moment a request had six sends to one server, the last at least five seconds ago, at a place that was live: by
-/// what is known here of sends, and what was known before the row of places.
+/// Whether by a moment a request had all its sends to one server, the last of them a read timeout ago or more, at a place that was
+/// live: by what is known here of sends, and what was known before the row of places.
 pub fn are_tries_up(conf: &TraceConf, past: &Books, here: &Books, request: u64, moment: u64) -> bool
     ensures value { result ≡ plain.tries_are_up conf.now request moment past.now.places here.now }
     ensures told { plain.TellsTries conf.now request moment past.now here.now result }
@@ -120,7 +120,7 @@ fn find_tries(conf: &TraceConf, past: &Books, here: &Books, request: u64, moment
     }
 }
 
-/// Whether 30 seconds are over since a start.
+/// Whether the time of a request by stream is over since a start.
 fn is_over(conf: &TraceConf, moment: u64, begun: Option<u64>) -> bool
     ensures { result ≡ plain.is_over conf.now moment begun }
 {
@@ -168,7 +168,7 @@ fn is_silent_among(
     false
 }
 
-/// Whether by a moment 30 seconds passed since a request was handed to a server by stream, and no message has come since.
+/// Whether by a moment the time of a request by stream passed since it was handed to a server so, and no message has come since.
 pub fn is_stream_silent(
     conf: &TraceConf,
     requests: &Requests,

@@ -6,6 +6,7 @@ ghost use Rattle.trace_questions.specs.Configured.{conf_of};
 
 use client_settings::Transports;
 use dns_base::Duration;
+use std::alloc::Global;
 use std::marker::Model;
 
 /// How a server is used.
@@ -17,9 +18,11 @@ pub enum ServerUse {
     Streams,
 }
 
-/// The servers in order, the timeout of a request, and the settings of transports.
+/// The servers in order, the timeout of a request, and the settings of transports; and from where memory is taken to judge by
+/// them.
 #[derive(Drop)]
 pub struct TraceConf {
+    alloc: Global,
     servers: Vec<ServerUse>,
     timeout: Duration,
     transports: Transports,
@@ -36,10 +39,16 @@ impl Model for TraceConf {
 
 impl TraceConf {
     /// A configuration of these servers.
-    pub fn new(servers: Vec<ServerUse>, timeout: Duration, transports: Transports) -> TraceConf
+    pub fn new(
+        alloc: Global,
+        servers: Vec<ServerUse>,
+        timeout: Duration,
+        transports: Transports,
+    ) -> TraceConf
         ensures { result ≡ conf_of servers.items timeout transports }
     {
         TraceConf {
+            alloc,
             servers,
             timeout,
             transports,
@@ -61,21 +70,26 @@ impl TraceConf {
         self.timeout
     }
 
+    /// From where memory is taken.
+    pub fn alloc(&self) -> Global {
+        self.alloc
+    }
+
     /// How many datagram places of a server are live at most.
     #[tactic(auto, using(crate::proofs::Numbers::places_are))]
-    pub fn max_places(&self) -> u64
+    pub fn max_places(&self) -> usize
         ensures { result ≡ max_places self.now }
     {
         self.transports.are_limited();
-        self.transports.dgram.max_parallel() as u64
+        self.transports.dgram.max_parallel()
     }
 
     /// How often a request is sent to a server by datagram at most.
     #[tactic(auto, using(crate::proofs::Numbers::tries_are))]
-    pub fn max_tries(&self) -> u64
+    pub fn max_tries(&self) -> u16
         ensures { result ≡ max_tries self.now }
     {
-        u64::from(self.transports.dgram.max_retries()) + 1
+        u16::from(self.transports.dgram.max_retries()) + 1
     }
 
     /// How many octets of a datagram are read.

@@ -8,7 +8,6 @@ use crate::configured::TraceConf;
 use client_request::Via;
 use dns_base::{NoMemory, Octets};
 use message_matching::carries;
-use std::alloc::Global;
 use trace_tables::{Books, Place, Stand, same_via};
 
 /// Whether a reply to a request would be its first: it was asked, and has none.
@@ -34,7 +33,6 @@ pub(crate) fn alive_server(place: Option<&Place>, via: Via) -> Option<u32>
 
 /// Whether octets carry a request that was asked.
 pub(crate) fn is_carried(
-    alloc: Global,
     conf: &TraceConf,
     books: &Books,
     via: Via,
@@ -48,14 +46,13 @@ pub(crate) fn is_carried(
         None => Ok(false),
         Some(asked) => {
             let payload_size = conf.udp_payload_size();
-            carries(alloc, payload_size, via, octets, &asked.request, id)
+            carries(conf.alloc(), payload_size, via, octets, &asked.request, id)
         }
     }
 }
 
 /// Whether what is kept of a send tells that it may be.
 fn is_send_right(
-    alloc: Global,
     conf: &TraceConf,
     past: &Books,
     here: &Books,
@@ -69,20 +66,20 @@ fn is_send_right(
     let Some(server) = alive_server(here.places.get(place), Via::Dgram) else {
         return Ok(false);
     };
+    let most = u64::from(conf.max_tries());
     if past.requests.is_replied(request)
         || !here.requests.is_started(request, server, Via::Dgram)
         || here.sends.is_used(place)
-        || here.sends.count(request, server) >= conf.max_tries()
+        || here.sends.count(request, server, most) >= most
     {
         return Ok(false);
     }
-    is_carried(alloc, conf, here, Via::Dgram, octets, request, id)
+    is_carried(conf, here, Via::Dgram, octets, request, id)
 }
 
 /// Whether a request may be sent at a place: `past` is what was known before the row, and `here` what is known where it is
 /// sent.
 pub fn may_send(
-    alloc: Global,
     conf: &TraceConf,
     past: &Books,
     here: &Books,
@@ -93,7 +90,7 @@ pub fn may_send(
 ) -> Result<bool, NoMemory>
     ensures { IfOk result (plain.TellsSend conf.now past.now here.now request place id octets.now) }
 {
-    is_send_right(alloc, conf, past, here, request, place, id, octets)
+    is_send_right(conf, past, here, request, place, id, octets)
 }
 
 /// Whether a datagram place may be opened to a server.

@@ -7,13 +7,11 @@ use crate::configured::TraceConf;
 use crate::outs::{alive_server, is_carried};
 use client_request::Via;
 use dns_base::{NoMemory, Octets};
-use std::alloc::Global;
 use trace_frames::{Ledger, is_free};
 use trace_tables::Books;
 
 /// Whether what is kept of a write tells that it may be.
 fn is_write_right(
-    alloc: Global,
     conf: &TraceConf,
     past: &Books,
     here: &Ledger,
@@ -33,13 +31,12 @@ fn is_write_right(
     {
         return Ok(false);
     }
-    is_carried(alloc, conf, &here.books, Via::Stream, octets, request, id)
+    is_carried(conf, &here.books, Via::Stream, octets, request, id)
 }
 
 /// Whether a request may be written at a place: `past` is what was known before the row, and `here` what is known where it is
 /// written.
 pub fn may_write(
-    alloc: Global,
     conf: &TraceConf,
     past: &Books,
     here: &Ledger,
@@ -50,5 +47,5 @@ pub fn may_write(
 ) -> Result<bool, NoMemory>
     ensures { IfOk result (plain.TellsWrite conf.now past.now here.now request place id octets.now) }
 {
-    is_write_right(alloc, conf, past, here, request, place, id, octets)
+    is_write_right(conf, past, here, request, place, id, octets)
 }

@@ -285,7 +285,7 @@ kind_or (Some z) = z.via
 other_kind : (s u : ℕ) (o : Option Site) → is_site Dgram s o ≡ true → is_site Stream u o ≡ true → ⊥
 other_kind s u o d e = (let w : Dgram ≡ Stream = ap kind_or (sym (is_sited Dgram s o d) ∙ is_sited Stream u o e) in cc)
 
-module _ (conf : Conf) (p : ℕ) (t : Point) where
+module _ (p : ℕ) (t : Point) where
   pub tells_none : (b : Bool) → b ≡ false → entry_at p t.here.now.books.places ≡ None → TellsReason p t b
   tells_none b e none c x h end known = ((λ u. absurd (let z : false ≡ true = sym e ∙ u in cc)), go)
     where
@@ -296,14 +296,17 @@ module _ (conf : Conf) (p : ℕ) (t : Point) where
       go (OfDgram s at m) = absurd (nowhere Dgram s at)
       go (OfStream s at m) = absurd (nowhere Stream s at)
 
-  pub tells_dgram : (b : Bool) (y : Place) → entry_at p t.here.now.books.places ≡ Some y → y.via ≡ Dgram → b ≡ dgram_closes conf p y.server t → TellsReason p t b
-  tells_dgram b y there v e c x h end known = ((λ u. OfDgram y.server (sited Dgram y.server p h at) (dgram_so c x h end t known p y.server at (sym e ∙ u))), go)
+  pub tells_dgram : (b : Bool) (y : Place) → entry_at p t.here.now.books.places ≡ Some y → y.via ≡ Dgram → b ≡ dgram_closes t.conf.now p y.server t → TellsReason p t b
+  tells_dgram b y there v e c x h end known = ((λ u. OfDgram y.server (sited Dgram y.server p h at) (dgram_so c x h end t known p y.server at (sym closes ∙ u))), go)
     where
+      closes : b ≡ dgram_closes c p y.server t
+      closes = e ∙ ap (λ (v : Conf). dgram_closes v p y.server t) known.conf
+
       at : site p h ≡ Some (record { via = Dgram; server = y.server })
       at = sym (known.here.books.places.sites p) ∙ (ap site_seen there ∙ ap (λ (v : Via). Some (record { via = v; server = y.server })) v)
 
       go : MayClose c p x t.row.now.event.what h end → b ≡ true
-      go (OfDgram s is m) = e ∙ so_dgram c x h end t known p y.server at m
+      go (OfDgram s is m) = closes ∙ so_dgram c x h end t known p y.server at m
       go (OfStream s is m) = absurd (other_kind y.server s (site p h) (sited Dgram y.server p h at) is)
 
   pub tells_stream_reason : (b : Bool) (y : Place) → entry_at p t.here.now.books.places ≡ Some y → y.via ≡ Stream → TellsStreamClose p t b → TellsReason p t b

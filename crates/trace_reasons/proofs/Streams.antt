@@ -89,8 +89,14 @@ module _ (c : Conf) (x h end : History) (t : Point) (known : Known c x h end t) 
   so_stream idle tells (ReadTimer d) = first_true (stream_closes c p t) idle (second_true (told_seen p t.row.now.event.what) _ (second_true (bad_at p t.here.now.frames.brought) _ (read.1 d)))
   so_stream idle tells (IdleTimer d) = second_true (stream_closes c p t) idle ((tells h known.here known.timers).1 d)
 
-pub tells_stream : (conf : Conf) (p : ℕ) (t : Point) (idle b : Bool) → TellsIdleTimer conf p t.here.now t.timers.now idle → b ≡ (stream_closes conf p t || idle) → TellsStreamClose p t b
-tells_stream conf p t idle b tells e c x h end known = ((λ u. stream_so c x h end t known p idle tells (sym e ∙ u)), (λ m. e ∙ so_stream c x h end t known p idle tells m))
+pub tells_stream : (p : ℕ) (t : Point) (idle b : Bool) → TellsIdleTimer t.conf.now p t.here.now t.timers.now idle → b ≡ (stream_closes t.conf.now p t || idle) → TellsStreamClose p t b
+tells_stream p t idle b tells e c x h end known = ((λ u. stream_so c x h end t known p idle told (sym is ∙ u)), (λ m. is ∙ so_stream c x h end t known p idle told m))
+  where
+    told : TellsIdleTimer c p t.here.now t.timers.now idle
+    told = subst (λ (v : Conf). TellsIdleTimer v p t.here.now t.timers.now idle) known.conf tells
+
+    is : b ≡ (stream_closes c p t || idle)
+    is = e ∙ ap (λ (v : Conf). stream_closes v p t || idle) known.conf
 
 -- connections that end badly
 
@@ -129,5 +135,11 @@ module _ (c : Conf) (x h end : History) (t : Point) (known : Known c x h end t) 
   so_end idle tells (IdleAmidWriting d (inl e)) = second_true (stream_closes c p t) _ (all idle _ ((tells h known.here known.timers).1 d) (first_true (unwritten_seen p t.past_timers.now.writing) _ (was_unwritten ∙ e)))
   so_end idle tells (IdleAmidWriting d (inr e)) = second_true (stream_closes c p t) _ (all idle _ ((tells h known.here known.timers).1 d) (second_true (unwritten_seen p t.past_timers.now.writing) _ (is_unwritten_here ∙ e)))
 
-pub tells_end : (conf : Conf) (p : ℕ) (t : Point) (idle b : Bool) → TellsIdleTimer conf p t.here.now t.timers.now idle → b ≡ bad_end conf p t idle → TellsBadEnd p t b
-tells_end conf p t idle b tells e c x h end known = ((λ u. end_so c x h end t known p idle tells (sym e ∙ u)), (λ m. e ∙ so_end c x h end t known p idle tells m))
+pub tells_end : (p : ℕ) (t : Point) (idle b : Bool) → TellsIdleTimer t.conf.now p t.here.now t.timers.now idle → b ≡ bad_end t.conf.now p t idle → TellsBadEnd p t b
+tells_end p t idle b tells e c x h end known = ((λ u. end_so c x h end t known p idle told (sym is ∙ u)), (λ m. is ∙ so_end c x h end t known p idle told m))
+  where
+    told : TellsIdleTimer c p t.here.now t.timers.now idle
+    told = subst (λ (v : Conf). TellsIdleTimer v p t.here.now t.timers.now idle) known.conf tells
+
+    is : b ≡ bad_end c p t idle
+    is = e ∙ ap (λ (v : Conf). bad_end v p t idle) known.conf
