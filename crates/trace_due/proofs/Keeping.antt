@@ -184,7 +184,7 @@ event : (c : Conf) (h : History) (l : Ledger) (t : Timers) (e : Event) → Asked
 event c h l t e first kl kt = record {
   writes = leaving.goes_on.event h t.writing e kt.writes;
   quiets = quieting.goes_on.event h l.books.places l.frames l.books.requests.clock t.quiet e kl.books.places kl.frames kl.books.requests.time kt.quiets;
-  idles = telling.goes_on.event h l.frames t.idle e kl.frames kt.idles;
+  idles = (telling.goes_on c).event h l.frames t.idle e kl.frames kt.idles;
   looses = record { ended = loose_event c h l t e kl kt };
   invalids = invalid_event h t.invalid e first kt.invalids;
 }
@@ -193,7 +193,7 @@ out : (c : Conf) (h : History) (l : Ledger) (t : Timers) (o : Out) → ledger.Kn
 out c h l t o kl kt = record {
   writes = leaving.goes_on.out h t.writing o kt.writes;
   quiets = quieting.goes_on.out h l.books.places l.books.requests.clock t.quiet o kl.books.places kl.books.requests.time kt.quiets;
-  idles = telling.goes_on.out h t.idle o kt.idles;
+  idles = (telling.goes_on c).out h t.idle o kt.idles;
   looses = record { ended = λ p. kt.looses.ended p };
   invalids = invalid_out h l.books.requests.askings t.invalid o kl.books.requests.askings kt.invalids;
 }
@@ -207,7 +207,7 @@ goes_on c = record {
   begins = record {
     writes = leaving.goes_on.begins;
     quiets = quieting.goes_on.begins;
-    idles = telling.goes_on.begins;
+    idles = (telling.goes_on c).begins;
     looses = record { ended = λ p. refl };
     invalids = record { so = λ v s e. absurd (none_invalid v s e); back = λ v s x. absurd (let z : None ≡ Some x.asking_of = x.asked in cc) };
   };

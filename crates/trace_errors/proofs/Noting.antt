@@ -451,14 +451,15 @@ never_fails conf k _ (InSending f d) = (let z : Tick ≡ SendFailed d.place f = 
 never_fails conf k _ (InPart d) = (let z : Tick ≡ ShortSend d.place = d.is_told in cc)
 never_fails conf k _ (InReceiving f d) = (let z : Tick ≡ RecvFailed d.place f = d.is_told in cc)
 
-pub goes_on : (conf : Conf) → GoesOn
-goes_on conf = record {
+pub goes_on : GoesOn
+unfolding max_tries
+goes_on = record {
   begins = λ c. record {
     so = λ k e i. absurd i;
-    sending = λ k f w. absurd (nothing_caused c k (errors.Dgram (query.Send f)) (λ d. never_fails conf k (errors.Dgram (query.Send f)) (cause_of c k [] Tick [] (errors.Dgram (query.Send f)) d)) w);
-    receiving = λ k f w. absurd (nothing_caused c k (errors.Dgram (query.Receive f)) (λ d. never_fails conf k (errors.Dgram (query.Receive f)) (cause_of c k [] Tick [] (errors.Dgram (query.Receive f)) d)) w);
+    sending = λ k f w. absurd (nothing_caused c k (errors.Dgram (query.Send f)) (λ d. never_fails c k (errors.Dgram (query.Send f)) (cause_of c k [] Tick [] (errors.Dgram (query.Send f)) d)) w);
+    receiving = λ k f w. absurd (nothing_caused c k (errors.Dgram (query.Receive f)) (λ d. never_fails c k (errors.Dgram (query.Receive f)) (cause_of c k [] Tick [] (errors.Dgram (query.Receive f)) d)) w);
     wrong = λ k w. absurd (nothing_caused c k errors.WrongReplyForQuery (λ d. (let q = cause_of c k [] Tick [] errors.WrongReplyForQuery d in let z : None ≡ Some q.message = q.comes.first in cc)) w);
-    tries = λ k w. absurd (nothing_caused c k (errors.Dgram query.Timeout) (λ d. (let q = cause_of c k [] Tick [] (errors.Dgram query.Timeout) d in let z : 0 ≡ 6 = q.six in cc)) w);
+    tries = λ k w. absurd (nothing_caused c k (errors.Dgram query.Timeout) (λ d. (let q = cause_of c k [] Tick [] (errors.Dgram query.Timeout) d in let z : 0 ≡ suc c.transports.dgram_max_retries = q.all in cc)) w);
     silence = λ k w. absurd (nothing_caused c k errors.StreamReadTimeout (λ d. (let q = cause_of c k [] Tick [] errors.StreamReadTimeout d in let z : None ≡ Some q.begun = q.is_begun in cc)) w);
   };
   row = λ c s past row b b' heard heard' xs t right kb kb' kd kd' cs kt. noted_row c s past row b b' heard heard' xs t right kb kb' kd kd' cs kt;

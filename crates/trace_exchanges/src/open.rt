@@ -77,7 +77,6 @@ fn put_sends(sent: &mut Open, place: u64, sends: Seq<Sent>) -> Result<(), NoMemo
 pub fn meet_open(
     conf: &TraceConf,
     sent: &mut Open,
-    alloc: Global,
     brought: &Option<Brought>,
     askings: &NumberTable<Asked>,
 ) -> Result<(), NoMemory>
@@ -89,8 +88,8 @@ pub fn meet_open(
     let Some(sends) = sent.remove(brought.place) else {
         return Ok(());
     };
-    let read = received(alloc, conf.recv_size(), brought.frames.as_slice())?;
-    let left = left_by(alloc, sends, askings, read.as_slice())?;
+    let read = received(conf.alloc(), conf.recv_size(), brought.frames.as_slice())?;
+    let left = left_by(conf.alloc(), sends, askings, read.as_slice())?;
     put_sends(sent, brought.place, left)
 }
 

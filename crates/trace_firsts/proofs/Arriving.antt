@@ -32,7 +32,7 @@ use Rattle.trace_firsts.specs.declared.firsts.News.{News}
 use Rattle.trace_firsts.specs.Firsts.{Firsts, counted, news_of, all_news, after_row, ByRow, FirstRow, HasCome, Known, GoesOn}
 use Rattle.trace_firsts.proofs.Listing.{clash, not_false, counts_so, so_counts, IsNew, added_so, still_listed, new_listed, news_so, so_news}
 
-uncut_is : (v : Via) (m : Octets) → is_uncut v m ≡ is_whole v m
+pub uncut_is : (v : Via) (m : Octets) → is_uncut v m ≡ is_whole v m
 unfolding truncated
 uncut_is Dgram m = refl
 uncut_is Stream m = refl
@@ -42,11 +42,11 @@ stream_is None = refl
 stream_is (Some x) = refl
 
 -- a message that comes and matches came for its request
-record CameAt (c : Conf) (k : ℕ) (m : Octets) (past h : History) (p : ℕ) : Type 0 where
-  for : CameFor c k m past (newest h) h
-  place : for.place ≡ p
+pub record CameAt (c : Conf) (k : ℕ) (m : Octets) (past h : History) (p : ℕ) : Type 0 where
+  pub for : CameFor c k m past (newest h) h
+  pub place : for.place ≡ p
 
-coming_came : (c : Conf) (past h : History) (z : Coming) → IsComing c past h z → matches z ≡ true → CameAt c z.request z.message past h z.place
+pub coming_came : (c : Conf) (past h : History) (z : Coming) → IsComing c past h z → matches z ≡ true → CameAt c z.request z.message past h z.place
 coming_came c past h z is e =
     let q = both z.agrees (is_uncut z.via z.message) e in
     record {

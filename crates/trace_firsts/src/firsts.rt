@@ -66,7 +66,7 @@ fn some_counts(arrived: &Newest<Arrived>) -> bool
 }
 
 /// Whether a message came for a request that was not to be passed over.
-fn is_counted(firsts: &Firsts, request: u64) -> bool
+pub(crate) fn is_counted(firsts: &Firsts, request: u64) -> bool
     ensures { result ≡ plain.counted request firsts.now }
 {
     match firsts.get(request) {
@@ -100,7 +100,7 @@ fn some_first(message: &Message, arrived: &Newest<Arrived>) -> bool
 }
 
 /// Whether a message answers its request and, if it is a datagram, has TC clear.
-fn matches(coming: &Coming) -> bool
+pub(crate) fn matches(coming: &Coming) -> bool
     ensures { result ≡ matches coming.now }
 {
     coming.agrees

@@ -21,6 +21,7 @@ use Rattle.trace_judge.specs.Course.{TellsAllBusy, TellsBusy, TellsEnd}
 use Rattle.trace_judge.proofs.Telling.{both_told, where_told, own_told, same_told}
 
 pub record IsScene (r : Rules) (t : Course) (q : Scene) : Type 0 where
+  pub conf : q.conf.now ≡ r.conf
   pub servers : q.servers.now ≡ r.servers.items
   pub ledger : q.ledger.now ≡ t.here.pass.ledger
   pub sends : q.sends.now ≡ t.here.pass.sends
@@ -30,7 +31,7 @@ pub record IsScene (r : Rules) (t : Course) (q : Scene) : Type 0 where
   pub backs : q.backs.now ≡ t.here.backs
 
 pub all_busy : (r : Rules) (t : Course) (q : Scene) (b : Bool) → IsScene r t q → busy.TellsBusy q b → TellsAllBusy r t b
-all_busy r t q b a f h n = f r.conf h (r.servers_are ∙ ap (map use_of) (sym a.servers)) (record {
+all_busy r t q b a f h n = f r.conf h a.conf (r.servers_are ∙ ap (map use_of) (sym a.servers)) (record {
   ledger = subst (ledger.Known h) (sym a.ledger) n.pass.ledger;
   sends = subst (open_sends.Known r.conf h) (sym a.sends) n.pass.sends;
   writing = subst (writing.Known h) (sym a.writing) n.pass.timers.writes;

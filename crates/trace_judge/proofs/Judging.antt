@@ -91,7 +91,7 @@ past_goes c s row xs x p t right is k d cs =
     let l = d.here.pass.ledger in
     let heard = hearing.goes_on.row c x row p.pass.ledger t.here.pass.ledger p.pass.timers t.made xs p.heard k.pass.ledger l k.pass.timers d.made cs k.heard in
     record {
-      pass = passing.goes_on.row x row p.pass right.asked k.pass;
+      pass = (passing.goes_on c).row x row p.pass right.asked k.pass;
       heard = heard;
       errors = erring.goes_on.row c s x row p.pass.ledger t.here.pass.ledger p.pass.timers p.heard (past.after_row c s row t.here.pass.ledger t.made xs p).heard t.made xs p.errors is k.pass.ledger l k.pass.timers k.heard heard d.made cs k.errors;
       firsts = arriving.goes_on.row c x row p.pass.ledger t.here.pass.ledger p.pass.timers t.made xs p.firsts k.pass.ledger l k.pass.timers d.made cs k.firsts;
@@ -164,7 +164,7 @@ same_event r e row old new o is f = subst (λ e. Judges r e row old new o) is f
 -- before the first row
 pub judge_begins : (r : Rules) (j : Judge) → plain.IsBegun r j → Known r.conf r.settings [] j
 judge_begins r j b = record {
-  past = subst (PastKnown r.conf r.settings []) (sym b.past) (record { pass = passing.goes_on.begins; heard = hearing.goes_on.begins r.conf; errors = erring.goes_on.begins r.conf r.settings; firsts = arriving.goes_on.begins r.conf });
+  past = subst (PastKnown r.conf r.settings []) (sym b.past) (record { pass = (passing.goes_on r.conf).begins; heard = hearing.goes_on.begins r.conf; errors = erring.goes_on.begins r.conf r.settings; firsts = arriving.goes_on.begins r.conf });
   here = subst (tables.Known r.conf []) (sym b.course.here) (tables_begin r.conf r.defers_nothing);
   exact = ap (λ (t : Tables). t.loads.exact) b.course.here ∙ r.exact_is;
   replies = subst (replies.Known r.conf r.settings []) (sym b.course.replies) (giving.goes_on.begins r.conf r.settings);

@@ -37,40 +37,40 @@ use Rattle.right_trace.specs.Trace.{after}
 
 pub tables_begin : (c : Conf) (exact : Bool) → tables.Known c [] (tables.nothing exact)
 tables_begin c exact = record {
-  pass = passing.goes_on.begins;
-  loads = loading.goes_on.begins exact;
+  pass = (passing.goes_on c).begins;
+  loads = (loading.goes_on c).begins exact;
   held = holding.goes_on.begins;
-  waits = waiting.goes_on.begins;
-  backs = backing.goes_on.begins;
-  exchanged = exchanging.goes_on.begins;
+  waits = (waiting.goes_on c).begins;
+  backs = (backing.goes_on c).begins;
+  exchanged = (exchanging.goes_on c).begins;
 }
 
 pub tables_event : (c : Conf) (h : History) (e : Event) (t : Tables) → AskedFirst h → tables.Known c h t → tables.Known c (Came e ∷ h) (tables.met c e t)
 tables_event c h e t first k =
-    let p = passing.goes_on.event h e t.pass first k.pass in
+    let p = (passing.goes_on c).event h e t.pass first k.pass in
     let d = holding.goes_on.event h t.pass.ledger.frames t.held e k.pass.ledger.frames k.held in
     record {
       pass = p;
-      loads = loading.goes_on.event h t.pass.ledger.books t.loads e first k.pass.ledger.books k.loads;
+      loads = (loading.goes_on c).event h t.pass.ledger.books t.loads e first k.pass.ledger.books k.loads;
       held = d;
-      waits = waiting.goes_on.event h t.pass.ledger.books.requests t.waits e k.pass.ledger.books.requests k.waits;
-      backs = backing.goes_on.event h e (max e.moment.0 t.pass.ledger.books.requests.clock) t.pass.ledger.books.places (pass.met c e t.pass).ledger.books.places (tables.met c e t).held t.backs
+      waits = (waiting.goes_on c).event h t.pass.ledger.books.requests t.waits e k.pass.ledger.books.requests k.waits;
+      backs = (backing.goes_on c).event h e (max e.moment.0 t.pass.ledger.books.requests.clock) t.pass.ledger.books.places (pass.met c e t.pass).ledger.books.places (tables.met c e t).held t.backs
           (ap (λ n. max e.moment.0 n) k.pass.ledger.books.requests.time) k.pass.ledger.books.places p.ledger.books.places d k.backs;
-      exchanged = exchanging.goes_on.event h t.exchanged e k.exchanged;
+      exchanged = (exchanging.goes_on c).event h t.exchanged e k.exchanged;
     }
 
 pub tables_out : (c : Conf) (h : History) (o : Out) (bad : Bool) (t : Tables) → TellsEnd c o h bad → tables.Known c h t → tables.Known c (Put o ∷ h) (tables.has_put c (newest h) o bad t)
 tables_out c h o bad t is_bad k =
-    let p = passing.goes_on.out h o t.pass k.pass in
+    let p = (passing.goes_on c).out h o t.pass k.pass in
     let d = holding.goes_on.out h t.held o k.held in
     record {
       pass = p;
-      loads = loading.goes_on.out h t.pass.ledger.books t.loads o k.pass.ledger.books k.loads;
+      loads = (loading.goes_on c).out h t.pass.ledger.books t.loads o k.pass.ledger.books k.loads;
       held = d;
-      waits = waiting.goes_on.out h t.pass.ledger.books.requests t.waits o k.pass.ledger.books.requests k.waits;
-      backs = backing.goes_on.out h o bad t.pass.ledger.books.requests.clock t.pass.ledger.books.places (pass.has_put (newest h) o t.pass).ledger.books.places (tables.has_put c (newest h) o bad t).held t.backs
+      waits = (waiting.goes_on c).out h t.pass.ledger.books.requests t.waits o k.pass.ledger.books.requests k.waits;
+      backs = (backing.goes_on c).out h o bad t.pass.ledger.books.requests.clock t.pass.ledger.books.places (pass.has_put (newest h) o t.pass).ledger.books.places (tables.has_put c (newest h) o bad t).held t.backs
           k.pass.ledger.books.requests.time is_bad k.pass.ledger.books.places p.ledger.books.places d k.backs;
-      exchanged = exchanging.goes_on.out h t.exchanged o k.exchanged;
+      exchanged = (exchanging.goes_on c).out h t.exchanged o k.exchanged;
     }
 
 -- whether nothing is deferred stands

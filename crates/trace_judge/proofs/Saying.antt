@@ -125,6 +125,7 @@ said_other p t o orders bad m i f g d x h n =
 
 -- what is known at the point
 pub record IsAt (p : Case) (t : Course) (q : Point) : Type 0 where
+  pub conf : q.conf.now ≡ conf_in p
   pub servers : q.servers.now ≡ p.rules.now.servers.items
   pub row : q.row.now ≡ p.row.now
   pub past : q.past.now ≡ p.past.now.pass.ledger
@@ -145,6 +146,7 @@ module _ (p : Case) (t : Course) (q : Point) (a : IsAt p t q) where
     before = n.within.before;
     event = n.within.event ∙ ap (λ (r : Row). r.event.what) (sym a.row);
     behind = ap (λ (r : Row). after r x) (sym a.row);
+    conf = a.conf;
     servers = p.rules.now.servers_are ∙ ap (map use_of) (sym a.servers);
     comings = record {
       at = Came p.row.now.event ∷ x;

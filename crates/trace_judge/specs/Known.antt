@@ -38,7 +38,7 @@ pub record PastKnown (c : Conf) (s : Settings) (x : History) (p : Past) : Type 0
   pub errors : errors.Known c s x p.errors
   pub firsts : firsts.Known c x p.firsts
 
--- the mark was put last, and says whether an error of its request has its own cause there
+-- the mark was put last, and says whether a result of its request fails there
 pub record IsMark (c : Conf) (s : Settings) (k : ℕ) (x h before : History) (m : Option Mark) : Type 0 where
   pub mark : Mark
   pub is : m ≡ Some mark

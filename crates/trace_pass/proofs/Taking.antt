@@ -19,15 +19,15 @@ event c h e p first k =
     let l = keeping.goes_on.event h p.ledger e k.ledger in
     record {
       ledger = l;
-      sends = sending.goes_on.event h e (ledger.met e p.ledger).books.requests (ledger.met e p.ledger).frames p.sends first l.books.requests l.frames k.sends;
-      timers = timing.goes_on.event h p.ledger p.timers e first k.ledger k.timers;
+      sends = (sending.goes_on c).event h e (ledger.met e p.ledger).books.requests (ledger.met e p.ledger).frames p.sends first l.books.requests l.frames k.sends;
+      timers = (timing.goes_on c).event h p.ledger p.timers e first k.ledger k.timers;
     }
 
 out : (c : Conf) (h : History) (o : Out) (p : Pass) → Known c h p → Known c (Put o ∷ h) (has_put (newest h) o p)
 out c h o p k = record {
   ledger = keeping.goes_on.out h p.ledger o k.ledger;
-  sends = sending.goes_on.out h p.ledger.books.requests.clock p.sends o k.ledger.books.requests.time k.sends;
-  timers = timing.goes_on.out h p.ledger p.timers o k.ledger k.timers;
+  sends = (sending.goes_on c).out h p.ledger.books.requests.clock p.sends o k.ledger.books.requests.time k.sends;
+  timers = (timing.goes_on c).out h p.ledger p.timers o k.ledger k.timers;
 }
 
 outs : (c : Conf) (w : What) (os : List Out) (h : History) (p : Pass) → newest h ≡ w → Known c h p → Known c (put_all os h) (have_put w os p)
@@ -38,4 +38,4 @@ row : (c : Conf) (past : History) (row : Row) (p : Pass) → AskedFirst past →
 row c past r p first k = outs c r.event.what r.outs (Came r.event ∷ past) (met c r.event p) refl (event c past r.event p first k)
 
 pub goes_on : (c : Conf) → GoesOn c
-goes_on c = record { begins = record { ledger = keeping.goes_on.begins; sends = sending.goes_on.begins; timers = timing.goes_on.begins }; event = event c; out = out c; row = row c }
+goes_on c = record { begins = record { ledger = keeping.goes_on.begins; sends = (sending.goes_on c).begins; timers = (timing.goes_on c).begins }; event = event c; out = out c; row = row c }

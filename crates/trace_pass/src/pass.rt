@@ -45,15 +45,14 @@ impl Pass {
     }
 
     /// An event comes.
-    pub fn meet(&mut self, conf: &TraceConf, alloc: Global, event: &Event) -> Result<(), NoMemory>
+    pub fn meet(&mut self, conf: &TraceConf, event: &Event) -> Result<(), NoMemory>
         ensures { OnOk result (self.new ≡ plain.met conf.now event.now self.old) }
     {
         self.timers.meet(conf, &self.ledger, event)?;
-        self.ledger.meet(alloc, event)?;
+        self.ledger.meet(conf.alloc(), event)?;
         meet_open(
             conf,
             &mut self.sends,
-            alloc,
             &self.ledger.frames.brought,
             &self.ledger.books.requests.askings,
         )
@@ -84,10 +83,10 @@ impl Pass {
     }
 
     /// A row goes by.
-    pub fn take(&mut self, conf: &TraceConf, alloc: Global, row: &Row) -> Result<(), NoMemory>
+    pub fn take(&mut self, conf: &TraceConf, row: &Row) -> Result<(), NoMemory>
         ensures { OnOk result (self.new ≡ plain.after_row conf.now row.now self.old) }
     {
-        self.meet(conf, alloc, &row.event)?;
-        self.put_all(alloc, &row.event.what, row.outs.as_slice())
+        self.meet(conf, &row.event)?;
+        self.put_all(conf.alloc(), &row.event.what, row.outs.as_slice())
     }
 }

@@ -19,5 +19,5 @@ mod settings;
 pub use heard::{Heards, hear, is_heard, is_passed_over};
 pub use laws::heard_goes_on;
 pub use overdue::{are_tries_up, is_overdue, is_stream_silent};
-pub use prompt::is_prompt;
+pub use prompt::{is_failing, is_prompt};
 pub use settings::TraceSettings;

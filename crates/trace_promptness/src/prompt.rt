@@ -57,7 +57,7 @@ fn is_marked(request: u64, outs: &[Out]) -> bool
 }
 
 /// Whether the server of a message failed: it tells of no name (RFC 8767 4).
-fn is_failing(message: &Message) -> bool
+pub fn is_failing(message: &Message) -> bool
     ensures { result ≡ is_failing_message message.now }
 {
     !matches!(message.opt_rcode(), OptRcode(0) | OptRcode(3))
