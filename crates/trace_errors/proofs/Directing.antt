@@ -44,11 +44,12 @@ asked_is k (Put o ∷ h) = asked_is k h
 
 -- before the first row no server gave an error
 none_first : (c : Conf) (k : ℕ) (e : Error) → ServerCause c k [] Tick [] e → ⊥
+unfolding max_tries
 none_first c k _ (NotOpened f d) = (let z : Tick ≡ OpenFailed d.place f = d.told in cc)
 none_first c k _ (NotSent f d) = (let z : Tick ≡ SendFailed d.place f = d.is_told in cc)
 none_first c k _ (SentShort d) = (let z : Tick ≡ ShortSend d.place = d.is_told in cc)
 none_first c k _ (NotReceived f d) = (let z : Tick ≡ RecvFailed d.place f = d.is_told in cc)
-none_first c k _ (NoAnswer d) = (let z : 0 ≡ 6 = d.six in cc)
+none_first c k _ (NoAnswer d) = (let z : 0 ≡ suc c.transports.dgram_max_retries = d.all in cc)
 none_first c k _ (WrongReply d) = (let z : None ≡ Some d.message = d.comes.first in cc)
 none_first c k _ (StreamSilence d) = (let z : None ≡ Some d.begun = d.is_begun in cc)
 none_first c k _ (NotRead d) = (let z : None ≡ Some d.asking_of = d.asked in cc)

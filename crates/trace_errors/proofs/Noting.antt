@@ -381,7 +381,7 @@ module _ (c : Conf) (s : Settings) (past : History) (row : Row) (b b' : Books) (
       sent = (let n = tried_named k d.server d.last (after row past) d.is_last in sent_of k n.0 (listed d.last.place b'.sends.sent) (subst (IsOneOf n.0) (sym (kb'.sends.names d.last.place k)) n.1))
 
       go : Ending d.last.place row past → IsNoted k (errors.Dgram query.Timeout) silenced ⊎ TriesAreUp c k (now (after row past)) (after row past) (after row past)
-      go (StillLive l) = inr (record { server = d.server; six = d.six; last = d.last; is_last = d.is_last; old = d.old; lived = l })
+      go (StillLive l) = inr (record { server = d.server; all = d.all; last = d.last; is_last = d.is_last; old = d.old; lived = l })
       go (IsUnopened e) = inl (from_unopened k (errors.Dgram query.Timeout) (new_lost c b b' k d.last.place (unopened_place row.event.what) failed e sent (so_tries k d)))
       go (IsClosed i) = inl (from_closed k (errors.Dgram query.Timeout) (new_closed c b b' k d.last.place row.outs unopened i sent (so_tries k d)))
 
@@ -391,7 +391,7 @@ module _ (c : Conf) (s : Settings) (past : History) (row : Row) (b b' : Books) (
       older : IsNoted k (errors.Dgram query.Timeout) t ⊎ TriesAreUp c k (now past) past past → IsNoted k (errors.Dgram query.Timeout) silenced ⊎ TriesAreUp c k (now (after row past)) (after row past) (after row past)
       older (inl i) = inl (from_past k (errors.Dgram query.Timeout) i)
       older (inr d) =
-          let six = six_stay c s past row right k d.server d.six in
+          let six = six_stay c s past row right k d.server d.all in
           let l = time_goes_on row past in
           let o = d.old in
           tries_end k (record { server = d.server; six = six.0; last = d.last; is_last = six.1 ∙ d.is_last; old = omega arith; lived = d.lived })

@@ -68,7 +68,7 @@ module _ (c : Conf) (s : Settings) (b : Books) (heard : Heards) (t : Earlier) (k
   tries_so e =
       let d : TriesAreUp c k (now x) x x = subst (λ n. TriesAreUp c k n x x) kb.requests.time ((tells_tries c k b.requests.clock b b (tries_are_up c k b.requests.clock b.places b) refl x x kb kb).0 e) in
       let o : d.last.moment + read_timeout c ≤ now x = d.old in
-      caused (errors.Dgram query.Timeout) (record { server = d.server; six = d.six; last = d.last; is_last = d.is_last; old = d.old; lived = lived k d.server d.last x d.is_last (omega arith) d.lived })
+      caused (errors.Dgram query.Timeout) (record { server = d.server; all = d.all; last = d.last; is_last = d.is_last; old = d.old; lived = lived k d.server d.last x d.is_last (omega arith) d.lived })
 
   so_tries : TriesAreUp c k (now x) x x → tries_are_up c k b.requests.clock b.places b ≡ true
   so_tries d = (tells_tries c k b.requests.clock b b (tries_are_up c k b.requests.clock b.places b) refl x x kb kb).1 (subst (λ n. TriesAreUp c k n x x) (sym kb.requests.time) d)

@@ -107,7 +107,7 @@ module _ (c : Conf) (k n : ℕ) (bp bh : Books) (x h : History) (kp : books.Know
   unfolding read_timeout
   so_tries t =
       let ts = listed k bh.sends.tries in
-      let six : count_at t.server ts ≡ max_tries c = kh.sends.counts k t.server ∙ t.six in
+      let six : count_at t.server ts ≡ max_tries c = kh.sends.counts k t.server ∙ t.all in
       up_some c n bp.places ts ts t.server 5 six
       (all (count_at t.server ts == max_tries c) _ (ap (λ m. m == max_tries c) six)
       (so_lost c n bp.places (last_at t.server ts) (record { last = t.last; is = kh.sends.lasts k t.server ∙ t.is_last; old = t.old; lived = lived t.last.place ∙ t.lived })))
