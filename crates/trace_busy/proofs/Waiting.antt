@@ -12,10 +12,10 @@ use Rattle.client_request.specs.declared.event.Out.TheVariants.{Start, OpenDgram
 use Rattle.client_request.specs.declared.event.Via.{Via}
 use Rattle.client_request.specs.declared.event.Via.TheVariants.{Dgram, Stream}
 use Rattle.right_trace.specs.Trace.{History, Came, Put, Conf}
-use Rattle.right_trace.specs.Time.{now, read_timeout}
+use Rattle.right_trace.specs.Time.{now, read_timeout, recv_size}
 use Rattle.right_trace.specs.Messages.{Octets, is_valid}
 use Rattle.right_trace.specs.Requests.{Asking, asking, asking_of, asks, is_ask, replied}
-use Rattle.right_trace.specs.Frames.{brings, came, came_here}
+use Rattle.right_trace.specs.Frames.{brings, came, came_here, received}
 use Rattle.right_trace.specs.Parts.{IsIn}
 use Rattle.right_trace.specs.Writes.{waiting_with}
 use Rattle.right_trace.specs.Exchanges.{IsAmong, has_answer, unanswered, octets_for}
@@ -46,7 +46,7 @@ second_true false b e = e
 -- events
 
 sent_event : (conf : Conf) (h : History) (e : Event) (r : Request) (k p id n : ℕ) (o : Octets) → IsAmong o (unanswered conf r p k id n (Came e ∷ h)) → IsAmong o (unanswered conf r p k id n h)
-sent_event conf h e r k p id n o = go (has_answer r id (came p e.what h))
+sent_event conf h e r k p id n o = go (has_answer r id (received (recv_size conf) (came p e.what h)))
   where
     go : (b : Bool) → IsAmong o (if b then [] else unanswered conf r p k id n h) → IsAmong o (unanswered conf r p k id n h)
     go true i = absurd i

@@ -1,5 +1,5 @@
 -- Behind each row that is right what is noted of errors is what the definitions say.
-use Rattle.std.proofs.Common.{◌≡◌, ℕ, ◌==◌, ◌&&◌, ◌⊎◌, inl, inr, not, Bool, true, false, if◌then◌else◌, List, [], ◌∷◌, Option, Some, None, refl, sym, ap, ap₂, ◌∙◌, subst, arith}
+use Rattle.std.proofs.Common.{◌≡◌, ℕ, suc, ◌==◌, ◌&&◌, ◌⊎◌, inl, inr, not, Bool, true, false, if◌then◌else◌, List, [], ◌∷◌, Option, Some, None, refl, sym, ap, ap₂, ◌∙◌, subst, arith}
 use Rattle.client_request.specs.declared.error.Error.{Error}
 use Rattle.client_request.specs.declared.error.Error.TheVariants as errors
 use Rattle.client_request.specs.declared.error.QueryError.TheVariants as query
@@ -13,7 +13,7 @@ use Rattle.client_request.specs.declared.event.Row.{Row}
 use Rattle.client_request.specs.declared.event.Via.{Via}
 use Rattle.client_request.specs.declared.event.Via.TheVariants.{Dgram, Stream}
 use Rattle.right_trace.specs.Trace.{History, Conf, Came, Put, after}
-use Rattle.right_trace.specs.Time.{now, newest}
+use Rattle.right_trace.specs.Time.{now, newest, max_tries}
 use Rattle.right_trace.specs.Messages.{answers}
 use Rattle.right_trace.specs.Settings.{Settings}
 use Rattle.right_trace.specs.Requests.{same_via}
@@ -41,7 +41,7 @@ use Rattle.trace_errors.proofs.Caused.{cause_of, of_cause}
 use Rattle.trace_errors.specs.Rows.{IsCaused, WasCaused}
 use Rattle.trace_errors.specs.Noted.{Noted, notes, note_all, lost, wrong_of, silent_of, failed_place, unopened_place, closed_place, note_failed, note_lost, note_closed, after_row, IsNoted, Known, GoesOn}
 use Rattle.trace_errors.proofs.Rows.{same_number, own, more_so, more_kept, more_new, row_later, row_was}
-use Rattle.trace_errors.proofs.Steady.{starts_stay, six_stay, time_goes_on, ClosedIn, Ending, StillLive, IsUnopened, IsClosed, row_lives}
+use Rattle.trace_errors.proofs.Steady.{starts_stay, all_stay, time_goes_on, ClosedIn, Ending, StillLive, IsUnopened, IsClosed, row_lives}
 
 same_kind : (a b : Via) → same_via a b ≡ true → a ≡ b
 same_kind Dgram Dgram e = refl
@@ -391,10 +391,10 @@ module _ (c : Conf) (s : Settings) (past : History) (row : Row) (b b' : Books) (
       older : IsNoted k (errors.Dgram query.Timeout) t ⊎ TriesAreUp c k (now past) past past → IsNoted k (errors.Dgram query.Timeout) silenced ⊎ TriesAreUp c k (now (after row past)) (after row past) (after row past)
       older (inl i) = inl (from_past k (errors.Dgram query.Timeout) i)
       older (inr d) =
-          let six = six_stay c s past row right k d.server d.all in
+          let kept = all_stay c s past row right k d.server d.all in
           let l = time_goes_on row past in
           let o = d.old in
-          tries_end k (record { server = d.server; six = six.0; last = d.last; is_last = six.1 ∙ d.is_last; old = omega arith; lived = d.lived })
+          tries_end k (record { server = d.server; all = kept.0; last = d.last; is_last = kept.1 ∙ d.is_last; old = omega arith; lived = d.lived })
 
       go : IsCaused c k (errors.Dgram query.Timeout) (after row past) ⊎ WasCaused c k (errors.Dgram query.Timeout) past → IsNoted k (errors.Dgram query.Timeout) silenced ⊎ TriesAreUp c k (now (after row past)) (after row past) (after row past)
       go (inl d) = tries_end k (cause_of c k past row.event.what (after row past) (errors.Dgram query.Timeout) (cause k (errors.Dgram query.Timeout) d))

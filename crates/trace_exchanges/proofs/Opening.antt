@@ -1,23 +1,21 @@
 -- After each event and each out what is kept of sends that nothing answered is what the definitions say.
-use Rattle.std.proofs.Common.{◌≡◌, ℕ, ◌+◌, ◌==◌, ◌&&◌, ◌||◌, nat_le, nat_lt, Bool, true, false, if◌then◌else◌, length, take, List, [], ◌∷◌, ◌++◌, reverse, Option, Some, None, refl, sym, ap, ◌∙◌, arith}
+use Rattle.std.proofs.Common.{◌≡◌, ℕ, ◌+◌, ◌==◌, ◌&&◌, ◌||◌, nat_le, nat_lt, Bool, true, false, if◌then◌else◌, length, take, List, [], ◌∷◌, ◌++◌, reverse, Option, Some, None, refl, sym, ap, ap₂, ◌∙◌, arith}
 use Rattle.std.proofs.lemmas.Bool.Decides.{nat_tests}
 use Rattle.std.proofs.lemmas.List.{reverse-append}
 use Rattle.number_table.specs.Entries.{puts, frees, entry_at}
 use Rattle.client_request.specs.Request.{Request}
 use Rattle.client_request.specs.declared.event.Event.{Event}
-use Rattle.client_request.specs.declared.event.What.{What}
-use Rattle.client_request.specs.declared.event.What.TheVariants.{Ask, Opened, OpenFailed, SendFailed, ShortSend, Datagram, RecvFailed, Wrote, WriteFailed, Bytes, ReadFailed, Ended, Tick}
 use Rattle.client_request.specs.declared.event.Out.{Out}
 use Rattle.client_request.specs.declared.event.Out.TheVariants.{Start, OpenDgram, OpenStream, Send, Write, Resume, Close, Stale, Reply}
 use Rattle.client_request.specs.declared.event.Via.{Via}
 use Rattle.client_request.specs.declared.event.Via.TheVariants.{Dgram, Stream}
 use Rattle.dns_base.specs.Answering.{is_answer}
 use Rattle.right_trace.specs.Trace.{History, Came, Put, Conf}
-use Rattle.right_trace.specs.Time.{now, read_timeout}
+use Rattle.right_trace.specs.Time.{now, read_timeout, recv_size}
 use Rattle.right_trace.specs.Messages.{Octets, answers}
 use Rattle.right_trace.specs.Requests.{Asking, asking}
-use Rattle.right_trace.specs.Places.{Site, site, is_of_kind, opens_as, is_alive, stand}
-use Rattle.right_trace.specs.Frames.{fed, reading, came}
+use Rattle.right_trace.specs.Places.{Site, site, is_of_kind, opens_as}
+use Rattle.right_trace.specs.Frames.{came, received}
 use Rattle.right_trace.specs.Causes.{named}
 use Rattle.right_trace.specs.Exchanges.{has_answer, unanswered}
 use Rattle.right_trace.proofs.Asked.{asking_came}
@@ -95,19 +93,22 @@ left_reversed ms known (x ∷ xs) =
     go true = none_more (reverse (left_open ms known xs))
     go false = sym (reversed x (left_open ms known xs))
 
-met_listed : (c : Conf) (b : Option Brought) (known : List (ℕ × Asking)) (t : Open) (p : ℕ) → listed p (met c b known t) ≡ left_open (frames.frames_of p b) known (listed p t)
+met_listed : (c : Conf) (b : Option Brought) (known : List (ℕ × Asking)) (t : Open) (p : ℕ) → listed p (met c b known t) ≡ left_open (received (recv_size c) (frames.frames_of p b)) known (listed p t)
 met_listed c None known t p = sym (left_none known (listed p t))
 met_listed c (Some b) known t p = go (entry_at b.place t) refl (b.place == p) refl
   where
-    go : (o : Option (List Sent)) → entry_at b.place t ≡ o → (d : Bool) → (b.place == p) ≡ d → listed p (left_at b.place b.frames known o t) ≡ left_open (if d then b.frames else []) known (listed p t)
+    go : (o : Option (List Sent)) → entry_at b.place t ≡ o → (d : Bool) → (b.place == p) ≡ d → listed p (left_at b.place (received (recv_size c) b.frames) known o t) ≡ left_open (received (recv_size c) (if d then b.frames else [])) known (listed p t)
     go None i true e =
         let z : listed p t ≡ [] = ap (λ n. listed n t) (sym (same_number b.place p e)) ∙ ap list_or_none i in
-        z ∙ sym (ap (left_open b.frames known) z)
+        z ∙ sym (ap (left_open (received (recv_size c) b.frames) known) z)
     go None i false e = sym (left_none known (listed p t))
     go (Some xs) i true e =
         let z : xs ≡ listed p t = sym (ap list_or_none i) ∙ ap (λ n. listed n t) (same_number b.place p e) in
-        listed_puts p b.place (left_open b.frames known xs) t ∙ (ap (λ d. if d then left_open b.frames known xs else listed p t) e ∙ ap (left_open b.frames known) z)
-    go (Some xs) i false e = listed_puts p b.place (left_open b.frames known xs) t ∙ (ap (λ d. if d then left_open b.frames known xs else listed p t) e ∙ sym (left_none known (listed p t)))
+        let ms = received (recv_size c) b.frames in
+        listed_puts p b.place (left_open ms known xs) t ∙ (ap (λ d. if d then left_open ms known xs else listed p t) e ∙ ap (left_open ms known) z)
+    go (Some xs) i false e =
+        let ms = received (recv_size c) b.frames in
+        listed_puts p b.place (left_open ms known xs) t ∙ (ap (λ d. if d then left_open ms known xs else listed p t) e ∙ sym (left_none known (listed p t)))
 
 emptied : (b : Bool) → Path (List Octets) [] (if b then [] else [])
 emptied true = refl
@@ -155,44 +156,20 @@ module _ (c : Conf) (ms : List Octets) (known : List (ℕ × Asking)) (k id n : 
       go rest false f true e = rest e
       go rest false f false e = ap (λ b. if b then x.octets ∷ octets_of c k id n (left_open ms known xs) else octets_of c k id n (left_open ms known xs)) f ∙ rest e
 
--- what comes at a place that is no stream has a whole header
-
-answered_same : (r : Request) (id : ℕ) (m : Octets) → nat_le 12 (length m) ≡ true → answered_by r id (m ∷ []) ≡ has_answer r id (m ∷ [])
+-- what is read of datagrams has a whole header
+answered_same : (r : Request) (id n : ℕ) (ms : List Octets) → answered_by r id (received n ms) ≡ has_answer r id (received n ms)
 unfolding answers
-answered_same r id m long = ap (λ b. (b && is_answer id r.base m) || false) long
-
-pub came_answered : (r : Request) (id p : ℕ) (w : What) (h : History) → is_of_kind Stream (site p h) ≡ false → answered_by r id (came p w h) ≡ has_answer r id (came p w h)
-came_answered r id p (Datagram q o) h non = go (q == p) (is_alive (stand p h)) (is_of_kind Dgram (site p h)) (nat_le 12 (length (take 2000 o))) refl
+answered_same r id n [] = refl
+answered_same r id n (m ∷ ms) = go (nat_le 12 (length (take n m))) refl (answered_same r id n ms)
   where
-    go : (a b d e : Bool) → nat_le 12 (length (take 2000 o)) ≡ e → answered_by r id (if a && (b && (d && e)) then take 2000 o ∷ [] else []) ≡ has_answer r id (if a && (b && (d && e)) then take 2000 o ∷ [] else [])
-    go true true true true i = answered_same r id (take 2000 o) i
-    go true true true false i = refl
-    go true true false e i = refl
-    go true false d e i = refl
-    go false b d e i = refl
-came_answered r id p (Bytes q o) h non = go (fed (reading p h) o).frames (q == p) (is_alive (stand p h)) (is_of_kind Stream (site p h)) non
-  where
-    go : (ms : List Octets) (a b d : Bool) → d ≡ false → answered_by r id (if a && (b && d) then ms else []) ≡ has_answer r id (if a && (b && d) then ms else [])
-    go ms true true true e = absurd (cc)
-    go ms true true false e = refl
-    go ms true false d e = refl
-    go ms false b d e = refl
-came_answered r id p (Ask q) h non = refl
-came_answered r id p (Opened q) h non = refl
-came_answered r id p (OpenFailed q f) h non = refl
-came_answered r id p (SendFailed q f) h non = refl
-came_answered r id p (ShortSend q) h non = refl
-came_answered r id p (RecvFailed q f) h non = refl
-came_answered r id p (Wrote q n) h non = refl
-came_answered r id p (WriteFailed q f) h non = refl
-came_answered r id p (ReadFailed q f) h non = refl
-came_answered r id p (Ended q) h non = refl
-came_answered r id p Tick h non = refl
+    go : (b : Bool) → nat_le 12 (length (take n m)) ≡ b → answered_by r id (received n ms) ≡ has_answer r id (received n ms) → answered_by r id (if b then take n m ∷ received n ms else received n ms) ≡ has_answer r id (if b then take n m ∷ received n ms else received n ms)
+    go true long rest = ap₂ (λ (x : Bool) (y : Bool). x || y) (ap (λ b. b && is_answer id r.base (take n m)) long) rest
+    go false long rest = rest
 
 -- what was not sent is not waited for
 unsent_none : (c : Conf) (r : Request) (p k id n : ℕ) (h : History) → named p k h ≡ [] → unanswered c r p k id n h ≡ []
 unsent_none c r p k id n [] e = refl
-unsent_none c r p k id n (Came x ∷ h) e = go (has_answer r id (came p x.what h)) (unsent_none c r p k id n h e)
+unsent_none c r p k id n (Came x ∷ h) e = go (has_answer r id (received (recv_size c) (came p x.what h))) (unsent_none c r p k id n h e)
   where
     go : (b : Bool) → unanswered c r p k id n h ≡ [] → (if b then [] else unanswered c r p k id n h) ≡ []
     go true i = refl
@@ -216,26 +193,34 @@ unsent_none c r p k id n (Put (Reply j x) ∷ h) e = unsent_none c r p k id n h 
 -- events
 
 module _ (c : Conf) (h : History) (e : Event) (r : Requests) (f : Frames) (t : Open) (first : AskedFirst h) (kr : requests.Known (Came e ∷ h) r) (kf : frames.Known (Came e ∷ h) f) (is : Known c h t) where
-  left_here : (p : ℕ) → reverse (listed p (met c f.brought r.askings t)) ≡ left_open (came p e.what h) r.askings (reverse (listed p t))
-  left_here p = ap reverse (met_listed c f.brought r.askings t p) ∙ (sym (left_reversed (frames.frames_of p f.brought) r.askings (listed p t)) ∙ ap (λ ms. left_open ms r.askings (reverse (listed p t))) (kf.here p))
+  -- what is read of what came at a place
+  brought : (p : ℕ) → List Octets
+  brought p = received (recv_size c) (came p e.what h)
+
+  left_here : (p : ℕ) → reverse (listed p (met c f.brought r.askings t)) ≡ left_open (brought p) r.askings (reverse (listed p t))
+  unfolding brought
+  left_here p =
+      let ms = received (recv_size c) (frames.frames_of p f.brought) in
+      ap reverse (met_listed c f.brought r.askings t p) ∙ (sym (left_reversed ms r.askings (listed p t)) ∙ ap (λ ms. left_open (received (recv_size c) ms) r.askings (reverse (listed p t))) (kf.here p))
 
   unsent_here : (k p id n : ℕ) → named p k h ≡ [] → octets_of c k id n (reverse (listed p (met c f.brought r.askings t))) ≡ []
-  unsent_here k p id n none = ap (octets_of c k id n) (left_here p) ∙ fewer c (came p e.what h) r.askings k id n (reverse (listed p t)) (is.unsent k p id n none)
+  unsent_here k p id n none = ap (octets_of c k id n) (left_here p) ∙ fewer c (brought p) r.askings k id n (reverse (listed p t)) (is.unsent k p id n none)
 
   waits_here : (k p id n : ℕ) (a : Asking) → is_of_kind Stream (site p h) ≡ false → asking k (Came e ∷ h) ≡ Some a → octets_of c k id n (reverse (listed p (met c f.brought r.askings t))) ≡ unanswered c a.request p k id n (Came e ∷ h)
+  unfolding brought
   waits_here k p id n a non q = go (asking k h) refl
     where
       go : (o : Option Asking) → asking k h ≡ o → octets_of c k id n (reverse (listed p (met c f.brought r.askings t))) ≡ unanswered c a.request p k id n (Came e ∷ h)
       go None i =
           let none = first.unsent k p i in
-          unsent_here k p id n none ∙ (emptied (has_answer a.request id (came p e.what h)) ∙ sym (ap (λ os. if has_answer a.request id (came p e.what h) then [] else os) (unsent_none c a.request p k id n h none)))
+          unsent_here k p id n none ∙ (emptied (has_answer a.request id (brought p)) ∙ sym (ap (λ os. if has_answer a.request id (brought p) then [] else os) (unsent_none c a.request p k id n h none)))
       go (Some b) i =
           let same : b ≡ a = (let z : Some b ≡ Some a = sym (asking_came k b e h i) ∙ q in cc) in
           let j : asking k h ≡ Some a = i ∙ ap Some same in
           ap (octets_of c k id n) (left_here p)
-          ∙ (filtered c (came p e.what h) r.askings k id n a (kr.askings k ∙ q) (reverse (listed p t))
-          ∙ (ap (λ b. if b then [] else octets_of c k id n (reverse (listed p t))) (came_answered a.request id p e.what h non)
-          ∙ ap (λ os. if has_answer a.request id (came p e.what h) then [] else os) (is.waits k p id n a non j)))
+          ∙ (filtered c (brought p) r.askings k id n a (kr.askings k ∙ q) (reverse (listed p t))
+          ∙ (ap (λ b. if b then [] else octets_of c k id n (reverse (listed p t))) (answered_same a.request id (recv_size c) (came p e.what h))
+          ∙ ap (λ os. if has_answer a.request id (brought p) then [] else os) (is.waits k p id n a non j)))
 
 -- outs
 

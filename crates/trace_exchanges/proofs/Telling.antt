@@ -3,20 +3,18 @@ use Rattle.std.proofs.Common.{◌≡◌, ℕ, ◌+◌, ◌<◌, ◌==◌, ◌&&�
 use Rattle.std.proofs.lemmas.Bool.Decides.{nat_tests}
 use Rattle.number_table.specs.Entries.{entry_at}
 use Rattle.client_request.specs.Request.{Request}
-use Rattle.client_request.specs.declared.event.What.{What}
-use Rattle.client_request.specs.declared.event.What.TheVariants.{Ask, Opened, OpenFailed, SendFailed, ShortSend, Datagram, RecvFailed, Wrote, WriteFailed, Bytes, ReadFailed, Ended, Tick}
 use Rattle.client_request.specs.declared.event.Via.{Via}
 use Rattle.client_request.specs.declared.event.Via.TheVariants.{Dgram, Stream}
 use Rattle.dns_base.specs.Answering.{is_answer}
 use Rattle.right_trace.specs.Trace.{History, Conf, Came, Put}
-use Rattle.right_trace.specs.Time.{now, newest, row_before, stream_timeout, read_timeout}
+use Rattle.right_trace.specs.Time.{now, newest, row_before, stream_timeout, read_timeout, recv_size}
 use Rattle.right_trace.specs.Messages.{Octets, answers, id_in}
 use Rattle.right_trace.specs.Requests.{Asking, start}
 use Rattle.right_trace.specs.Places.{Site, site, stand, Alive, is_alive, is_of_kind}
 use Rattle.right_trace.specs.Parts.{IsIn}
-use Rattle.right_trace.specs.Frames.{fed, reading, is_bad, came, came_here, first_with}
+use Rattle.right_trace.specs.Frames.{is_bad, came, came_here, received, first_with}
 use Rattle.right_trace.specs.Writes.{waiting_with}
-use Rattle.right_trace.specs.Exchanges.{Stands, IsAmong, Comes, first_of, waited_for, is_before, unanswered, octets_for}
+use Rattle.right_trace.specs.Exchanges.{Stands, IsAmong, Comes, first_datagram, first_of, waited_for, is_before, unanswered, octets_for}
 use Rattle.trace_tables.specs.declared.books.Books.{Books}
 use Rattle.trace_tables.specs.declared.places.Place.{Place}
 use Rattle.trace_tables.specs.declared.sends.Sent.{Sent}
@@ -56,37 +54,22 @@ answer_is : (r : Request) (id : ℕ) (m : Octets) → is_answer id r.base m ≡ 
 unfolding answers
 answer_is r id m = refl
 
--- a datagram has a whole header
-long_datagram : (p : ℕ) (w : What) (h : History) (m : Octets) (ms : List Octets) → is_of_kind Stream (site p h) ≡ false → came p w h ≡ m ∷ ms → nat_lt (length m) 12 ≡ false
-long_datagram p (Datagram q o) h m ms non e = go ((q == p) && (is_alive (stand p h) && (is_of_kind Dgram (site p h) && nat_le 12 (length (take 2000 o))))) refl e
-  where
-    not_short : (n : ℕ) → nat_le 12 n ≡ true → nat_lt n 12 ≡ false
-    not_short n e = grind (arith, nat_tests)
+-- what is read of datagrams has a whole header
+not_short : (n : ℕ) → nat_le 12 n ≡ true → nat_lt n 12 ≡ false
+not_short n e = grind (arith, nat_tests)
 
-    go : (b : Bool) → ((q == p) && (is_alive (stand p h) && (is_of_kind Dgram (site p h) && nat_le 12 (length (take 2000 o))))) ≡ b → (if b then take 2000 o ∷ [] else []) ≡ m ∷ ms → nat_lt (length m) 12 ≡ false
-    go true i e =
-        let l = both (is_of_kind Dgram (site p h)) (nat_le 12 (length (take 2000 o))) (both (is_alive (stand p h)) _ (both (q == p) _ i).1).1 in
-        let same : take 2000 o ≡ m = cc in
-        subst (λ m. nat_lt (length m) 12 ≡ false) same (not_short (length (take 2000 o)) l.1)
-    go false i e = absurd (cc)
-long_datagram p (Bytes q o) h m ms non e = absurd (none (fed (reading p h) o).frames (q == p) (is_alive (stand p h)) (is_of_kind Stream (site p h)) non e)
+long_read : (n : ℕ) (os : List Octets) (m : Octets) (rest : List Octets) → received n os ≡ m ∷ rest → nat_lt (length m) 12 ≡ false
+long_read n [] m rest e = absurd (cc)
+long_read n (o ∷ os) m rest e = go (nat_le 12 (length (take n o))) refl (long_read n os m rest) e
   where
-    none : (fs : List Octets) (a b d : Bool) → d ≡ false → (if a && (b && d) then fs else []) ≡ m ∷ ms → ⊥
-    none fs true true true f e = cc
-    none fs true true false f e = cc
-    none fs true false d f e = cc
-    none fs false b d f e = cc
-long_datagram p (Ask q) h m ms non e = absurd (cc)
-long_datagram p (Opened q) h m ms non e = absurd (cc)
-long_datagram p (OpenFailed q f) h m ms non e = absurd (cc)
-long_datagram p (SendFailed q f) h m ms non e = absurd (cc)
-long_datagram p (ShortSend q) h m ms non e = absurd (cc)
-long_datagram p (RecvFailed q f) h m ms non e = absurd (cc)
-long_datagram p (Wrote q n) h m ms non e = absurd (cc)
-long_datagram p (WriteFailed q f) h m ms non e = absurd (cc)
-long_datagram p (ReadFailed q f) h m ms non e = absurd (cc)
-long_datagram p (Ended q) h m ms non e = absurd (cc)
-long_datagram p Tick h m ms non e = absurd (cc)
+    go : (b : Bool) → nat_le 12 (length (take n o)) ≡ b → (received n os ≡ m ∷ rest → nat_lt (length m) 12 ≡ false) → (if b then take n o ∷ received n os else received n os) ≡ m ∷ rest → nat_lt (length m) 12 ≡ false
+    go true i more e = (let same : take n o ≡ m = cc in subst (λ m. nat_lt (length m) 12 ≡ false) same (not_short (length (take n o)) i))
+    go false i more e = more e
+
+-- nothing is read where nothing came
+some_came : (n : ℕ) (os : List Octets) (m : Octets) (rest : List Octets) → received n os ≡ m ∷ rest → (o : Octets) × IsIn o os
+some_came n [] m rest e = absurd (cc)
+some_came n (o ∷ os) m rest e = (o, inl refl)
 
 alive_is : (x : Seen) → is_alive (stand_of x) ≡ true → stand_of x ≡ Alive
 alive_is seen.Opening e = absurd (cc)
@@ -156,20 +139,20 @@ module _ (c : Conf) (want : Option ℕ) (bp : Books) (op : Open) (l : Ledger) (p
       agreeing = answer_is on.asking_of.request id m;
     })
 
-    of_datagrams : x.via ≡ Dgram → IsIn z (in_datagrams c want bp op l x p ms) → IsComing c past h z
-    of_datagrams kind i = go ms refl i
+    of_datagrams : x.via ≡ Dgram → IsIn z (in_datagrams c want bp op l x p (received (recv_size c) ms)) → IsComing c past h z
+    of_datagrams kind i = go (received (recv_size c) ms) refl i
       where
         dgram : site p past ≡ Some (record { via = Dgram; server = x.server })
         dgram = sited ∙ ap (λ v. Some (record { via = v; server = x.server })) kind
 
-        on_one : (m : Octets) (rest : List Octets) → ms ≡ m ∷ rest → (y : Sent) → IsIn y (listed p op) → (b : Bool) → nat_lt l.books.requests.clock (y.moment + read_timeout c) ≡ b → (if b then comes_for c want bp x p y.request y.id y.octets m else None) ≡ Some z → IsComing c past h z
+        on_one : (m : Octets) (rest : List Octets) → received (recv_size c) ms ≡ m ∷ rest → (y : Sent) → IsIn y (listed p op) → (b : Bool) → nat_lt l.books.requests.clock (y.moment + read_timeout c) ≡ b → (if b then comes_for c want bp x p y.request y.id y.octets m else None) ≡ Some z → IsComing c past h z
         on_one m rest s y there false young e = absurd (cc)
         on_one m rest s y there true young e = coming_on Dgram kind y.request y.id y.octets m (comes_so c want bp x p y.request y.id y.octets m z e)
             (λ a q. subst (IsAmong y.octets) (ko.waits y.request p y.id (now h) a (no_stream (site p past) x.server dgram) (sym (kp.requests.askings y.request) ∙ q))
             (so_sent c (now h) y (reverse (listed p op)) (reverse_in y (listed p op) there) (ap (λ n. nat_lt n (y.moment + read_timeout c)) (sym time) ∙ young)))
-            (ap (first_of c Dgram y.id) s)
+            (ap first_datagram s)
 
-        go : (os : List Octets) → ms ≡ os → IsIn z (in_datagrams c want bp op l x p os) → IsComing c past h z
+        go : (os : List Octets) → received (recv_size c) ms ≡ os → IsIn z (in_datagrams c want bp op l x p os) → IsComing c past h z
         go [] s i = absurd i
         go (m ∷ rest) s i = long (nat_lt (length m) 12) i
           where
@@ -271,7 +254,7 @@ module _ (c : Conf) (want : Option ℕ) (bp : Books) (op : Open) (l : Ledger) (p
             (subst (λ d. IsIn z (if d then by_kind c v want bp op l x p b.frames else [])) (sym known)
             (subst (λ ms. IsIn z (by_kind c v want bp op l x p ms)) (sym w) found)))
 
-    list_of : (ms : List Octets) → first_of c Dgram id ms ≡ Some m → (rest : List Octets) × (ms ≡ m ∷ rest)
+    list_of : (ms : List Octets) → first_datagram ms ≡ Some m → (rest : List Octets) × (ms ≡ m ∷ rest)
     list_of [] e = absurd (cc)
     list_of (a ∷ rest) e = (rest, let s : a ≡ m = cc in ap (λ a. a ∷ rest) s)
 
@@ -279,7 +262,7 @@ module _ (c : Conf) (want : Option ℕ) (bp : Books) (op : Open) (l : Ledger) (p
     unfolding x
     by_datagram kind =
         let first : first_of c Dgram id (came p (newest h) past) ≡ Some m = ap (λ v. first_of c v id (came p (newest h) past)) (sym kind) ∙ comes.first in
-        let ms = list_of (came p (newest h) past) first in
+        let ms = list_of (received (recv_size c) (came p (newest h) past)) first in
         let dgram : site p past ≡ Some (record { via = Dgram; server = s }) = comes.is_open.stands.at ∙ ap (λ v. Some (record { via = v; server = s })) kind in
         let non = no_stream (site p past) s dgram in
         let sent : IsAmong comes.is_open.octets (unanswered c r p k id (now h) past) = subst (λ v. IsAmong comes.is_open.octets (waited_for c v r s p k id (now h) [] past h)) kind comes.is_open.sent in
@@ -289,10 +272,12 @@ module _ (c : Conf) (want : Option ℕ) (bp : Books) (op : Open) (l : Ledger) (p
         ∙ (ap₂ (λ j i. comes_for c want bp x p j i y.send.octets m) y.is_request y.is_id
         ∙ (ap (λ o. comes_for c want bp x p k id o m) y.is_octets ∙ so_comes c want bp x p k id comes.is_open.octets m z on)) in
         let there = found_back (on_send c want bp x p l.books.requests.clock m) z y.send (listed p op) (in_reverse y.send (listed p op) y.there) found in
-        let long = long_datagram p (newest h) past m ms.0 non ms.1 in
-        brought_there l.frames.brought refl (m ∷ ms.0) ms.1 m (inl refl)
-        (subst (λ v. IsIn z (by_kind c v want bp op l x p (m ∷ ms.0))) (sym kind)
-        (subst (λ b. IsIn z (if b then [] else on_sends c want bp x p l.books.requests.clock m (listed p op))) (sym long) there))
+        let long = long_read (recv_size c) (came p (newest h) past) m ms.0 ms.1 in
+        let some = some_came (recv_size c) (came p (newest h) past) m ms.0 ms.1 in
+        brought_there l.frames.brought refl (came p (newest h) past) refl some.0 some.1
+        (subst (λ v. IsIn z (by_kind c v want bp op l x p (came p (newest h) past))) (sym kind)
+        (subst (λ os. IsIn z (in_datagrams c want bp op l x p os)) (sym ms.1)
+        (subst (λ b. IsIn z (if b then [] else on_sends c want bp x p l.books.requests.clock m (listed p op))) (sym long) there)))
 
     first_in : (ms : List Octets) → first_with id ms ≡ Some m → IsIn m ms
     first_in [] e = absurd (cc)

@@ -6,10 +6,10 @@ use Rattle.client_request.specs.declared.event.Event.{Event}
 use Rattle.client_request.specs.declared.event.Out.{Out}
 use Rattle.client_request.specs.declared.event.Out.TheVariants.{Start, OpenDgram, OpenStream, Send, Write, Resume, Close, Stale, Reply}
 use Rattle.right_trace.specs.Trace.{History, Came, Put, Conf}
-use Rattle.right_trace.specs.Time.{now, read_timeout}
+use Rattle.right_trace.specs.Time.{now, read_timeout, recv_size}
 use Rattle.right_trace.specs.Messages.{Octets}
 use Rattle.right_trace.specs.Parts.{IsIn}
-use Rattle.right_trace.specs.Frames.{came, came_here, brings}
+use Rattle.right_trace.specs.Frames.{came, came_here, brings, received}
 use Rattle.right_trace.specs.Writes.{Written, waiting_with}
 use Rattle.right_trace.specs.Exchanges.{has_answer, unanswered, octets_for, IsAmong}
 use Rattle.trace_tables.specs.Lists.{listed, adds}
@@ -33,7 +33,7 @@ written_unless false k o ws i = i
 
 known_event : (conf : Conf) (h : History) (t : Exchanged) (e : Event) → Known conf h t → Known conf (Came e ∷ h) t
 known_event conf h t e is = record {
-  sends = λ r k p id n o i. is.sends r k p id n o (unless (has_answer r id (came p e.what h)) o (unanswered conf r p k id n h) i);
+  sends = λ r k p id n o i. is.sends r k p id n o (unless (has_answer r id (received (recv_size conf) (came p e.what h))) o (unanswered conf r p k id n h) i);
   writes = λ ms k p id o i. is.writes (came_here p h) k p id o (written_unless (brings id ms) k o (waiting_with (came_here p h) p id h) i);
 }
 

@@ -96,7 +96,7 @@ module _ (c : Conf) (k n : ℕ) (bp bh : Books) (x h : History) (kp : books.Know
       let l = lost_so c n bp.places (last_at s.0 ts) q.1 in
       record {
         server = s.0;
-        six = sym (kh.sends.counts k s.0) ∙ same_number (count_at s.0 ts) (max_tries c) q.0;
+        all = sym (kh.sends.counts k s.0) ∙ same_number (count_at s.0 ts) (max_tries c) q.0;
         last = l.last;
         is_last = sym (kh.sends.lasts k s.0) ∙ l.is;
         old = l.old;
@@ -104,12 +104,12 @@ module _ (c : Conf) (k n : ℕ) (bp bh : Books) (x h : History) (kp : books.Know
       }
 
   so_tries : TriesAreUp c k n x h → tries_are_up c k n bp.places bh ≡ true
-  unfolding read_timeout
+  unfolding read_timeout max_tries
   so_tries t =
       let ts = listed k bh.sends.tries in
-      let six : count_at t.server ts ≡ max_tries c = kh.sends.counts k t.server ∙ t.all in
-      up_some c n bp.places ts ts t.server 5 six
-      (all (count_at t.server ts == max_tries c) _ (ap (λ m. m == max_tries c) six)
+      let count : count_at t.server ts ≡ max_tries c = kh.sends.counts k t.server ∙ t.all in
+      up_some c n bp.places ts ts t.server c.transports.dgram_max_retries count
+      (all (count_at t.server ts == max_tries c) _ (ap (λ m. m == max_tries c) count ∙ own (max_tries c))
       (so_lost c n bp.places (last_at t.server ts) (record { last = t.last; is = kh.sends.lasts k t.server ∙ t.is_last; old = t.old; lived = lived t.last.place ∙ t.lived })))
 
 pub tells_tries : (c : Conf) (k n : ℕ) (past here : Books) (b : Bool) → b ≡ tries_are_up c k n past.places here → TellsTries c k n past here b

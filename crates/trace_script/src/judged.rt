@@ -44,7 +44,7 @@ pub fn conf_of(
     ensures { IfOk result (λ c. c ≡ plain.conf_of conf.now transports) }
 {
     let uses = uses_of(alloc, conf.options.use_vc, conf.servers.as_slice())?;
-    Ok(TraceConf::new(uses, conf.options.timeout, transports))
+    Ok(TraceConf::new(alloc, uses, conf.options.timeout, transports))
 }
 
 /// What the settings of the choice among servers defer, and how long the cache may keep what.
