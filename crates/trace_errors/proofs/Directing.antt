@@ -37,7 +37,8 @@ second_true : (a b : Bool) → b ≡ true → (a || b) ≡ true
 second_true true b e = refl
 second_true false b e = e
 
-asked_is : (k : ℕ) (h : History) → is_asked_here k h ≡ (is_ask (newest h) && (asks (row_before h) == k))
+-- whether a row asks a request is told by its event
+pub asked_is : (k : ℕ) (h : History) → is_asked_here k h ≡ (is_ask (newest h) && (asks (row_before h) == k))
 asked_is k [] = refl
 asked_is k (Came e ∷ h) = refl
 asked_is k (Put o ∷ h) = asked_is k h

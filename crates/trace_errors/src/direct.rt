@@ -15,8 +15,8 @@ use trace_promptness::{Heards, TraceSettings};
 use trace_questions::TraceConf;
 use trace_tables::{Asked, Books};
 
-/// Whether the row asks a request.
-fn is_asked_here(past: &Books, what: &What, request: u64) -> bool
+/// Whether a row with this event asks a request: `past` is what was known before it.
+pub fn is_asked_here(past: &Books, what: &What, request: u64) -> bool
     ensures { result ≡ plain.asked_here request what.now past.now }
 {
     matches!(what, What::Ask { .. }) && past.requests.asked == request

@@ -300,7 +300,8 @@ fn is_known_place(conf: &TraceConf, place: &Place) -> bool
     matches!(place.stand, Stand::Alive) && conf.has_server(place.server)
 }
 
-fn find(
+/// The messages that come in a row for one request, or for all, as the walk over what its event brought finds them.
+pub fn all_coming(
     alloc: Global,
     conf: &TraceConf,
     wanted: Option<u64>,
@@ -350,5 +351,5 @@ pub fn find_coming(
 ) -> Result<Seq<Coming>, NoMemory>
     ensures { IfOk result (plain.TellsComing conf.now wanted past.now sent.now here.now) }
 {
-    find(alloc, conf, wanted, past, sent, here)
+    all_coming(alloc, conf, wanted, past, sent, here)
 }

@@ -29,6 +29,6 @@ mod coming;
 mod laws;
 mod open;
 
-pub use coming::{Coming, find_coming};
+pub use coming::{Coming, all_coming, find_coming};
 pub use laws::{open_sends_go_on, right_rows_ask};
 pub use open::{Open, meet_open, put_open};
