@@ -32,7 +32,7 @@ at_least_is v l h = ap (λ b. greater_by (cond b Less (cond (v == l) Equal Great
     go true e = refl
     go false e = refl
 
-limited_is : (l g v : ℕ) → l ≤ v → v ≤ g → limited nat_cmp l g v ≡ v
+pub limited_is : (l g v : ℕ) → l ≤ v → v ≤ g → limited nat_cmp l g v ≡ v
 limited_is l g v low high = ap (λ x. greater_by (nat_cmp x l) x l) (at_most_is v g high) ∙ at_least_is v l low
 
 -- a time within its limits, of whole seconds, stays as it is
@@ -54,7 +54,7 @@ number_back : (n : ℕ) → n < 2 ^ 64 → number_of 18446744073709551615 (decim
 number_back n h = decimal_is_number 18446744073709551615 n (omega arith) (omega (arith, h))
 
 -- a line of a setting is taken as what it says
-setting_taken : (name word : List ℕ) (conf : ResolvConf) (before after : Settings) (ws : List ℕ) → IsWord name → IsWord word → sets (name ∷ word ∷ []) before ≡ Some after
+pub setting_taken : (name word : List ℕ) (conf : ResolvConf) (before after : Settings) (ws : List ℕ) → IsWord name → IsWord word → sets (name ∷ word ∷ []) before ≡ Some after
     → TakesLines (join_with_byte 32 (codes "set" ∷ name ∷ word ∷ []) ∷ []) (reader_at conf before ws) (reader_at conf after ws)
 setting_taken name word conf before after ws n w set =
     let words : AreWords (name ∷ word ∷ []) = (n, (w, tt)) in

@@ -88,7 +88,7 @@ fn check(script: &Script) -> Result<(), Untold>
 fn script_is_in_range(script: &Script)
     ensures { IsInRange script.now }
 {
-    head_is_in_range(&script.conf, script.words.as_slice());
+    head_is_in_range(&script.conf, &script.transports, script.words.as_slice());
     events_are_in_range(first_lane(script));
 }
 
@@ -101,6 +101,7 @@ fn text_of(alloc: Global, script: &Script) -> Result<Vec<u8>, NoMemory>
         &script.conf,
         script.redundant,
         &script.cache,
+        &script.transports,
         script.words.as_slice(),
     )?;
     push_lines(alloc, &mut text, first_lane(script))?;
