@@ -1,5 +1,5 @@
 -- The settings of a datagram transport: times in microseconds, sizes in octets.
-use Rattle.std.specs.Prelude.{ℕ, ◌<◌, ◌≤◌, Unit, Option, Some, None}
+use Rattle.std.specs.Prelude.{ℕ, ◌<◌, ◌≤◌, Option, Some, None}
 
 pub record Settings : Type 0 where
   pub max_parallel : ℕ

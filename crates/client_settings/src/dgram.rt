@@ -1,6 +1,6 @@
 //! The settings of a datagram transport.
 
-ghost use Rattle.std.specs.Prelude.{◌≡◌, Option, Some, Ok};
+ghost use Rattle.std.specs.Prelude.{◌≡◌, ◌<◌, Option, Some, Ok};
 ghost use Rattle.std.specs.Ordering.{nat_cmp};
 ghost use Rattle.client_request.specs.Limits.{limited};
 ghost use Rattle.client_settings.specs.Dgram.{AreLimited, Settings, default_settings};
@@ -77,15 +77,23 @@ impl Default for Config {
     }
 }
 
+/// A payload size has two octets.
+fn size_is_short(size: u16)
+    ensures { size < 65536 }
+{
+    let _size = size;
+}
+
 impl Config {
     /// There is a place at least, and an answer is waited for, whatever was set.
     pub fn are_limited(&self)
         ensures { AreLimited self.now }
     {
-        let _ = (&self.max_parallel, &self.read_timeout);
+        let _places = self.max_parallel;
+        let _time = self.read_timeout;
         match self.udp_payload_size {
             None => {}
-            Some(_size) => {}
+            Some(size) => size_is_short(size),
         }
     }
 
