@@ -28,8 +28,8 @@ pub settings_given : (c : Conf) (t : Transports) → AreLimited t → AreGiven (
 unfolding read_timeout response_timeout idle_timeout stream_timeout max_places recv_size
 settings_given c t h =
     let places : t.dgram.max_parallel ≡ above 0 t.dgram.max_parallel = above_same 0 t.dgram.max_parallel h.0.0 in
-    let reads : t.dgram.read_timeout ≡ above 999 t.dgram.read_timeout = above_same 999 t.dgram.read_timeout h.0.1.0 in
-    let size : t.dgram.udp_payload_size ≡ sized t.dgram.udp_payload_size = sized_same t.dgram.udp_payload_size h.0.1.1 in
+    let reads : t.dgram.read_timeout ≡ above 999 t.dgram.read_timeout = above_same 999 t.dgram.read_timeout h.0.1 in
+    let size : t.dgram.udp_payload_size ≡ sized t.dgram.udp_payload_size = sized_same t.dgram.udp_payload_size h.0.2 in
     let waits : t.multi_stream.response_timeout ≡ above 999 t.multi_stream.response_timeout = above_same 999 t.multi_stream.response_timeout h.1.0 in
     let answers : t.multi_stream.stream.response_timeout ≡ above 999 t.multi_stream.stream.response_timeout = above_same 999 t.multi_stream.stream.response_timeout h.1.1 in
     (λ i. record t.dgram { max_parallel = places i; read_timeout = reads i; udp_payload_size = size i },

@@ -1,5 +1,7 @@
 -- The settings of transports as a client is given them, beside those of which the headline speaks.
-use Rattle.std.specs.Prelude.{◌≡◌, ℕ, zero, suc, Bool, true, false, nat_lt, if◌then◌else◌, Option, Some, None, refl}
+use Rattle.std.specs.Prelude.{◌≡◌, ℕ, suc, Bool, true, false, nat_lt, if◌then◌else◌, Option, Some, None, refl}
+use Rattle.std.proofs.Common.{arith}
+use Rattle.std.proofs.lemmas.Bool.{lt-ltb}
 use Rattle.client_settings.specs.Dgram as dgram
 use Rattle.client_settings.specs.MultiStream as multi_stream
 use Rattle.client_settings.specs.Stream as stream
@@ -35,8 +37,7 @@ abbrev pub above : (least n : ℕ) → ℕ
 above least n = if nat_lt least n then n else suc least
 
 next-above : (n : ℕ) → nat_lt n (suc n) ≡ true
-next-above zero = refl
-next-above (suc n) = next-above n
+next-above n = lt-ltb n (suc n) (omega arith)
 
 pub above-is : (least n : ℕ) → nat_lt least (above least n) ≡ true
 above-is least n = go (nat_lt least n) refl

@@ -11,7 +11,6 @@ pub fn first_settings_are_given()
 {}
 
 /// All settings that a client can be given are those of a configuration.
-#[tactic(auto, using(crate::proofs::Told::settings_given))]
 pub fn settings_are_told()
     ensures { (c : Conf) (t : Transports) → AreLimited t → AreGiven (record c { transports = told t }) t }
 {}
