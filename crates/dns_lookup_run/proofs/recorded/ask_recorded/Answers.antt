@@ -1,4 +1,5 @@
 use Rattle.std.proofs.Common.{◌≡◌, ℕ, List, [], ap, inl, refl, sym, subst, arith}
+use Rattle.client_settings.specs.Client.{default_transports}
 use Rattle.client_steps.specs.Whole.{started}
 use Rattle.dns_record.specs.Recording as recording
 use Rattle.dns_record.specs.Recording.{IsRefused, opening}
@@ -16,7 +17,7 @@ returns-in-Err-clause-ends g c =
     subst (λ (r : Recorded g.row.R.Denot). AskedEnd g.L.Sink.held g.L.Sink.faults g.R.Sink.held g.R.Sink.faults c.args.lookup.now c.args.conf.now r.status.0 c.args.errors.now c.tell_unrecorded.new.errors c.args.file r.sink old new) (sym c.without.ensures)
     (refused_end g.L.Sink.held g.L.Sink.faults g.R.Sink.held g.R.Sink.faults c.args.lookup.now c.args.conf.now c.tell_unrecorded.result.0 c.args.errors.now c.tell_unrecorded.new.errors c.args.file c.begin-begun.new.sink old new
     c.practical_choice-choice.result c.new-cache.result c.practical_choice-choice.ensures c.new-cache.ensures c.in-Err.refused
-    (with_ahead (λ (ws : List ℕ). IsRefused c.in-Err.refused c.args.conf.now c.practical_choice-choice.result c.new-cache.result ws (g.R.Sink.faults c.args.file) (g.R.Sink.faults c.begin-begun.new.sink)) old.words c.ahead.result.count c.in-Err.ensures.refused (ap (λ (a : Ahead). a.count) c.ahead.ensures))
+    (with_ahead (λ (ws : List ℕ). IsRefused c.in-Err.refused c.args.conf.now c.practical_choice-choice.result c.new-cache.result default_transports ws (g.R.Sink.faults c.args.file) (g.R.Sink.faults c.begin-begun.new.sink)) old.words c.ahead.result.count c.in-Err.ensures.refused (ap (λ (a : Ahead). a.count) c.ahead.ensures))
     c.tell_unrecorded.ensures.status c.tell_unrecorded.ensures.said)
 
 pub returns-clause-ends : goal.returns-clause-ends
@@ -27,7 +28,7 @@ returns-clause-ends g c =
     (asked_end g.L.Sink.held g.L.Sink.faults g.R.Sink.held g.R.Sink.faults c.args.lookup.now c.args.conf.now c.ask_all-status.result.0 c.args.errors.now c.ask_all-status.new.errors c.args.file c.ask_all-status.new.rng.sink old new
     c.practical_choice-choice.result c.new-cache.result c.practical_choice-choice.ensures c.new-cache.ensures c.in-Ok.recorder c.begin-begun.new.sink c.ask_all-status.new.rng refl
     (with_ahead (λ (ws : List ℕ). c.in-Ok.recorder.words ≡ ws) old.words c.ahead.result.count c.in-Ok.ensures.words (ap (λ (a : Ahead). a.count) c.ahead.ensures))
-    (with_ahead (λ (ws : List ℕ). recording.Recorded (opening c.args.conf.now c.practical_choice-choice.result c.new-cache.result ws (g.R.Sink.held c.args.file)) [] (g.R.Sink.held c.begin-begun.new.sink) c.in-Ok.recorder
+    (with_ahead (λ (ws : List ℕ). recording.Recorded (opening c.args.conf.now c.practical_choice-choice.result c.new-cache.result default_transports ws (g.R.Sink.held c.args.file)) [] (g.R.Sink.held c.begin-begun.new.sink) c.in-Ok.recorder
     (started c.practical_choice-choice.result c.new-cache.result c.args.conf.now)) old.words c.ahead.result.count c.in-Ok.ensures.begun (ap (λ (a : Ahead). a.count) c.ahead.ensures))
     c.record_law.ensures
     c.ask_all-status.ensures.statuses c.ask_all-status.ensures.ends c.ask_all-status.ensures.quiet c.ask_all-status.ensures.unwritten c.ask_all-status.ensures.stops c.ask_all-status.ensures.made)
