@@ -56,7 +56,6 @@ impl TraceConf {
     }
 
     /// Whether a number is one of a server.
-
     pub fn has_server(&self, server: u32) -> bool
         ensures { result ≡ nat_lt server (length self.now.servers) }
     {
