@@ -9,9 +9,7 @@ use command_parts::conf_at;
 use dns_base::{Duration, NoMemory};
 use forward_words::{Announced, Options, Policy};
 use resolv_conf::ResolvConf;
-use resolver_policy::{
-    announcing, practical, practical_choice, practical_transports, with_places,
-};
+use resolver_policy::{announcing, practical, practical_choice, practical_transports, with_places};
 use std::alloc::Global;
 
 /// For how long an answer that has expired is given in practice where the servers fail, in seconds: a day (RFC 8767 5).

@@ -27,9 +27,7 @@ use command_parts::statuses::NO_MEMORY;
 use dns_base::Status;
 use dns_record::{Ahead, Recorder, Refused, record_law};
 use dns_values::{Sink, Source};
-use forward_conf::{
-    Cause, conf_asked, end_because, end_delivered, settings_of, tell_unasked,
-};
+use forward_conf::{Cause, conf_asked, end_because, end_delivered, settings_of, tell_unasked};
 use forward_run::{Front, Watch, answered_line, begin_front, stopped_by};
 use forward_words::{Asked, Options, command_of};
 use front_steps::Forwarder;

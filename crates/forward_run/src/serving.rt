@@ -27,8 +27,7 @@ use command_parts::statuses::{NO_MEMORY, USAGE};
 use dns_base::{IpAddr, NoMemory, Status};
 use dns_values::{Sink, Source};
 use forward_conf::{
-    Cause, Unheard, asked_itself, conf_asked, end_because, end_delivered, settings_of,
-    tell_unasked,
+    Cause, Unheard, asked_itself, conf_asked, end_because, end_delivered, settings_of, tell_unasked,
 };
 use forward_words::{Asked, Options, asked_by, command_of};
 use front_core::Forwarder;

@@ -31,6 +31,7 @@ settings_given c t h =
     let reads : t.dgram.read_timeout ≡ above 999 t.dgram.read_timeout = above_same 999 t.dgram.read_timeout h.0.1 in
     let size : t.dgram.udp_payload_size ≡ sized t.dgram.udp_payload_size = sized_same t.dgram.udp_payload_size h.0.2 in
     let waits : t.multi_stream.response_timeout ≡ above 999 t.multi_stream.response_timeout = above_same 999 t.multi_stream.response_timeout h.1.0 in
-    let answers : t.multi_stream.stream.response_timeout ≡ above 999 t.multi_stream.stream.response_timeout = above_same 999 t.multi_stream.stream.response_timeout h.1.1 in
-    (λ i. record t.dgram { max_parallel = places i; read_timeout = reads i; udp_payload_size = size i },
-    λ i. record t.multi_stream { response_timeout = waits i; stream = record t.multi_stream.stream { response_timeout = answers i } })
+    let answers : t.multi_stream.stream.response_timeout ≡ above 999 t.multi_stream.stream.response_timeout = above_same 999 t.multi_stream.stream.response_timeout h.1.1 in (
+      λ i. record t.dgram { max_parallel = places i; read_timeout = reads i; udp_payload_size = size i },
+      λ i. record t.multi_stream { response_timeout = waits i; stream = record t.multi_stream.stream { response_timeout = answers i } },
+    )

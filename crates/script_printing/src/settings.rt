@@ -170,13 +170,7 @@ fn push_size(alloc: Global, text: &mut Vec<u8>, size: Option<u16>) -> Result<(),
             text.extend_from_slice(b"set dgram-udp-payload-size none\n")?;
             Ok(())
         }
-        Some(size) => push_number(
-            alloc,
-            text,
-            "dgram-udp-payload-size",
-            1232,
-            u64::from(size),
-        ),
+        Some(size) => push_number(alloc, text, "dgram-udp-payload-size", 1232, u64::from(size)),
     }
 }
 
@@ -202,11 +196,7 @@ fn push_dgrams(alloc: Global, text: &mut Vec<u8>, d: &dgram::Config) -> Result<(
 }
 
 /// Adds the lines of streams.
-fn push_streams(
-    alloc: Global,
-    text: &mut Vec<u8>,
-    m: &multi_stream::Config,
-) -> Result<(), NoMemory>
+fn push_streams(alloc: Global, text: &mut Vec<u8>, m: &multi_stream::Config) -> Result<(), NoMemory>
     ensures { OnOk result (text.new.items ≡ text.old.items ++ flat_map ended (stream_lines m.now)) }
 {
     let frame = m.stream().response_timeout();

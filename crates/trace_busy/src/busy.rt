@@ -240,14 +240,7 @@ impl<'a> Scene<'a> {
     {
         for written in writes {
             if written.request == request
-                && self.carries(
-                    alloc,
-                    Via::Stream,
-                    asked,
-                    request,
-                    id,
-                    &written.octets,
-                )?
+                && self.carries(alloc, Via::Stream, asked, request, id, &written.octets)?
             {
                 return Ok(true);
             }
@@ -462,11 +455,7 @@ impl<'a> Scene<'a> {
         Ok(self.some_serves_of(request))
     }
 
-    fn all_busy(
-        &self,
-        alloc: Global,
-        requests: &Members,
-    ) -> Result<bool, NoMemory>
+    fn all_busy(&self, alloc: Global, requests: &Members) -> Result<bool, NoMemory>
         ensures { IfOk result (λ b. b ≡ plain.all_busy self.now.conf.now self.now requests.now) }
     {
         for (request, _) in requests {

@@ -147,12 +147,7 @@ impl Waits {
     }
 
     /// An out is put, over the requests as they were.
-    pub fn put(
-        &mut self,
-        conf: &TraceConf,
-        requests: &Requests,
-        out: &Out,
-    ) -> Result<(), NoMemory>
+    pub fn put(&mut self, conf: &TraceConf, requests: &Requests, out: &Out) -> Result<(), NoMemory>
         ensures { OnOk result (self.new ≡ plain.has_put conf.now out.now requests.now self.old) }
     {
         match out {

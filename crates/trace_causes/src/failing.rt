@@ -74,12 +74,7 @@ fn server_at(places: &NumberTable<Place>, number: u64) -> Option<u32>
 }
 
 /// Whether a request was sent at a place that is alive, of a server that has it.
-fn is_hit(
-    conf: &TraceConf,
-    past: &Books,
-    request: u64,
-    place: u64,
-) -> Result<bool, NoMemory>
+fn is_hit(conf: &TraceConf, past: &Books, request: u64, place: u64) -> Result<bool, NoMemory>
     ensures { IfOk result (λ b. b ≡ plain.is_hit conf.now past.now request place) }
 {
     let Some(server) = server_at(&past.places, place) else {

@@ -124,7 +124,7 @@ module _ (c : Conf) (s : Settings) (k : ℕ) (done : Bool) (xs : List Coming) (f
     so_first d a (FirstEarlier w) =
         let x = known.first k m (earlier_so (FirstRow c k m) h (λ w. none_at_first c k m w.0) w) in
         let passes : failed_first s x.0 ≡ true =
-            all x.0.first _ x.3 (all (is_failing_message x.0.message) (is_deferred s x.0.message) (ap is_failing_message x.2 ∙ fails) (ap (is_deferred s) x.2 ∙ d)) in
+        all x.0.first _ x.3 (all (is_failing_message x.0.message) (is_deferred s x.0.message) (ap is_failing_message x.2 ∙ fails) (ap (is_deferred s) x.2 ∙ d)) in
         late_so a (second_true (list_any (fails_for k) xs && not (counted k f)) _ (so_any (failed_first s) x.0 (listed k f) x.1 passes))
 
     so_fresh : (b : Bool) → is_deferred s m ≡ b → IsFresh c s k m (row_before h) (newest h) h → (is_deferred s m ≡ true → AllAreDone c k (row_before h) (newest h) h × CameFirst c k m (row_before h) (newest h) h) → message_fails s k done xs f ≡ true

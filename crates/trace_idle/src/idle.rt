@@ -32,11 +32,7 @@ fn note(idle: &mut Idle, place: u64, time: Duration) -> Result<(), NoMemory>
 }
 
 /// A row begins, and what the one before brought is taken.
-pub fn meet_idle(
-    usual: Duration,
-    idle: &mut Idle,
-    before: &Option<Brought>,
-) -> Result<(), NoMemory>
+pub fn meet_idle(usual: Duration, idle: &mut Idle, before: &Option<Brought>) -> Result<(), NoMemory>
     ensures { OnOk result (idle.new ≡ plain.met usual before.now idle.old) }
 {
     let Some(brought) = before else {

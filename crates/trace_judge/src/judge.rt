@@ -107,12 +107,7 @@ impl Judge {
     }
 
     /// The row is done, and what was known before it goes over it.
-    fn end(
-        &mut self,
-        rules: &Rules,
-        row: &Row,
-        comings: &[Coming],
-    ) -> Result<(), NoMemory>
+    fn end(&mut self, rules: &Rules, row: &Row, comings: &[Coming]) -> Result<(), NoMemory>
         ensures { OnOk result (plain.Ends rules.now row.now comings.now self.old self.new) }
     {
         self.past.take(

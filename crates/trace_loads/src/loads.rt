@@ -121,13 +121,7 @@ impl Loads {
     }
 
     /// A live place is there.
-    fn give(
-        &mut self,
-        conf: &TraceConf,
-        via: Via,
-        server: u32,
-        place: u64,
-    ) -> Result<(), NoMemory>
+    fn give(&mut self, conf: &TraceConf, via: Via, server: u32, place: u64) -> Result<(), NoMemory>
         ensures { OnOk result (self.new ≡ plain.gives conf.now via server place self.old) }
     {
         match via {
@@ -140,13 +134,7 @@ impl Loads {
     }
 
     /// A place is live no more.
-    fn take(
-        &mut self,
-        conf: &TraceConf,
-        via: Via,
-        server: u32,
-        place: u64,
-    ) -> Result<(), NoMemory>
+    fn take(&mut self, conf: &TraceConf, via: Via, server: u32, place: u64) -> Result<(), NoMemory>
         ensures { OnOk result (self.new ≡ plain.takes conf.now via server place self.old) }
     {
         match via {
@@ -159,12 +147,7 @@ impl Loads {
     }
 
     /// A request waits at a server.
-    fn wait_at(
-        &mut self,
-        conf: &TraceConf,
-        server: u32,
-        request: u64,
-    ) -> Result<(), NoMemory>
+    fn wait_at(&mut self, conf: &TraceConf, server: u32, request: u64) -> Result<(), NoMemory>
         ensures { OnOk result (self.new ≡ plain.waits_at conf.now server request self.old) }
     {
         join(&mut self.demand, conf.alloc(), u64::from(server), request)?;
@@ -172,12 +155,7 @@ impl Loads {
     }
 
     /// A request waits there no more.
-    fn go_from(
-        &mut self,
-        conf: &TraceConf,
-        server: u32,
-        request: u64,
-    ) -> Result<(), NoMemory>
+    fn go_from(&mut self, conf: &TraceConf, server: u32, request: u64) -> Result<(), NoMemory>
         ensures { OnOk result (self.new ≡ plain.goes_from conf.now server request self.old) }
     {
         leave(&mut self.demand, conf.alloc(), u64::from(server), request)?;
@@ -200,12 +178,7 @@ impl Loads {
     }
 
     /// A place that opens fails.
-    fn fail(
-        &mut self,
-        conf: &TraceConf,
-        place: Option<&Place>,
-        number: u64,
-    ) -> Result<(), NoMemory>
+    fn fail(&mut self, conf: &TraceConf, place: Option<&Place>, number: u64) -> Result<(), NoMemory>
         ensures { OnOk result (self.new ≡ plain.fails conf.now number (option_copied place.entry) self.old) }
     {
         let Some(place) = place else {
@@ -292,12 +265,7 @@ impl Loads {
     }
 
     /// A request has a reply.
-    fn reply(
-        &mut self,
-        conf: &TraceConf,
-        requests: &Requests,
-        request: u64,
-    ) -> Result<(), NoMemory>
+    fn reply(&mut self, conf: &TraceConf, requests: &Requests, request: u64) -> Result<(), NoMemory>
         ensures { OnOk result (self.new ≡ plain.goes_from_all conf.now request (listed request requests.now.starts) self.old) }
     {
         match requests.starts.get(request) {
@@ -318,24 +286,10 @@ impl Loads {
     {
         match out {
             Out::OpenDgram { place, server } => {
-                self.open(
-                    conf,
-                    &books.places,
-                    what,
-                    Via::Dgram,
-                    *server,
-                    *place,
-                )
+                self.open(conf, &books.places, what, Via::Dgram, *server, *place)
             }
             Out::OpenStream { place, server } => {
-                self.open(
-                    conf,
-                    &books.places,
-                    what,
-                    Via::Stream,
-                    *server,
-                    *place,
-                )
+                self.open(conf, &books.places, what, Via::Stream, *server, *place)
             }
             Out::Close { place } => self.close(conf, books.places.get(*place), *place),
             Out::Start {

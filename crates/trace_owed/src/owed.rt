@@ -201,11 +201,7 @@ impl Drop for Asking<'_> {
 
 impl<'a> Asking<'a> {
     /// Whether a datagram is waited for.
-    fn waits_for_datagram(
-        &self,
-        conf: &TraceConf,
-        exchange: Exchange,
-    ) -> Result<bool, NoMemory>
+    fn waits_for_datagram(&self, conf: &TraceConf, exchange: Exchange) -> Result<bool, NoMemory>
         ensures { IfOk result (λ b. b ≡ plain.some_sent conf.now self.now.asked.now self.now.request exchange.id self.now.here.now.books.requests.clock (listed exchange.place self.now.sends.now)) }
     {
         let now = self.here.books.requests.clock;
@@ -282,11 +278,7 @@ impl<'a> Asking<'a> {
         self.owes_there(conf, exchange)
     }
 
-    fn some_owe(
-        &self,
-        conf: &TraceConf,
-        exchanges: &Newest<Exchange>,
-    ) -> Result<bool, NoMemory>
+    fn some_owe(&self, conf: &TraceConf, exchanges: &Newest<Exchange>) -> Result<bool, NoMemory>
         ensures { IfOk result (λ b. b ≡ plain.some_owe conf.now self.now.asked.now self.now.request self.now.what.now self.now.past.now self.now.here.now self.now.sends.now exchanges.now) }
     {
         for exchange in exchanges {
