@@ -23,7 +23,7 @@ use Rattle.forward_words.specs.declared.words.Asked.{Asked}
 use Rattle.resolv_conf.specs.declared.conf.ResolvConf.{ResolvConf}
 use Rattle.forward_record.specs.Core.{RecordedClient}
 use Rattle.forward_record.specs.Sentences.{unrecorded_line, unrecorded_sentence}
-use Rattle.forward_record.specs.Serving.{IsBegun, IsNotRecorded, IsNotRecordedIf, IsRefusalSaid, IsServed, IsRun, IsServedOf, words_ahead, words_behind}
+use Rattle.forward_record.specs.Serving.{IsBegun, IsNotRecorded, IsNotRecordedIf, IsRefusalSaid, IsServed, IsRun, IsServedOf, opening_of, words_ahead, words_behind}
 use Rattle.forward_record.specs.Turns.{Recorded, Turned, scene, within}
 use Rattle.forward_record.specs.declared.serving.Unserved.{Unserved}
 
@@ -68,7 +68,7 @@ served held options asked conf answered before first last old new words deeds po
     subst (λ (ws : ℕ → ℕ). Turned held asked.turns answered (scene first ws starts old.polls old.moments) (within last new)) words_are
     (subst (λ (ds : Option (List FrontDeed)). Turned held asked.turns answered (scene first words ds old.polls old.moments) (within last new)) told
     (subst (λ (n : ℕ). Turned held asked.turns answered (scene first words deeds n old.moments) (within last new)) same turned)) in
-    let o = opening conf (choice_of options.policy) (cache_of options) (words_ahead old.words) before in
+    let o = opening_of options conf (words_ahead old.words) before in
     record {
       first = first;
       is_begun = begins;
