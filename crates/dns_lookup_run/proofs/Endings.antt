@@ -10,16 +10,14 @@ use Rattle.client_loop.specs.Turns.{after_deeds}
 use Rattle.client_request.specs.declared.error.Error.{Error}
 use Rattle.client_request.specs.declared.error.Error.TheVariants.{NumbersUsed}
 use Rattle.client_request.specs.declared.event.Row.{Row}
-use Rattle.client_settings.specs.Settings.{default_cache}
-use Rattle.resolver_policy.specs.Practice.{practical_choice}
-use Rattle.client_steps.specs.Whole.{Whole, started}
+use Rattle.client_steps.specs.Whole.{Whole}
 use Rattle.command_parts.specs.Ends.{IsSaid}
 use Rattle.dns_lookup_pages.specs.declared.short.Lacking.{Lacking}
 use Rattle.dns_lookup_pages.specs.declared.short.Lacking.TheVariants as lacks
 use Rattle.dns_record.specs.Asking.{IsAnsweredAnd}
 use Rattle.dns_values.specs.Source.{Rose}
 use Rattle.dns_lookup_run.specs.Reports.{reports_text, tells, told_of}
-use Rattle.dns_lookup_run.specs.Worlds.{World, begun, is_message, said}
+use Rattle.dns_lookup_run.specs.Worlds.{World, begun, client_for, is_message, said}
 use Rattle.dns_lookup_run.specs.declared.watched_edge.Opened.{Opened}
 use Rattle.resolv_conf.specs.declared.server.ServerConf.{ServerConf}
 use Rattle.resolv_conf.specs.declared.conf.ResolvConf.{ResolvConf}
@@ -36,8 +34,8 @@ pub begins : (conf : ResolvConf) (client : Whole) (old : World) (deeds : Option 
     → HasBegun conf client old.deeds deeds old.polls polls → scene client old.words deeds waits polls old.moments ≡ begun conf old waits
 begins conf client old deeds waits polls h =
     ap (λ m. scene m old.words deeds waits polls old.moments) h.made
-    ∙ ap (λ d. scene (started practical_choice default_cache conf) old.words d waits polls old.moments) h.learned
-    ∙ ap (λ p. scene (started practical_choice default_cache conf) old.words (after_deeds (map (λ server. Learned server) conf.servers) old.deeds) waits p old.moments) h.polled
+    ∙ ap (λ d. scene (client_for conf) old.words d waits polls old.moments) h.learned
+    ∙ ap (λ p. scene (client_for conf) old.words (after_deeds (map (λ server. Learned server) conf.servers) old.deeds) waits p old.moments) h.polled
 
 -- where a request begins, and where one ends
 abbrev pub leaves : Whole → World → Option (List Deed) → (waits : Option (List ℕ)) → ℕ → Scene

@@ -54,8 +54,8 @@
 //! that they name, by their addresses with the default options, or what is found in the text that the source told,
 //! finalized; as it is asked in practice (`practical`, with the words that come), and with the words' family of addresses,
 //! port, time and streams (`IsConfOf`). The notes of it were told first. The edge learned its servers in order, and a new
-//! client with `practical_choice` was asked the requests one after another (`AreAnswered`, which is `IsAnswered` of
-//! `client_loop` for each). A sentence *was told* where it was written whole to the sink of errors, or its first octets and
+//! client with `practical_choice` and `practical_transports` was asked the requests one after another (`AreAnswered`, which
+//! is `IsAnswered` of `client_loop` for each). A sentence *was told* where it was written whole to the sink of errors, or its first octets and
 //! that sink's count of faults rose; and it was handed on, or that count rose (`line_flushed`). What is written of a
 //! message is only tested.
 //!
