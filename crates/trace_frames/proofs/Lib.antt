@@ -3,4 +3,3 @@ pub mod Knowing
 pub mod Writing
 pub mod Keeping
 pub mod Opening
-pub mod Receiving

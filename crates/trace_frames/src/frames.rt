@@ -66,7 +66,6 @@ fn cut(most: usize, octets: &Octets) -> Result<Octets, NoMemory>
 }
 
 /// What is read of datagrams, so many octets of each at most, where a header is left.
-#[tactic(auto, using(crate::proofs::Receiving::one_read, crate::proofs::Receiving::one_short))]
 pub fn received(alloc: Global, most: usize, datagrams: &[Octets]) -> Result<Seq<Octets>, NoMemory>
     ensures { IfOk result (λ read. read ≡ received most datagrams.now) }
 {
