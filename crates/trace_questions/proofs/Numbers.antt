@@ -25,7 +25,7 @@ module _ (servers : List ServerUse) (timeout : ℕ) (t : Transports) where
   size_is = refl
 
   pub announced_is : AreLimited t → t.dgram.udp_payload_size ≡ (conf_of servers timeout t).transports.dgram_udp_payload_size
-  announced_is h = sized_same t.dgram.udp_payload_size h.0.1.1
+  announced_is h = sized_same t.dgram.udp_payload_size h.0.2
 
   pub read_is : AreLimited t → t.dgram.read_timeout ≡ read_timeout (conf_of servers timeout t)
   read_is h = ap (λ d. d.read_timeout) (given h).0
