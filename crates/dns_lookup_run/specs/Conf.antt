@@ -27,6 +27,11 @@ abbrev pub timed : Option ℕ → ResolvConf → ResolvConf
 timed None conf = conf
 timed (Some seconds) conf = record conf { options = record conf.options { timeout = seconds * 1000000 } }
 
+-- a number of rounds in which servers are asked
+abbrev pub tried : Option ℕ → ResolvConf → ResolvConf
+tried None conf = conf
+tried (Some tries) conf = record conf { options = record conf.options { attempts = tries } }
+
 -- streams alone
 abbrev pub streamed : Bool → ResolvConf → ResolvConf
 streamed false conf = conf
@@ -66,6 +71,6 @@ IsBase (ip ∷ ips) told base = base ≡ record { conf = named (ip ∷ ips); not
 pub record IsConfOf (lookup : Lookup) (told : Option (List ℕ)) (words : ℕ → ℕ) (asked : Found) (left : ℕ → ℕ) : Type 0 where
   pub base : Found
   pub is_base : IsBase lookup.servers told base
-  pub conf : asked.conf ≡ conf_asked lookup (practical words base.conf)
+  pub conf : asked.conf ≡ conf_asked lookup (practical words (tried lookup.tries base.conf))
   pub notes : asked.notes ≡ base.notes
-  pub left_is : left ≡ words_left words base.conf
+  pub left_is : left ≡ words_left words (tried lookup.tries base.conf)

@@ -4,7 +4,7 @@ ghost use Rattle.std.specs.Prelude.{◌≡◌, ◌≢◌, ◌++◌, filter, map,
 ghost use Rattle.dns_values.specs.Source.{Rose};
 ghost use Rattle.command_parts.specs.Ends.{IsEarly, line_of, status_of};
 ghost use Rattle.resolv_conf.specs.Conf.{name_server};
-ghost use Rattle.dns_lookup_run.specs.Conf.{IsBase, IsConfOf, IsReadyIn, IsTooLong, conf_asked, is_of_family, is_v4, named, of_family, streamed, timed};
+ghost use Rattle.dns_lookup_run.specs.Conf.{IsBase, IsConfOf, IsReadyIn, IsTooLong, conf_asked, is_of_family, is_v4, named, of_family, streamed, timed, tried};
 
 use client_request::Words;
 use command_parts::{Ending, conf_at, says, statuses};
@@ -50,6 +50,17 @@ fn timed(seconds: Option<u64>, mut conf: ResolvConf) -> ResolvConf
         return conf;
     };
     conf.options.timeout = Duration::from_secs(seconds);
+    conf
+}
+
+/// With a number of rounds, if one is said.
+fn tried(tries: Option<u64>, mut conf: ResolvConf) -> ResolvConf
+    ensures { result ≡ tried tries conf }
+{
+    let Some(tries) = tries else {
+        return conf;
+    };
+    conf.options.attempts = tries as usize;
     conf
 }
 
@@ -173,7 +184,7 @@ pub(crate) fn conf_of<S: Source, W: Words>(
         Ok(base) => base,
         Err(ending) => return Err(ending),
     };
-    let conf = practical(alloc, conf, words)?;
+    let conf = practical(alloc, tried(lookup.tries, conf), words)?;
     Ok(Found {
         conf: conf_asked(lookup, conf),
         notes,

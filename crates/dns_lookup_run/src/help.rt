@@ -32,6 +32,7 @@ Servers:
   -4, -6          ask at addresses of IPv4 alone, or of IPv6
   +tcp, +vc       ask by streams alone
   +time=SECONDS   give a request so long, from 1 to 600; +timeout=SECONDS is the same
+  +tries=N        ask the servers in so many rounds, from 1 to 5
 
 What is asked:
   NAME            the name; the final dot may be left out, and no suffix is searched

@@ -7,7 +7,7 @@ use Rattle.dns_lookup_words.specs.declared.lacking.Lack.TheVariants as lacks
 use Rattle.dns_lookup_words.specs.declared.options.Flag.TheVariants as flags
 use Rattle.dns_lookup_words.specs.declared.options.Part.TheVariants as parts
 use Rattle.dns_lookup_words.specs.declared.options.Sets.{Sets}
-use Rattle.dns_lookup_words.specs.declared.options.Sets.TheVariants.{Absent, All, Already, Edns, Flag, Never, Part, Tcp, Time}
+use Rattle.dns_lookup_words.specs.declared.options.Sets.TheVariants.{Absent, All, Already, Edns, Flag, Never, Part, Tcp, Time, Tries}
 
 -- A name, how many of its first letters are enough, and what the option sets.
 abbrev pub Entry : Type 0
@@ -85,7 +85,7 @@ plus_options =
     ∷ (codes "timeout", 5, Time)
     ∷ (codes "tls", 2, Never lacks.Encryption)
     ∷ (codes "trace", 3, Never lacks.Walk)
-    ∷ (codes "tries", 3, Absent lacks.Tries)
+    ∷ (codes "tries", 3, Tries)
     ∷ (codes "ttlid", 4, Already lacks.Text)
     ∷ (codes "ttlunits", 4, Never lacks.Text)
     ∷ (codes "unknownformat", 3, Never lacks.Text)

@@ -45,6 +45,7 @@ wrong_text wrongs.Transfer = codes "is no type that one message answers"
 wrong_text wrongs.Class = codes "is no class"
 wrong_text wrongs.OtherClass = codes "is another class than IN, CH and HS"
 wrong_text wrongs.Time = codes "gives no seconds from 1 to 600"
+wrong_text wrongs.Tries = codes "gives no number of tries from 1 to 5"
 wrong_text wrongs.Option = codes "is no option"
 wrong_text (wrongs.Lacking lack) = lack_text lack
 wrong_text wrongs.Valued = codes "has a value, and its option takes none"

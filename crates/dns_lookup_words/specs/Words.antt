@@ -48,6 +48,7 @@ nothing_said = record {
   family = None;
   tcp = false;
   seconds = None;
+  tries = None;
   asks = [];
   name = None;
   asking = usual_asking;
@@ -87,6 +88,14 @@ time_given (Some seconds) said = Ok (record said { seconds = Some seconds })
 
 abbrev pub time_said : List ℕ → Said → Result Said Wrong
 time_said text said = time_given (number_in 600 text) said
+
+-- `+tries=NUMBER`, the last of which counts
+abbrev pub tries_given : Option ℕ → Said → Result Said Wrong
+tries_given None said = Err wrongs.Tries
+tries_given (Some tries) said = Ok (record said { tries = Some tries })
+
+abbrev pub tries_said : List ℕ → Said → Result Said Wrong
+tries_said text said = tries_given (number_in 5 text) said
 
 -- `@ADDRESS`, behind those that were said before
 abbrev pub with_server : IpAddr → Option ℕ → Said → Said
@@ -299,6 +308,7 @@ with_layout layout said = record said { asking = record said.asking { manner = r
 abbrev pub set_bare : Sets → Bool → Said → Result Said Wrong
 set_bare sets.Tcp on said = Ok (record said { tcp = on })
 set_bare sets.Time on said = Err wrongs.Time
+set_bare sets.Tries on said = Err wrongs.Tries
 set_bare (sets.Flag flag) on said = Ok (with_flags (flag_set flag on said.asking.manner.flags) said)
 set_bare (sets.Part part) on said = Ok (with_layout (part_set part on said.asking.manner.layout) said)
 set_bare sets.All on said = Ok (with_layout (all_set on said.asking.manner.layout) said)
@@ -307,9 +317,12 @@ set_bare (sets.Already lack) on said = only_on lack on said
 set_bare (sets.Never lack) on said = only_off lack on said
 set_bare (sets.Absent lack) on said = Err (wrongs.Lacking lack)
 
--- and with one, which time has, and the version of EDNS
+-- and with one, which time and tries have, and the version of EDNS
 abbrev pub time_valued : Bool → List ℕ → Said → Result Said Wrong
 time_valued on text said = if on then time_said text said else Err wrongs.Time
+
+abbrev pub tries_valued : Bool → List ℕ → Said → Result Said Wrong
+tries_valued on text said = if on then tries_said text said else Err wrongs.Tries
 
 abbrev pub version_said : List ℕ → Bool → Said → Result Said Wrong
 version_said text on said = only_on lacks.Extension (on && bytes_eq text (codes "0")) said
@@ -317,6 +330,7 @@ version_said text on said = only_on lacks.Extension (on && bytes_eq text (codes 
 abbrev pub set_valued : Sets → Bool → List ℕ → Said → Result Said Wrong
 set_valued sets.Tcp on text said = Err wrongs.Valued
 set_valued sets.Time on text said = time_valued on text said
+set_valued sets.Tries on text said = tries_valued on text said
 set_valued (sets.Flag flag) on text said = Err wrongs.Valued
 set_valued (sets.Part part) on text said = Err wrongs.Valued
 set_valued sets.All on text said = Err wrongs.Valued
@@ -389,6 +403,7 @@ named (Some name) said = Ok (record {
   family = said.family;
   tcp = said.tcp;
   seconds = said.seconds;
+  tries = said.tries;
   asks = said.asks ++ asks_of name said.asking;
 })
 

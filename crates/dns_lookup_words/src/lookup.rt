@@ -22,6 +22,8 @@ pub struct Lookup {
     pub tcp: bool,
     /// How long a request may take, in seconds, in place of what the configuration says.
     pub seconds: Option<u64>,
+    /// In how many rounds servers are asked, from 1 to 5, in place of what the configuration says.
+    pub tries: Option<u64>,
     /// The requests, in order, one at least: of a name without a type one for A, and then one for AAAA.
     pub asks: Seq<Ask>,
 }
@@ -38,6 +40,7 @@ fn named(alloc: Global, said: Said) -> Result<Lookup, Fault>
         family,
         tcp,
         seconds,
+        tries,
         mut asks,
         name,
         asking,
@@ -54,6 +57,7 @@ fn named(alloc: Global, said: Said) -> Result<Lookup, Fault>
             family,
             tcp,
             seconds,
+            tries,
             asks,
         }),
         Err(_) => Err(Fault::NoMemory),
@@ -88,10 +92,10 @@ fn said_by(alloc: Global, words: &[String]) -> Result<Said, Fault>
 /// A word that begins with `@` names a server by its address, in brackets or not, or this host by `localhost`, with `#PORT` behind it
 /// or not. One that begins with a plus is an option of `dig` or the first letters of one, `no` turns it off; one that begins with a
 /// hyphen is an option of one letter, whose value is glued to it or the next word. Behind `--` no word is an option. Any other word
-/// is the type or the class, where it names one, and else a name. Of several ports, types, classes or times the last counts.
+/// is the type or the class, where it names one, and else a name. Of several ports, types, classes, times or tries the last counts.
 ///
 /// What is said before the first name is said of all names, and what is said behind one of that name alone; but servers, the port,
-/// `-4` and `-6`, `+tcp` and `+time` are of all names wherever they stand, and servers behind a name are refused where another name
+/// `-4` and `-6`, `+tcp`, `+time` and `+tries` are of all names wherever they stand, and servers behind a name are refused where another name
 /// stands behind that. `Refused` names the first word that is wrong, or says which value or that a name is missing.
 pub fn lookup_of(alloc: Global, words: &[String]) -> Result<Lookup, Fault>
     ensures judged { IsJudged words.now result }

@@ -43,6 +43,8 @@ pub(crate) enum Sets {
     Tcp,
     /// How long a request may take.
     Time,
+    /// In how many rounds servers are asked.
+    Tries,
     /// What a request says.
     Flag(Flag),
     /// What is written of an answer.
@@ -129,7 +131,7 @@ const PLUS_OPTIONS: [Entry; 72] = [
     ("timeout", 5, Sets::Time),
     ("tls", 2, Sets::Never(Lack::Encryption)),
     ("trace", 3, Sets::Never(Lack::Walk)),
-    ("tries", 3, Sets::Absent(Lack::Tries)),
+    ("tries", 3, Sets::Tries),
     ("ttlid", 4, Sets::Already(Lack::Text)),
     ("ttlunits", 4, Sets::Never(Lack::Text)),
     ("unknownformat", 3, Sets::Never(Lack::Text)),

@@ -40,6 +40,7 @@ pub(crate) struct Said {
     pub(crate) family: Option<Family>,
     pub(crate) tcp: bool,
     pub(crate) seconds: Option<u64>,
+    pub(crate) tries: Option<u64>,
     /// The requests of the names that stand before the last.
     pub(crate) asks: Seq<Ask>,
     /// The last name.
@@ -136,6 +137,7 @@ impl Said {
             family: None,
             tcp: false,
             seconds: None,
+            tries: None,
             asks: Seq::new(alloc),
             name: None,
             asking: usual_asking(),

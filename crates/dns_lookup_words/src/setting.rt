@@ -2,7 +2,7 @@
 
 ghost use Rattle.std.specs.Prelude.{◌≡◌};
 ghost use Rattle.dns_lookup_words.specs.Asks.{all_set, flag_set, part_set};
-ghost use Rattle.dns_lookup_words.specs.Words.{Answers, only_off, only_on, set_bare, set_valued, time_said, version_said};
+ghost use Rattle.dns_lookup_words.specs.Words.{Answers, only_off, only_on, set_bare, set_valued, time_said, tries_said, version_said};
 
 use crate::lacking::Lack;
 use crate::manner::{Flags, Layout};
@@ -13,6 +13,9 @@ use crate::wrong::{WordFault, Wrong};
 
 /// The longest time, in seconds.
 const MOST_SECONDS: usize = 600;
+
+/// The most rounds in which servers are asked.
+const MOST_TRIES: usize = 5;
 
 /// What a request says, with one part set.
 fn flag_set(flag: Flag, on: bool, mut flags: Flags) -> Flags
@@ -76,6 +79,18 @@ impl Said {
         }
     }
 
+    fn take_tries(&mut self, text: &str) -> Result<(), WordFault>
+        ensures { Answers (λ o. o ≡ tries_said text.now self.old) result self.new }
+    {
+        match number_in(MOST_TRIES, text) {
+            Some(tries) => {
+                self.tries = Some(tries as u64);
+                Ok(())
+            }
+            None => Err(WordFault::Wrong(Wrong::Tries)),
+        }
+    }
+
     /// Asks for what is always done.
     fn keep_on(&mut self, lack: Lack, on: bool) -> Result<(), WordFault>
         ensures { Answers (λ o. o ≡ only_on lack on self.old) result self.new }
@@ -106,6 +121,7 @@ impl Said {
         match sets {
             Sets::Tcp => self.tcp = on,
             Sets::Time => return Err(WordFault::Wrong(Wrong::Time)),
+            Sets::Tries => return Err(WordFault::Wrong(Wrong::Tries)),
             Sets::Flag(flag) => manner.flags = flag_set(flag, on, manner.flags),
             Sets::Part(part) => manner.layout = part_set(part, on, manner.layout),
             Sets::All => manner.layout = all_set(on, manner.layout),
@@ -132,6 +148,8 @@ impl Said {
         match (sets, on) {
             (Sets::Time, true) => self.take_time(text),
             (Sets::Time, false) => Err(WordFault::Wrong(Wrong::Time)),
+            (Sets::Tries, true) => self.take_tries(text),
+            (Sets::Tries, false) => Err(WordFault::Wrong(Wrong::Tries)),
             (Sets::Edns, _) => self.take_version(text, on),
             (Sets::Never(lack), _) => Err(WordFault::Wrong(Wrong::Lacking(lack))),
             (Sets::Absent(lack), _) => Err(WordFault::Wrong(Wrong::Lacking(lack))),

@@ -36,6 +36,7 @@ fn wrong_text(wrong: Wrong) -> &'static str
         Wrong::Class => "is no class",
         Wrong::OtherClass => "is another class than IN, CH and HS",
         Wrong::Time => "gives no seconds from 1 to 600",
+        Wrong::Tries => "gives no number of tries from 1 to 5",
         Wrong::Option => "is no option",
         Wrong::Lacking(lack) => lack_text(lack),
         Wrong::Valued => "has a value, and its option takes none",

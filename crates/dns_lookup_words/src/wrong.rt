@@ -38,6 +38,8 @@ pub enum Wrong {
     OtherClass,
     /// What stands behind its `+time=` is no number from 1 to 600.
     Time,
+    /// What stands behind its `+tries=` is no number from 1 to 5.
+    Tries,
     /// It begins as an option does, and is none.
     Option,
     /// It is an option that dig has, and that is not to be had here.
