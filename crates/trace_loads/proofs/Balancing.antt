@@ -1,6 +1,6 @@
 -- Sets stay in order, and a server is noted just where its places are not met.
 use Rattle.std.proofs.Common.{◌≡◌, ℕ, suc, ◌≤◌, ◌==◌, ◌&&◌, not, Bool, true, false, List, [], ◌∷◌, length, Option, Some, None, if◌then◌else◌, refl, sym, ap, ap₂, ◌∙◌, subst, arith}
-use Rattle.std.specs.Prelude.{is_some}
+use Rattle.std.specs.Prelude.{◌||◌, is_some, min, nat_le}
 use Rattle.std.proofs.lemmas.Bool.Decides.{nat_tests}
 use Rattle.number_table.specs.Entries.{puts, frees, entry_at}
 use Rattle.client_request.specs.declared.event.What.{What}
@@ -9,6 +9,7 @@ use Rattle.client_request.specs.declared.event.Out.{Out}
 use Rattle.client_request.specs.declared.event.Out.TheVariants.{Start, OpenDgram, OpenStream, Send, Write, Resume, Close, Stale, Reply}
 use Rattle.client_request.specs.declared.event.Via.{Via}
 use Rattle.client_request.specs.declared.event.Via.TheVariants.{Dgram, Stream}
+use Rattle.right_trace.specs.Time.{max_places}
 use Rattle.trace_tables.specs.declared.books.Books.{Books}
 use Rattle.trace_tables.specs.declared.places.Place.{Place}
 use Rattle.trace_tables.specs.declared.places.Stand.{Stand as Seen}
@@ -71,9 +72,19 @@ checked c s t d u n r others = record {
 other_size : (s q : ℕ) (es : Members) (t : Sets) → (s == q) ≡ false → size q (puts s es (frees s t)) ≡ size q t
 other_size s q es t e = ap length (members_put s q es t ∙ ap (λ b. if b then es else members q t) e)
 
+-- where no request waits no place is asked for
+none_met : (c : Conf) (exact : Bool) → are_met c exact 0 0 ≡ true
+none_met c exact = ap (λ n. nat_le 0 n && (not exact || (0 == n))) (least (max_places c)) ∙ go exact
+  where
+    least : (n : ℕ) → min n 0 ≡ 0
+    least n = omega arith
+
+    go : (b : Bool) → (nat_le 0 0 && (not b || (0 == 0))) ≡ true
+    go true = refl
+    go false = refl
+
 pub nothing_well : (c : Conf) (exact : Bool) → Well c (record { dgrams = []; streams = []; demand = []; unmet = []; exact = exact })
-nothing_well c true = record { dgrams = goes_on.begins; streams = goes_on.begins; demand = goes_on.begins; unmet = λ s. refl; rise = tt }
-nothing_well c false = record { dgrams = goes_on.begins; streams = goes_on.begins; demand = goes_on.begins; unmet = λ s. refl; rise = tt }
+nothing_well c exact = record { dgrams = goes_on.begins; streams = goes_on.begins; demand = goes_on.begins; unmet = λ s. sym (ap not (none_met c exact)); rise = tt }
 
 gives_well : (c : Conf) (v : Via) (s p : ℕ) (t : Loads) → Well c t → Well c (gives c v s p t)
 gives_well c Dgram s p t w = checked c s (record t { dgrams = joins s p t.dgrams }) (goes_on.join s p t.dgrams w.dgrams) w.streams w.demand w.rise
