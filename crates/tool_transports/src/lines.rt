@@ -23,7 +23,13 @@ fn show_part(alloc: Global, word: &str, rest: &str, said: &mut String) -> Option
         "copy-error" => errors::show_of_copy(rest, said),
         "connector" => sockets::show_connector(alloc, rest, said),
         "socket" => sockets::show(alloc, rest, said),
-        _ => servers::show(alloc, word, rest, said),
+        "estimate" => servers::show_estimate(rest, said),
+        "serve-fail" => servers::show_failed(alloc, rest, said),
+        "below" => servers::show_below(alloc, rest, said),
+        "updates" => zones::show_updates(alloc, rest, said),
+        "zone" => zones::show_zone(alloc, rest, said),
+        "fetch" => zones::show_fetch(alloc, rest, said),
+        _ => resolving::show(alloc, word, rest, said),
     }
 }
 
@@ -32,12 +38,16 @@ fn show(alloc: Global, word: &str, rest: &str, said: &mut String) -> Option<()> 
         "dgram" | "fallback" | "choice" | "balancer" => telling::show(alloc, word, rest, said),
         "upstream" => upstreams::show(alloc, rest, said),
         "request" | "recorded" | "transfer" => asked::show(alloc, word, rest, said),
-        "client" | "clock" | "edge" | "fault" => clients::show(alloc, word, rest, said),
-        "ask" | "ask-long" | "ask-both" | "turn" | "learn" | "poor" => {
-            turns::show(alloc, word, rest, said)
-        }
-        "updates" | "zone" | "fetch" => zones::show(alloc, word, rest, said),
-        _ if word.starts_with("resolver") => resolving::show(alloc, word, rest, said),
+        "client" => clients::show_client(alloc, rest, said),
+        "clock" => clients::show_clock(alloc, rest, said),
+        "edge" => clients::show_edge(alloc, rest, said),
+        "fault" => clients::show_fault(alloc, rest, said),
+        "ask" => turns::show_ask(alloc, rest, said),
+        "ask-long" => turns::show_long(alloc, rest, said),
+        "ask-both" => turns::show_both(alloc, rest, said),
+        "turn" => turns::show_turn(alloc, rest, said),
+        "learn" => turns::show_learned(alloc, rest, said),
+        "poor" => turns::show_poor(alloc, rest, said),
         _ => show_part(alloc, word, rest, said),
     }
 }

@@ -30,7 +30,7 @@ mod upstreams;
 mod zones;
 
 use lets::Lets;
-use std::io::{self, Write};
+use std::io;
 use streams::Families;
 
 /// Whether a line prints nothing.
@@ -40,11 +40,11 @@ fn is_silent(line: &str) -> bool {
 
 /// Prints what a line shows.
 fn show(rt: &HostRuntime, lets: &mut Lets, families: &mut Families, line: &str) -> io::Result<()> {
-    if let Some(line) = line.strip_prefix("streams ") {
-        let text = families.text_of(rt.alloc(), line)?;
-        return rt.stdout().write_all(text.as_slice());
-    }
-    match lines::text_of(rt.alloc(), lets, line) {
+    let text = match line.strip_prefix("streams ") {
+        Some(line) => families.text_of(rt.alloc(), line),
+        None => lines::text_of(rt.alloc(), lets, line),
+    };
+    match text {
         Some(text) => print!(rt; "{text}"),
         None => println!(rt; "refused"),
     }
