@@ -6,6 +6,7 @@
 
 use crate::lets::Lets;
 use crate::reading::first_word;
+use crate::streams::Families;
 use crate::{
     asked, boards, clients, errors, resolving, servers, settings, sockets, telling, timers, turns,
     upstreams, zones,
@@ -42,8 +43,8 @@ fn show(alloc: Global, word: &str, rest: &str, said: &mut String) -> Option<()> 
         "clock" => clients::show_clock(alloc, rest, said),
         "edge" => clients::show_edge(alloc, rest, said),
         "fault" => clients::show_fault(alloc, rest, said),
-        "ask" => turns::show_ask(alloc, rest, said),
-        "ask-long" => turns::show_long(alloc, rest, said),
+        "ask" => turns::show_ask(alloc, rest, false, said),
+        "ask-long" => turns::show_ask(alloc, rest, true, said),
         "ask-both" => turns::show_both(alloc, rest, said),
         "turn" => turns::show_turn(alloc, rest, said),
         "learn" => turns::show_learned(alloc, rest, said),
@@ -52,26 +53,48 @@ fn show(alloc: Global, word: &str, rest: &str, said: &mut String) -> Option<()> 
     }
 }
 
-/// The line of what a line shows, whose names are spelled out.
-fn shown(alloc: Global, line: &str) -> Option<String> {
-    let (word, rest) = first_word(line);
-    let mut said = String::new(alloc);
-    show(alloc, word, rest, &mut said)?;
-    if said.is_empty() {
-        said.push_str("-").ok()?;
-    }
-    said.push_str("\n").ok()?;
-    Some(said)
+/// What lines go on with.
+pub struct Lines {
+    alloc: Global,
+    lets: Lets,
+    families: Families,
 }
 
-/// What a line prints.
-pub fn text_of(alloc: Global, lets: &mut Lets, line: &str) -> Option<String> {
-    let spelled = lets.spelled(line)?;
-    match spelled.as_str().strip_prefix("let ") {
-        None => shown(alloc, spelled.as_str()),
-        Some(put) => {
-            lets.put(put)?;
-            Some(String::new(alloc))
+impl Drop for Lines {
+    fn drop(self) {
+        let Lines {
+            alloc: _,
+            lets: _,
+            families: _,
+        } = self;
+    }
+}
+
+impl Lines {
+    pub fn new(alloc: Global) -> Lines {
+        Lines {
+            alloc,
+            lets: Lets::new(alloc),
+            families: Families::new(alloc),
         }
+    }
+
+    /// What a line prints.
+    pub fn text_of(&mut self, line: &str) -> Option<String> {
+        let mut said = String::new(self.alloc);
+        if let Some(line) = line.strip_prefix("streams ") {
+            self.families.show(self.alloc, line, &mut said)?;
+            return Some(said);
+        }
+        let spelled = self.lets.spelled(line)?;
+        let (word, rest) = first_word(spelled.as_str());
+        if word == "let" {
+            self.lets.put(rest)?;
+            return Some(said);
+        }
+        show(self.alloc, word, rest, &mut said)?;
+        said.push_str(if said.is_empty() { "-\n" } else { "\n" })
+            .ok()?;
+        Some(said)
     }
 }

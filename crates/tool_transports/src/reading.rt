@@ -50,8 +50,10 @@ pub fn what_of(alloc: Global, words: &str) -> Option<What> {
     Some(what)
 }
 
-/// The error that is put out first.
-fn error_in(trace: &Trace) -> Option<Error> {
+/// The error by the words of a trace.
+pub fn error_of(alloc: Global, words: &str) -> Option<Error> {
+    let row = format!(in alloc; "at 0 tick\n> reply 0 err {words}").ok()?;
+    let trace = trace_of(alloc, row.as_str())?;
     match trace.rows.as_slice().first()?.outs.as_slice().first()? {
         Out::Reply {
             result: Err(error),
@@ -59,12 +61,6 @@ fn error_in(trace: &Trace) -> Option<Error> {
         } => Some(*error),
         _ => None,
     }
-}
-
-/// The error by the words of a trace.
-pub fn error_of(alloc: Global, words: &str) -> Option<Error> {
-    let row = format!(in alloc; "at 0 tick\n> reply 0 err {words}").ok()?;
-    error_in(&trace_of(alloc, row.as_str())?)
 }
 
 /// The fault of a word of events.

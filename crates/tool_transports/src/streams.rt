@@ -93,26 +93,20 @@ impl Families {
         }
     }
 
-    /// Says what a line shows, whose names are spelled out.
-    fn show(&mut self, alloc: Global, line: &str, said: &mut String) -> Option<()> {
-        let (word, rest) = first_word(line);
-        match word {
-            "stream" => self.show_stream(alloc, rest, said),
-            "multi" => show_multi(alloc, rest, said),
-            "transfer" => self.watched.show(alloc, rest, said),
-            "let" => self.lets.put(rest),
-            _ => None,
-        }
-    }
-
-    /// What a line prints.
-    pub fn text_of(&mut self, alloc: Global, line: &str) -> Option<String> {
+    /// Says what a line shows.
+    pub fn show(&mut self, alloc: Global, line: &str, said: &mut String) -> Option<()> {
         let spelled = self.lets.spelled(line)?;
-        let mut said = String::new(alloc);
-        self.show(alloc, spelled.as_str(), &mut said)?;
-        if !said.is_empty() && !said.as_str().ends_with('\n') {
-            said.push_str("\n").ok()?;
+        let (word, rest) = first_word(spelled.as_str());
+        match word {
+            "stream" => self.show_stream(alloc, rest, said)?,
+            "multi" => show_multi(alloc, rest, said)?,
+            "transfer" => self.watched.show(alloc, rest, said)?,
+            "let" => self.lets.put(rest)?,
+            _ => return None,
         }
-        Some(said)
+        if said.is_empty() || said.as_str().ends_with('\n') {
+            return Some(());
+        }
+        said.push_str("\n").ok()
     }
 }

@@ -156,14 +156,6 @@ fn say_result(lent: &mut Lent, number: u64, said: &mut String) -> Option<()> {
     }
 }
 
-/// Says the moment at which the next timer is due, in microseconds.
-fn say_due(lent: &Lent, said: &mut String) -> Option<()> {
-    match lent.timers.next_due() {
-        Some((due, _)) => say_value(said, &due),
-        None => say(said, "none"),
-    }
-}
-
 /// Says the octets that were to be written last.
 fn say_written(lent: &Lent, said: &mut String) -> Option<()> {
     match lent.outs.as_slice().last() {
@@ -210,7 +202,10 @@ fn tell(
     let (word, rest) = first_word(words);
     match word {
         "result" => say_result(lent, number(rest)?, said),
-        "due" => say_due(lent, said),
+        "due" => match lent.timers.next_due() {
+            Some((due, _)) => say_value(said, &due),
+            None => say(said, "none"),
+        },
         "octets" => say_written(lent, said),
         _ if transport.tell_own(alloc, lent, words, said)? => Some(()),
         _ => say_outcome(said, told(alloc, transport, lent, words)?),

@@ -64,37 +64,34 @@ fn say_asked(said: &mut String, asked: &Result<Reply, Error>) -> Option<()> {
     }
 }
 
-pub fn show_ask(alloc: Global, rest: &str, said: &mut String) -> Option<()> {
+/// Asks within so many turns, or with as many as there may be.
+pub fn show_ask(alloc: Global, rest: &str, is_long: bool, said: &mut String) -> Option<()> {
     let (words, line) = rest.split_once(';')?;
-    let (request, rest) = first_word(words);
-    let (most, base) = first_word(rest);
     let mut stage = stage_of(alloc, line)?;
-    let asked = ask_within(
-        &mut stage.client,
-        &mut stage.edge,
-        &mut stage.clock,
-        &mut stage.words,
-        number(request)?,
-        request_of(alloc, base)?,
-        number(most)?,
-    );
+    let Stage {
+        client,
+        clock,
+        words: drawn,
+        edge,
+    } = &mut stage;
+    let asked = if is_long {
+        ask(client, edge, clock, drawn, 0, request_of(alloc, words)?)
+    } else {
+        let (request, rest) = first_word(words);
+        let (most, base) = first_word(rest);
+        let base = request_of(alloc, base)?;
+        ask_within(
+            client,
+            edge,
+            clock,
+            drawn,
+            number(request)?,
+            base,
+            number(most)?,
+        )
+    };
     say_asked(said, &asked)?;
-    say_edge(said, &stage.edge)
-}
-
-pub fn show_long(alloc: Global, rest: &str, said: &mut String) -> Option<()> {
-    let (base, line) = rest.split_once(';')?;
-    let mut stage = stage_of(alloc, line)?;
-    let asked = ask(
-        &mut stage.client,
-        &mut stage.edge,
-        &mut stage.clock,
-        &mut stage.words,
-        0,
-        request_of(alloc, base)?,
-    );
-    say_asked(said, &asked)?;
-    say_edge(said, &stage.edge)
+    say_edge(said, edge)
 }
 
 pub fn show_both(alloc: Global, rest: &str, said: &mut String) -> Option<()> {

@@ -37,20 +37,17 @@ fn say_update(said: &mut String, update: &Update) -> Option<()> {
     }
 }
 
-fn say_updates(said: &mut String, updates: &[Update]) -> Option<()> {
-    for update in updates {
-        say_update(said, update)?;
-    }
-    Some(())
-}
-
 pub fn show_updates(alloc: Global, line: &str, said: &mut String) -> Option<()> {
     let (kind, messages) = line.split_once(';')?;
     let mut interpreter = Interpreter::new(apex(alloc)?, kind_of(kind)?);
     for digits in messages.split(',') {
         let message = message_of(alloc, digits.trim())?;
         match interpreter.interpret(alloc, &message) {
-            Ok(updates) => say_updates(said, updates.as_slice())?,
+            Ok(updates) => {
+                for update in &updates {
+                    say_update(said, update)?;
+                }
+            }
             Err(fault) => say_name(said, &fault)?,
         }
     }

@@ -43,20 +43,6 @@ fn put_back(table: &mut Table, id: u16, said: &mut String) -> Option<()> {
     say_item(said, item)
 }
 
-fn say_slots(said: &mut String, slots: &[Option<u64>]) -> Option<()> {
-    for slot in slots {
-        say_item(said, *slot)?;
-    }
-    Some(())
-}
-
-fn drain(table: &mut Table, said: &mut String) -> Option<()> {
-    for item in table.drain().ok()?.as_slice() {
-        say_value(said, item)?;
-    }
-    Some(())
-}
-
 /// Says how many of so many items, which are numbered from 0, get their number for id, and how many are refused.
 fn fill(table: &mut Table, count: u64, said: &mut String) -> Option<()> {
     let mut given: u64 = 0;
@@ -78,8 +64,18 @@ fn tell(table: &mut Table, words: &str, said: &mut String) -> Option<()> {
         "put" => put_all(table, rest, said),
         "take" => take_all(table, rest, said),
         "back" => put_back(table, rest.parse::<u16>().ok()?, said),
-        "slots" => say_slots(said, table.slots()),
-        "drain" => drain(table, said),
+        "slots" => {
+            for slot in table.slots() {
+                say_item(said, *slot)?;
+            }
+            Some(())
+        }
+        "drain" => {
+            for item in table.drain().ok()?.as_slice() {
+                say_value(said, item)?;
+            }
+            Some(())
+        }
         "count" => say_value(said, &table.count()),
         "empty" => say_value(said, &table.is_empty()),
         "next" => say_item(said, table.next_id().map(u64::from)),
