@@ -54,15 +54,15 @@ fn show(alloc: Global, word: &str, rest: &str, said: &mut String) -> Option<()> 
 }
 
 /// What lines go on with.
-pub struct Lines {
+pub struct Printer {
     alloc: Global,
     lets: Lets,
     families: Families,
 }
 
-impl Drop for Lines {
+impl Drop for Printer {
     fn drop(self) {
-        let Lines {
+        let Printer {
             alloc: _,
             lets: _,
             families: _,
@@ -70,9 +70,9 @@ impl Drop for Lines {
     }
 }
 
-impl Lines {
-    pub fn new(alloc: Global) -> Lines {
-        Lines {
+impl Printer {
+    pub fn new(alloc: Global) -> Printer {
+        Printer {
             alloc,
             lets: Lets::new(alloc),
             families: Families::new(alloc),

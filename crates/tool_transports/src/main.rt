@@ -29,24 +29,24 @@ mod turns;
 mod upstreams;
 mod zones;
 
-use lines::Lines;
+use lines::Printer;
 use std::io;
 
 /// Prints what a line shows.
-fn show(rt: &HostRuntime, lines: &mut Lines, line: &str) -> io::Result<()> {
+fn show(rt: &HostRuntime, printer: &mut Printer, line: &str) -> io::Result<()> {
     if line.is_empty() || line.starts_with('#') {
         return Ok(());
     }
-    match lines.text_of(line) {
+    match printer.text_of(line) {
         Some(text) => print!(rt; "{text}"),
         None => println!(rt; "refused"),
     }
 }
 
 fn main(rt: HostRuntime) -> io::Result<()> {
-    let mut lines = Lines::new(rt.alloc());
+    let mut printer = Printer::new(rt.alloc());
     for line in rt.lines(rt.alloc()) {
-        show(&rt, &mut lines, line?.as_str())?;
+        show(&rt, &mut printer, line?.as_str())?;
     }
     Ok(())
 }

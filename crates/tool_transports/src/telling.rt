@@ -260,11 +260,13 @@ pub fn show_told(
             said.push_str(": ").ok()?;
         }
     }
-    let mut mark = "";
+    let mut is_behind = false;
     for part in behind.split('|') {
-        said.push_str(mark).ok()?;
+        if is_behind {
+            said.push_str(" | ").ok()?;
+        }
         show_part(alloc, transport, lent, part, said)?;
-        mark = " | ";
+        is_behind = true;
     }
     Some(())
 }
