@@ -29,20 +29,6 @@ impl Drop for Asked {
 }
 
 impl Asked {
-    fn base(&self) -> &Message {
-        match self {
-            Asked::Single(request) => request.base(),
-            Asked::Parts(request) => request.base(),
-        }
-    }
-
-    fn recorded_opt(&self) -> Option<OptRecord<'_>> {
-        match self {
-            Asked::Single(request) => request.recorded_opt(),
-            Asked::Parts(request) => request.recorded_opt(),
-        }
-    }
-
     fn try_clone(&self, alloc: Global) -> Result<Asked, NoMemory> {
         match self {
             Asked::Single(request) => Ok(Asked::Single(request.try_clone(alloc)?)),
@@ -71,21 +57,23 @@ impl Asked {
         Some(())
     }
 
-    fn tell_common(&mut self, alloc: Global, words: &str, said: &mut String) -> Option<()> {
-        match self {
-            Asked::Single(request) => tell(alloc, request, words, said),
-            Asked::Parts(request) => tell(alloc, request, words, said),
-        }
-    }
-
     fn tell(&mut self, alloc: Global, words: &str, said: &mut String) -> Option<()> {
         let (word, rest) = first_word(words);
         match word {
             "set-header-id" => self.set_header_id(rest),
-            "base" => say_octets(said, self.base().as_slice()),
-            "opt" => say_opt(said, self.recorded_opt()),
+            "base" => match self {
+                Asked::Single(request) => say_octets(said, request.base().as_slice()),
+                Asked::Parts(request) => say_octets(said, request.base().as_slice()),
+            },
+            "opt" => match self {
+                Asked::Single(request) => say_opt(said, request.recorded_opt()),
+                Asked::Parts(request) => say_opt(said, request.recorded_opt()),
+            },
             "octets" => self.say_octets(said),
-            _ => self.tell_common(alloc, words, said),
+            _ => match self {
+                Asked::Single(request) => tell(alloc, request, words, said),
+                Asked::Parts(request) => tell(alloc, request, words, said),
+            },
         }
     }
 
@@ -106,13 +94,6 @@ impl Asked {
         let mut copy = self.try_clone(alloc).ok()?;
         copy.tell_all(alloc, of_copy, said)?;
         self.tell_all(alloc, last, said)
-    }
-}
-
-fn say_message(said: &mut String, message: &Result<Message, Error>) -> Option<()> {
-    match message {
-        Ok(message) => say_octets(said, message.as_slice()),
-        Err(error) => say_name(said, error),
     }
 }
 
@@ -143,26 +124,6 @@ fn say_appended<R: Compose>(alloc: Global, request: &R, said: &mut String) -> Op
     say_octets(said, message.as_slice())
 }
 
-fn say_check(said: &mut String, check: Result<(), Error>) -> Option<()> {
-    match check {
-        Ok(()) => say(said, "ok"),
-        Err(error) => say_name(said, &error),
-    }
-}
-
-/// Adds an option.
-fn add_option<R: Compose>(
-    alloc: Global,
-    request: &mut R,
-    words: &str,
-    said: &mut String,
-) -> Option<()> {
-    let (code, digits) = first_word(words);
-    let octets = octets_of(alloc, digits)?;
-    let added = request.add_opt(code.parse::<u16>().ok()?, octets.as_slice());
-    say_outcome(said, added)
-}
-
 /// A call that changes a request.
 fn change<R: Compose>(
     alloc: Global,
@@ -175,7 +136,12 @@ fn change<R: Compose>(
         "set-id" => request.set_id(rest.parse::<u16>().ok()?),
         "set-size" => request.set_udp_payload_size(rest.parse::<u16>().ok()?),
         "set-dnssec" => request.set_dnssec_ok(true),
-        "add-option" => return add_option(alloc, request, rest, said),
+        "add-option" => {
+            let (code, digits) = first_word(rest);
+            let octets = octets_of(alloc, digits)?;
+            let added = request.add_opt(code.parse::<u16>().ok()?, octets.as_slice());
+            return say_outcome(said, added);
+        }
         _ => return None,
     }
     Some(())
@@ -185,9 +151,15 @@ fn change<R: Compose>(
 fn tell<R: Compose>(alloc: Global, request: &mut R, words: &str, said: &mut String) -> Option<()> {
     let (word, rest) = first_word(words);
     match word {
-        "message" => say_message(said, &request.to_message()),
+        "message" => match request.to_message() {
+            Ok(message) => say_octets(said, message.as_slice()),
+            Err(error) => say_name(said, &error),
+        },
         "append" => say_appended(alloc, request, said),
-        "check" => say_check(said, request.check_message()),
+        "check" => match request.check_message() {
+            Ok(()) => say(said, "ok"),
+            Err(error) => say_name(said, &error),
+        },
         "question" => say_question(alloc, request, said),
         "id" => say_value(said, &request.header().id()),
         "dnssec" => say_value(said, &request.dnssec_ok()),
@@ -201,23 +173,15 @@ fn made(alloc: Global, word: &str, words: &str) -> Option<Result<Asked, Error>> 
     let (base, other) = first_word(words);
     let base = message_of(alloc, base)?;
     match word {
-        "request" => Some(single(alloc, base)),
-        "transfer" => Some(parts(alloc, base)),
+        "request" => match RequestMessage::new(alloc, base) {
+            Ok(request) => Some(Ok(Asked::Single(request))),
+            Err(error) => Some(Err(error)),
+        },
+        "transfer" => match RequestMessageMulti::new(alloc, base) {
+            Ok(request) => Some(Ok(Asked::Parts(request))),
+            Err(error) => Some(Err(error)),
+        },
         _ => Some(Ok(recorded(alloc, base, other)?)),
-    }
-}
-
-fn single(alloc: Global, base: Message) -> Result<Asked, Error> {
-    match RequestMessage::new(alloc, base) {
-        Ok(request) => Ok(Asked::Single(request)),
-        Err(error) => Err(error),
-    }
-}
-
-fn parts(alloc: Global, base: Message) -> Result<Asked, Error> {
-    match RequestMessageMulti::new(alloc, base) {
-        Ok(request) => Ok(Asked::Parts(request)),
-        Err(error) => Err(error),
     }
 }
 

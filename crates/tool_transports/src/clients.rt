@@ -8,7 +8,7 @@
 use crate::memory::{client_of, clock_of, edge_of, event_of, say_edge, server_of};
 use crate::reading::{first_word, number, request_of, word_list};
 use crate::saying::{say_name, say_outcome, say_rows_out, say_value};
-use client_core::{Client, Clock, Edge, ListEdge, Out, is_fault};
+use client_core::{Client, Clock, Edge, Out, is_fault};
 use client_request::{Event, ListWords, Moment};
 use std::alloc::Global;
 
@@ -52,7 +52,7 @@ fn call(
     }
 }
 
-fn show_client(alloc: Global, rest: &str, said: &mut String) -> Option<()> {
+pub fn show_client(alloc: Global, rest: &str, said: &mut String) -> Option<()> {
     let (servers, line) = rest.split_once(';')?;
     let (words, calls) = line.split_once(';')?;
     let mut client = client_of(alloc, servers)?;
@@ -63,42 +63,27 @@ fn show_client(alloc: Global, rest: &str, said: &mut String) -> Option<()> {
     Some(())
 }
 
-fn show_clock(alloc: Global, words: &str, said: &mut String) -> Option<()> {
+pub fn show_clock(alloc: Global, words: &str, said: &mut String) -> Option<()> {
     let mut clock = clock_of(alloc, words)?;
     say_value(said, &clock.now().0)?;
     say_value(said, &clock.now().0)
 }
 
-fn use_edge(edge: &mut ListEdge, server: &str) -> Option<()> {
+pub fn show_edge(alloc: Global, rest: &str, said: &mut String) -> Option<()> {
+    let (server, events) = rest.split_once(';')?;
+    let mut edge = edge_of(alloc, events)?;
     edge.learn_server(&server_of(server)?).ok()?;
     edge.act(&Out::Close { place: 3 }).ok()?;
     edge.wait(7);
     edge.poll().ok()?;
     edge.poll().ok()?;
-    Some(())
-}
-
-fn show_edge(alloc: Global, rest: &str, said: &mut String) -> Option<()> {
-    let (server, events) = rest.split_once(';')?;
-    let mut edge = edge_of(alloc, events)?;
-    use_edge(&mut edge, server)?;
     say_edge(said, &edge)
 }
 
-fn show_fault(alloc: Global, words: &str, said: &mut String) -> Option<()> {
+pub fn show_fault(alloc: Global, words: &str, said: &mut String) -> Option<()> {
     let what = match words {
         "-" => None,
         _ => Some(event_of(alloc, words)?),
     };
     say_value(said, &is_fault(&what))
-}
-
-pub fn show(alloc: Global, word: &str, rest: &str, said: &mut String) -> Option<()> {
-    match word {
-        "client" => show_client(alloc, rest, said),
-        "clock" => show_clock(alloc, rest, said),
-        "edge" => show_edge(alloc, rest, said),
-        "fault" => show_fault(alloc, rest, said),
-        _ => None,
-    }
 }

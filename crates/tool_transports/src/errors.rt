@@ -3,22 +3,20 @@
 
 use crate::reading::error_of;
 use crate::saying::say_value;
-use client_request::{CopyRecordsError, Error, Fault, QueryError};
+use client_request::{CopyRecordsError, Error, Fault};
 use dns_base::PushError;
 use std::alloc::Global;
-
-fn show_try(said: &mut String, error: QueryError) -> Option<()> {
-    say_value(said, &error)?;
-    say_value(said, &error.kind())?;
-    say_value(said, &Fault::from(error))
-}
 
 /// Says the texts of a copy of an error.
 pub fn show(alloc: Global, words: &str, said: &mut String) -> Option<()> {
     let error = error_of(alloc, words)?.try_clone().ok()?;
     say_value(said, &error)?;
     match error {
-        Error::Dgram(error) => show_try(said, error),
+        Error::Dgram(error) => {
+            say_value(said, &error)?;
+            say_value(said, &error.kind())?;
+            say_value(said, &Fault::from(error))
+        }
         _ => Some(()),
     }
 }

@@ -1,21 +1,31 @@
 //! What is lent to a transport, and what stands there for its requests.
 
 use client_request::{Board, Cx, Error, ListWords, Moment, Outs, Pending, Timers, WordList};
+use client_stream::RequestMulti;
 use std::alloc::Global;
+
+/// What stands for the results of a request.
+#[derive(Drop)]
+pub enum Response {
+    Single(Pending),
+    Transfer(RequestMulti),
+}
 
 pub struct Lent {
     pub outs: Outs,
     pub board: Board,
     pub timers: Timers,
-    words: ListWords,
+    pub words: ListWords,
     /// The time, in microseconds.
     pub now: u64,
     /// The next free ticket and place.
     pub ticket: u64,
     pub place: u64,
+    /// Whether messages are said by their ids, as those that come by streams.
+    pub says_ids: bool,
     /// The tickets of the requests that were asked, in order, and what stands for the results of those that may be given up.
-    tickets: Vec<u64>,
-    pub responses: Vec<Option<Pending>>,
+    pub tickets: Vec<u64>,
+    pub responses: Vec<Option<Response>>,
 }
 
 impl Drop for Lent {
@@ -28,6 +38,7 @@ impl Drop for Lent {
             now: _,
             ticket: _,
             place: _,
+            says_ids: _,
             tickets: _,
             responses: _,
         } = self;
@@ -35,8 +46,8 @@ impl Drop for Lent {
 }
 
 impl Lent {
-    /// Behind these words come zeros.
-    pub fn new(alloc: Global, words: WordList) -> Lent {
+    /// What is lent to a transport whose next free place has a number. Behind the words come zeros.
+    pub fn new(alloc: Global, words: WordList, place: u64) -> Lent {
         Lent {
             outs: Outs::new(alloc),
             board: Board::new(alloc),
@@ -44,7 +55,8 @@ impl Lent {
             words: ListWords::new(words),
             now: 0,
             ticket: 0,
-            place: 0,
+            place,
+            says_ids: false,
             tickets: Vec::new(alloc),
             responses: Vec::new(alloc),
         }
@@ -74,7 +86,7 @@ impl Lent {
     }
 
     /// Counts a request that was asked under a ticket, and keeps what stands for its result.
-    pub fn keep(&mut self, ticket: u64, response: Option<Pending>) -> Result<(), Error> {
+    pub fn keep(&mut self, ticket: u64, response: Option<Response>) -> Result<(), Error> {
         if self.tickets.push(ticket).is_err() || self.responses.push(response).is_err() {
             return Err(Error::NoMemory);
         }

@@ -6,6 +6,7 @@
 
 use crate::lets::Lets;
 use crate::reading::first_word;
+use crate::streams::Families;
 use crate::{
     asked, boards, clients, errors, resolving, servers, settings, sockets, telling, timers, turns,
     upstreams, zones,
@@ -23,7 +24,13 @@ fn show_part(alloc: Global, word: &str, rest: &str, said: &mut String) -> Option
         "copy-error" => errors::show_of_copy(rest, said),
         "connector" => sockets::show_connector(alloc, rest, said),
         "socket" => sockets::show(alloc, rest, said),
-        _ => servers::show(alloc, word, rest, said),
+        "estimate" => servers::show_estimate(rest, said),
+        "serve-fail" => servers::show_failed(alloc, rest, said),
+        "below" => servers::show_below(alloc, rest, said),
+        "updates" => zones::show_updates(alloc, rest, said),
+        "zone" => zones::show_zone(alloc, rest, said),
+        "fetch" => zones::show_fetch(alloc, rest, said),
+        _ => resolving::show(alloc, word, rest, said),
     }
 }
 
@@ -32,36 +39,62 @@ fn show(alloc: Global, word: &str, rest: &str, said: &mut String) -> Option<()> 
         "dgram" | "fallback" | "choice" | "balancer" => telling::show(alloc, word, rest, said),
         "upstream" => upstreams::show(alloc, rest, said),
         "request" | "recorded" | "transfer" => asked::show(alloc, word, rest, said),
-        "client" | "clock" | "edge" | "fault" => clients::show(alloc, word, rest, said),
-        "ask" | "ask-long" | "ask-both" | "turn" | "learn" | "poor" => {
-            turns::show(alloc, word, rest, said)
-        }
-        "updates" | "zone" | "fetch" => zones::show(alloc, word, rest, said),
-        _ if word.starts_with("resolver") => resolving::show(alloc, word, rest, said),
+        "client" => clients::show_client(alloc, rest, said),
+        "clock" => clients::show_clock(alloc, rest, said),
+        "edge" => clients::show_edge(alloc, rest, said),
+        "fault" => clients::show_fault(alloc, rest, said),
+        "ask" => turns::show_ask(alloc, rest, false, said),
+        "ask-long" => turns::show_ask(alloc, rest, true, said),
+        "ask-both" => turns::show_both(alloc, rest, said),
+        "turn" => turns::show_turn(alloc, rest, said),
+        "learn" => turns::show_learned(alloc, rest, said),
+        "poor" => turns::show_poor(alloc, rest, said),
         _ => show_part(alloc, word, rest, said),
     }
 }
 
-/// The line of what a line shows, whose names are spelled out.
-fn shown(alloc: Global, line: &str) -> Option<String> {
-    let (word, rest) = first_word(line);
-    let mut said = String::new(alloc);
-    show(alloc, word, rest, &mut said)?;
-    if said.is_empty() {
-        said.push_str("-").ok()?;
-    }
-    said.push_str("\n").ok()?;
-    Some(said)
+/// What lines go on with.
+pub struct Printer {
+    alloc: Global,
+    lets: Lets,
+    families: Families,
 }
 
-/// What a line prints.
-pub fn text_of(alloc: Global, lets: &mut Lets, line: &str) -> Option<String> {
-    let spelled = lets.spelled(line)?;
-    match spelled.as_str().strip_prefix("let ") {
-        None => shown(alloc, spelled.as_str()),
-        Some(put) => {
-            lets.put(put)?;
-            Some(String::new(alloc))
+impl Drop for Printer {
+    fn drop(self) {
+        let Printer {
+            alloc: _,
+            lets: _,
+            families: _,
+        } = self;
+    }
+}
+
+impl Printer {
+    pub fn new(alloc: Global) -> Printer {
+        Printer {
+            alloc,
+            lets: Lets::new(alloc),
+            families: Families::new(alloc),
         }
+    }
+
+    /// What a line prints.
+    pub fn text_of(&mut self, line: &str) -> Option<String> {
+        let mut said = String::new(self.alloc);
+        if let Some(line) = line.strip_prefix("streams ") {
+            self.families.show(self.alloc, line, &mut said)?;
+            return Some(said);
+        }
+        let spelled = self.lets.spelled(line)?;
+        let (word, rest) = first_word(spelled.as_str());
+        if word == "let" {
+            self.lets.put(rest)?;
+            return Some(said);
+        }
+        show(self.alloc, word, rest, &mut said)?;
+        said.push_str(if said.is_empty() { "-\n" } else { "\n" })
+            .ok()?;
+        Some(said)
     }
 }

@@ -29,35 +29,24 @@ mod turns;
 mod upstreams;
 mod zones;
 
-use lets::Lets;
-use std::io::{self, Write};
-use streams::Families;
-
-/// Whether a line prints nothing.
-fn is_silent(line: &str) -> bool {
-    line.is_empty() || line.starts_with('#')
-}
+use lines::Printer;
+use std::io;
 
 /// Prints what a line shows.
-fn show(rt: &HostRuntime, lets: &mut Lets, families: &mut Families, line: &str) -> io::Result<()> {
-    if let Some(line) = line.strip_prefix("streams ") {
-        let text = families.text_of(rt.alloc(), line)?;
-        return rt.stdout().write_all(text.as_slice());
+fn show(rt: &HostRuntime, printer: &mut Printer, line: &str) -> io::Result<()> {
+    if line.is_empty() || line.starts_with('#') {
+        return Ok(());
     }
-    match lines::text_of(rt.alloc(), lets, line) {
+    match printer.text_of(line) {
         Some(text) => print!(rt; "{text}"),
         None => println!(rt; "refused"),
     }
 }
 
 fn main(rt: HostRuntime) -> io::Result<()> {
-    let mut lets = Lets::new(rt.alloc());
-    let mut families = Families::new(rt.alloc());
+    let mut printer = Printer::new(rt.alloc());
     for line in rt.lines(rt.alloc()) {
-        let line = line?;
-        if !is_silent(line.as_str()) {
-            show(&rt, &mut lets, &mut families, line.as_str())?;
-        }
+        show(&rt, &mut printer, line?.as_str())?;
     }
     Ok(())
 }

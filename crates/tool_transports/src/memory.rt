@@ -11,20 +11,17 @@ use dns_base::{IpAddr, SocketAddr};
 use resolv_conf::{ResolvConf, ServerConf, Transport};
 use std::alloc::Global;
 
-fn transport_of(word: &str) -> Option<Transport> {
-    match word {
-        "tcp" => Some(Transport::Tcp),
-        "both" => Some(Transport::UdpTcp),
-        _ => None,
-    }
-}
-
 /// A server at port 53.
 pub fn server_of(word: &str) -> Option<ServerConf> {
     let (transport, last) = word.split_once('-')?;
     let ip = IpAddr::V4([192, 0, 2, last.parse::<u8>().ok()?]);
     let addr = SocketAddr { ip, port: 53 };
-    Some(ServerConf::new(addr, transport_of(transport)?))
+    let transport = match transport {
+        "tcp" => Transport::Tcp,
+        "both" => Transport::UdpTcp,
+        _ => return None,
+    };
+    Some(ServerConf::new(addr, transport))
 }
 
 /// A configuration of the servers between blanks; `-` is none.
@@ -58,34 +55,27 @@ pub fn event_of(alloc: Global, words: &str) -> Option<What> {
     what_of(alloc, words)
 }
 
-fn polled(alloc: Global, words: &str) -> Option<Option<What>> {
-    match words {
-        "-" => Some(None),
-        _ => Some(Some(event_of(alloc, words)?)),
-    }
-}
-
 pub fn edge_of(alloc: Global, all: &str) -> Option<ListEdge> {
     let mut events = Vec::new(alloc);
     for words in all.split(',').filter(|words| !words.trim().is_empty()) {
-        events.push(polled(alloc, words.trim())?).ok()?;
+        let polled = match words.trim() {
+            "-" => None,
+            words => Some(event_of(alloc, words)?),
+        };
+        events.push(polled).ok()?;
     }
     Some(ListEdge::new(alloc, events))
-}
-
-fn say_deed(said: &mut String, deed: &Deed) -> Option<()> {
-    match deed {
-        Deed::Learned(server) => say_sentence(said, "learn", &server.addr),
-        Deed::Acted(out) => say_out(said, out),
-        Deed::Polled(Some(_)) => say(said, "event"),
-        Deed::Polled(None) => say(said, "none"),
-    }
 }
 
 /// Says what was done with an edge, and for how long it might wait, in microseconds.
 pub fn say_edge(said: &mut String, edge: &ListEdge) -> Option<()> {
     for deed in edge.deeds() {
-        say_deed(said, deed)?;
+        match deed {
+            Deed::Learned(server) => say_sentence(said, "learn", &server.addr)?,
+            Deed::Acted(out) => say_out(said, out)?,
+            Deed::Polled(Some(_)) => say(said, "event")?,
+            Deed::Polled(None) => say(said, "none")?,
+        }
     }
     for wait in edge.waits() {
         say_sentence(said, "wait", wait)?;

@@ -1,7 +1,7 @@
 //! What words say. Events, errors and faults are named as in a trace.
 
-use client_request::{Error, Fault, Out, RequestMessage, Trace, What, WordList};
-use dns_base::{Message, Octets};
+use client_request::{Error, Event, Fault, Out, RequestMessage, Trace, What, WordList};
+use dns_base::{Duration, Message, Octets};
 use dns_script::read_trace;
 use std::alloc::Global;
 
@@ -17,6 +17,11 @@ pub fn number(word: &str) -> Option<u64> {
     word.parse::<u64>().ok()
 }
 
+/// The time of so many microseconds.
+pub fn time_of(word: &str) -> Option<Duration> {
+    Some(Duration::from_micros(number(word)?))
+}
+
 /// The list of the numbers between blanks.
 pub fn word_list(alloc: Global, text: &str) -> Option<WordList> {
     let mut list = WordList::new(alloc);
@@ -28,19 +33,27 @@ pub fn word_list(alloc: Global, text: &str) -> Option<WordList> {
 
 /// The trace of one row, by its event and, behind a line feed, its out.
 fn trace_of(alloc: Global, row: &str) -> Option<Trace> {
-    let text = format!(in alloc; "trace 1\nat 0 {row}\nend\n").ok()?;
+    let text = format!(in alloc; "trace 1\n{row}\nend\n").ok()?;
     read_trace(alloc, text.as_str().as_bytes()).ok()
+}
+
+/// The event of a line of a trace.
+pub fn event_of(alloc: Global, line: &str) -> Option<Event> {
+    let trace = trace_of(alloc, line)?;
+    trace.rows.as_slice().first()?.event.try_clone(alloc).ok()
 }
 
 /// What happens by the words of a trace.
 pub fn what_of(alloc: Global, words: &str) -> Option<What> {
-    let trace = trace_of(alloc, words)?;
-    let row = trace.rows.as_slice().first()?;
-    row.event.what.try_clone(alloc).ok()
+    let line = format!(in alloc; "at 0 {words}").ok()?;
+    let Event { what, .. } = event_of(alloc, line.as_str())?;
+    Some(what)
 }
 
-/// The error that is put out first.
-fn error_in(trace: &Trace) -> Option<Error> {
+/// The error by the words of a trace.
+pub fn error_of(alloc: Global, words: &str) -> Option<Error> {
+    let row = format!(in alloc; "at 0 tick\n> reply 0 err {words}").ok()?;
+    let trace = trace_of(alloc, row.as_str())?;
     match trace.rows.as_slice().first()?.outs.as_slice().first()? {
         Out::Reply {
             result: Err(error),
@@ -48,12 +61,6 @@ fn error_in(trace: &Trace) -> Option<Error> {
         } => Some(*error),
         _ => None,
     }
-}
-
-/// The error by the words of a trace.
-pub fn error_of(alloc: Global, words: &str) -> Option<Error> {
-    let row = format!(in alloc; "tick\n> reply 0 err {words}").ok()?;
-    error_in(&trace_of(alloc, row.as_str())?)
 }
 
 /// The fault of a word of events.

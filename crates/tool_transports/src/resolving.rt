@@ -22,6 +22,10 @@ use stub_resolver::{
 
 type Scene = StubResolver<ListEdge, ListClock, ListWords>;
 
+fn name_of(alloc: Global, text: &str) -> Option<Name> {
+    Name::from_text(alloc, text).ok()
+}
+
 /// The type of a number.
 fn type_of(word: &str) -> Option<Rtype> {
     Some(Rtype(word.parse::<u16>().ok()?))
@@ -45,7 +49,7 @@ fn query<E: Edge + Drop, C: Clock + Drop, W: Words + Drop>(
     said: &mut String,
 ) -> Option<()> {
     let (name, rtype) = first_word(words);
-    let name = Name::from_text(alloc, name).ok()?;
+    let name = name_of(alloc, name)?;
     say_answer(said, &resolver.query(alloc, &name, type_of(rtype)?))
 }
 
@@ -57,7 +61,7 @@ fn both<E: Edge + Drop, C: Clock + Drop, W: Words + Drop>(
 ) -> Option<()> {
     let (name, rtypes) = first_word(words);
     let (one, other) = first_word(rtypes);
-    let name = Name::from_text(alloc, name).ok()?;
+    let name = name_of(alloc, name)?;
     let (first, second) = resolver.query_both(alloc, &name, type_of(one)?, type_of(other)?);
     say_answer(said, &first)?;
     say_answer(said, &second)
@@ -73,7 +77,7 @@ fn many<E: Edge + Drop, C: Clock + Drop, W: Words + Drop>(
     let mut questions = Vec::new(alloc);
     for question in words.split('/') {
         let (name, rtype) = first_word(question.trim());
-        let name = Name::from_text(alloc, name).ok()?;
+        let name = name_of(alloc, name)?;
         questions.push(Question::new(name, type_of(rtype)?)).ok()?;
     }
     match resolver.resolve_all(alloc, &questions) {
@@ -119,16 +123,6 @@ fn say_found<R: Resolver>(
     }
 }
 
-fn host<E: Edge + Drop, C: Clock + Drop, W: Words + Drop>(
-    alloc: Global,
-    resolver: &mut StubResolver<E, C, W>,
-    name: &str,
-    said: &mut String,
-) -> Option<()> {
-    let name = Name::from_text(alloc, name).ok()?;
-    say_found(said, resolver.lookup_host(alloc, &name))
-}
-
 /// Looks hosts up at once.
 fn hosts<E: Edge + Drop, C: Clock + Drop, W: Words + Drop>(
     alloc: Global,
@@ -138,7 +132,7 @@ fn hosts<E: Edge + Drop, C: Clock + Drop, W: Words + Drop>(
 ) -> Option<()> {
     let mut names = Vec::new(alloc);
     for name in words.split('/') {
-        names.push(Name::from_text(alloc, name.trim()).ok()?).ok()?;
+        names.push(name_of(alloc, name.trim())?).ok()?;
     }
     match resolver.lookup_hosts(alloc, &names) {
         Ok(all) => {
@@ -149,16 +143,6 @@ fn hosts<E: Edge + Drop, C: Clock + Drop, W: Words + Drop>(
         }
         Err(error) => say_name(said, &error),
     }
-}
-
-fn search<E: Edge + Drop, C: Clock + Drop, W: Words + Drop>(
-    alloc: Global,
-    resolver: &mut StubResolver<E, C, W>,
-    name: &str,
-    said: &mut String,
-) -> Option<()> {
-    let name = RelativeName::from_text(alloc, name).ok()?;
-    say_found(said, resolver.search_host(alloc, &name))
 }
 
 /// Looks up the names of 192.0.2.1.
@@ -187,7 +171,7 @@ fn service<E: Edge + Drop, C: Clock + Drop, W: Words + Drop>(
 ) -> Option<()> {
     let (service, name) = first_word(names);
     let service = RelativeName::from_text(alloc, service).ok()?;
-    let name = Name::from_text(alloc, name).ok()?;
+    let name = name_of(alloc, name)?;
     let mut words = ListWords::new(WordList::new(alloc));
     let found = resolver.lookup_srv(alloc, &mut words, &service, &name, 80);
     let Some(mut found) = found.ok()? else {
@@ -212,23 +196,6 @@ fn options<E: Edge + Drop, C: Clock + Drop, W: Words + Drop>(
     say_sentence(said, "suffixes", &resolver.search_iter().count())
 }
 
-fn look_up<E: Edge + Drop, C: Clock + Drop, W: Words + Drop>(
-    alloc: Global,
-    resolver: &mut StubResolver<E, C, W>,
-    line: &str,
-    said: &mut String,
-) -> Option<()> {
-    let (word, rest) = first_word(line);
-    match word {
-        "host" => host(alloc, resolver, rest, said),
-        "hosts" => hosts(alloc, resolver, rest, said),
-        "search" => search(alloc, resolver, rest, said),
-        "address" => address(alloc, resolver, said),
-        "service" => service(alloc, resolver, rest, said),
-        _ => None,
-    }
-}
-
 fn call<E: Edge + Drop, C: Clock + Drop, W: Words + Drop>(
     alloc: Global,
     resolver: &mut StubResolver<E, C, W>,
@@ -244,7 +211,15 @@ fn call<E: Edge + Drop, C: Clock + Drop, W: Words + Drop>(
         "once" => message(alloc, resolver, rest, true, said),
         "add" => say_outcome(said, resolver.add_connection(&server_of(rest)?)),
         "options" => options(resolver, said),
-        _ => look_up(alloc, resolver, line, said),
+        "host" => say_found(said, resolver.lookup_host(alloc, &name_of(alloc, rest)?)),
+        "hosts" => hosts(alloc, resolver, rest, said),
+        "search" => {
+            let name = RelativeName::from_text(alloc, rest).ok()?;
+            say_found(said, resolver.search_host(alloc, &name))
+        }
+        "address" => address(alloc, resolver, said),
+        "service" => service(alloc, resolver, rest, said),
+        _ => None,
     }
 }
 
@@ -293,13 +268,6 @@ fn within(alloc: Global, resolver: &mut Scene, calls: &str) -> Given {
     }
 }
 
-fn say_given(said: &mut String, given: Given) -> Option<()> {
-    match given {
-        Ok(text) => say(said, text?.as_str()),
-        Err(error) => say_name(said, &error),
-    }
-}
-
 /// The clock and the edge of a line, and its calls.
 fn parts(alloc: Global, line: &str) -> Option<(ListClock, ListEdge, &str)> {
     let (moments, rest) = line.split_once(';')?;
@@ -311,42 +279,30 @@ fn parts(alloc: Global, line: &str) -> Option<(ListClock, ListEdge, &str)> {
     ))
 }
 
-fn show_by_conf(alloc: Global, line: &str, said: &mut String) -> Option<()> {
+fn show_made(alloc: Global, line: &str, by_file: bool, said: &mut String) -> Option<()> {
     let (clock, edge, calls) = parts(alloc, line)?;
-    let made = StubResolver::from_conf(alloc, conf(alloc)?, edge, clock, words(alloc)?);
+    let words = words(alloc)?;
+    let made = if by_file {
+        StubResolver::new(alloc, &mut files(alloc)?, edge, clock, words)
+    } else {
+        StubResolver::from_conf(alloc, conf(alloc)?, edge, clock, words)
+    };
     call_all(alloc, &mut made.ok()?, calls, said)
 }
 
-fn show_by_file(alloc: Global, line: &str, said: &mut String) -> Option<()> {
+fn show_run(alloc: Global, line: &str, by_file: bool, said: &mut String) -> Option<()> {
     let (clock, edge, calls) = parts(alloc, line)?;
-    let made = StubResolver::new(alloc, &mut files(alloc)?, edge, clock, words(alloc)?);
-    call_all(alloc, &mut made.ok()?, calls, said)
-}
-
-fn show_run(alloc: Global, line: &str, said: &mut String) -> Option<()> {
-    let (clock, edge, calls) = parts(alloc, line)?;
-    let given: Given = StubResolver::run_with_conf(
-        alloc,
-        conf(alloc)?,
-        edge,
-        clock,
-        words(alloc)?,
-        |resolver: &mut Scene| within(alloc, resolver, calls),
-    );
-    say_given(said, given)
-}
-
-fn show_run_by_file(alloc: Global, line: &str, said: &mut String) -> Option<()> {
-    let (clock, edge, calls) = parts(alloc, line)?;
-    let given: Given = StubResolver::run(
-        alloc,
-        &mut files(alloc)?,
-        edge,
-        clock,
-        words(alloc)?,
-        |resolver: &mut Scene| within(alloc, resolver, calls),
-    );
-    say_given(said, given)
+    let words = words(alloc)?;
+    let inner = |resolver: &mut Scene| within(alloc, resolver, calls);
+    let given: Given = if by_file {
+        StubResolver::run(alloc, &mut files(alloc)?, edge, clock, words, inner)
+    } else {
+        StubResolver::run_with_conf(alloc, conf(alloc)?, edge, clock, words, inner)
+    };
+    match given {
+        Ok(text) => say(said, text?.as_str()),
+        Err(error) => say_name(said, &error),
+    }
 }
 
 fn show_poor(alloc: Global, calls: &str, said: &mut String) -> Option<()> {
@@ -358,10 +314,10 @@ fn show_poor(alloc: Global, calls: &str, said: &mut String) -> Option<()> {
 
 pub fn show(alloc: Global, word: &str, rest: &str, said: &mut String) -> Option<()> {
     match word {
-        "resolver" => show_by_conf(alloc, rest, said),
-        "resolver-file" => show_by_file(alloc, rest, said),
-        "resolver-run" => show_run(alloc, rest, said),
-        "resolver-run-file" => show_run_by_file(alloc, rest, said),
+        "resolver" => show_made(alloc, rest, false, said),
+        "resolver-file" => show_made(alloc, rest, true, said),
+        "resolver-run" => show_run(alloc, rest, false, said),
+        "resolver-run-file" => show_run(alloc, rest, true, said),
         "resolver-poor" => show_poor(alloc, rest, said),
         _ => None,
     }

@@ -1,12 +1,13 @@
 //! What is said: things between commas.
 
+use crate::lent::Lent;
 use client_request::{Error, Out, Part};
 use dns_base::{Message, OptRecord};
 use std::fmt::{Debug, Display, Write};
 
-/// Puts a comma behind what was said before.
+/// Puts a comma behind what was said before, if there is no mark.
 fn go_on(said: &mut String) -> Option<()> {
-    if said.is_empty() {
+    if said.is_empty() || said.as_str().ends_with(' ') {
         Some(())
     } else {
         said.push_str(", ").ok()
@@ -70,21 +71,50 @@ pub fn say_opt(said: &mut String, opt: Option<OptRecord<'_>>) -> Option<()> {
     push_octets(said, opt.data())
 }
 
-/// Writes the first four octets of a message that is given (its id, its flags and its response code), the end of a
+/// Writes the id of a message that is given, or its first four octets (with its flags and its response code), the end of a
 /// transfer, or an error.
-fn push_part(said: &mut String, part: &Part) -> Option<()> {
+fn push_part(said: &mut String, part: &Part, is_by_id: bool) -> Option<()> {
     match part {
+        Ok(Some(message)) if is_by_id => {
+            let id = message.header().id();
+            write!(said, "id {id}").ok()
+        }
         Ok(Some(message)) => push_octets(said, &message.header().to_octets()),
         Ok(None) => said.push_str("end").ok(),
         Err(error) => write!(said, "{error:?}").ok(),
     }
 }
 
-/// Says the result of a request, by how many were asked before.
-pub fn say_reply(said: &mut String, number: usize, part: &Part) -> Option<()> {
+/// Says a part that was asked for.
+pub fn say_part(said: &mut String, part: &Part, is_by_id: bool) -> Option<()> {
     go_on(said)?;
-    write!(said, "reply {number} ").ok()?;
-    push_part(said, part)
+    push_part(said, part, is_by_id)
+}
+
+/// Says the results of requests, each by how many were asked before.
+pub fn say_replies(lent: &mut Lent, said: &mut String) -> Option<()> {
+    for _ in 0..lent.board.len() {
+        let posted = lent.board.take_first()?;
+        let number = lent.number_of(posted.ticket);
+        go_on(said)?;
+        write!(said, "reply {number} ").ok()?;
+        push_part(said, &posted.part, lent.says_ids)?;
+    }
+    Some(())
+}
+
+/// Says what was put out.
+pub fn say_outs(lent: &Lent, said: &mut String) -> Option<()> {
+    for out in lent.outs.as_slice() {
+        match out {
+            Out::OpenStream { place, server } if lent.says_ids => {
+                go_on(said)?;
+                write!(said, "open {place} {server}").ok()?;
+            }
+            _ => say_out(said, out)?,
+        }
+    }
+    Some(())
 }
 
 /// Says what stands for a result that was asked for.
@@ -102,11 +132,6 @@ fn push_result(said: &mut String, request: u64, given: &Result<Message, Error>) 
         Ok(message) => push_octets(said, &message.header().to_octets()),
         Err(error) => write!(said, "{error:?}").ok(),
     }
-}
-
-/// Says all octets of a message.
-pub fn say_message(said: &mut String, message: &Message) -> Option<()> {
-    say_octets(said, message.as_slice())
 }
 
 /// Says what a step puts out, or that it is nothing.
@@ -135,6 +160,10 @@ fn push_sent(said: &mut String, out: &Out) -> Option<()> {
             id,
             ..
         } => write!(said, "write {place} {request} {id}").ok(),
+        Out::Resume { place, octets } => {
+            let left = octets.as_slice().len();
+            write!(said, "resume {place} {left}").ok()
+        }
         Out::Close { place } => write!(said, "close {place}").ok(),
         Out::Reply { request, result } => push_result(said, *request, result),
         _ => said.push_str("other").ok(),

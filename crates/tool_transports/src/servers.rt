@@ -22,40 +22,26 @@ fn hear(stats: &mut Stats, words: &str) -> Option<()> {
     }
 }
 
-fn hear_all(stats: &mut Stats, all: &str) -> Option<()> {
-    for words in all.split(',') {
-        hear(stats, words.trim())?;
-    }
-    Some(())
-}
-
-fn show_estimate(line: &str, said: &mut String) -> Option<()> {
+pub fn show_estimate(line: &str, said: &mut String) -> Option<()> {
     let (times, all) = line.split_once(':')?;
     let mut stats = Stats::new();
     for _ in 0..number(times)? {
-        hear_all(&mut stats, all)?;
+        for words in all.split(',') {
+            hear(&mut stats, words.trim())?;
+        }
     }
     say_value(said, &stats.estimate())
 }
 
-fn show_failed(alloc: Global, digits: &str, said: &mut String) -> Option<()> {
+pub fn show_failed(alloc: Global, digits: &str, said: &mut String) -> Option<()> {
     match serve_fail(alloc, &message_of(alloc, digits)?) {
         Ok(answer) => say_octets(said, answer.as_slice()),
         Err(error) => say_name(said, &error),
     }
 }
 
-fn show_below(alloc: Global, word: &str, said: &mut String) -> Option<()> {
+pub fn show_below(alloc: Global, word: &str, said: &mut String) -> Option<()> {
     let server = Server::new(alloc, word.parse::<u32>().ok()?).ok()?;
     let mut cache: Connection<RequestMessage, Server> = Connection::new(alloc, server).ok()?;
     say_value(said, &cache.upstream_mut().server())
-}
-
-pub fn show(alloc: Global, word: &str, rest: &str, said: &mut String) -> Option<()> {
-    match word {
-        "estimate" => show_estimate(rest, said),
-        "serve-fail" => show_failed(alloc, rest, said),
-        "below" => show_below(alloc, rest, said),
-        _ => None,
-    }
 }

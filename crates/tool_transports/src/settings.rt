@@ -6,20 +6,10 @@
 //! value, or nothing. So do `settings balancer` with `factor`, `errors`, `refused` and `servfail`, and `settings bursts` with `burst`
 //! and `interval`, of copies.
 
-use crate::reading::{first_word, number};
+use crate::reading::{first_word, number, time_of};
 use crate::saying::{say_name, say_value};
 use client_choice::load_balancer::{Config, ConnConfig};
 use client_request::{DefMinMax, limit_laws};
-use dns_base::Duration;
-
-fn say_limited(limits: DefMinMax<u64>, values: &str, said: &mut String) -> Option<()> {
-    for value in values.split_whitespace() {
-        let limited = limits.limit(number(value)?);
-        say_value(said, &limited)?;
-        say_value(said, &limits.limit(limited))?;
-    }
-    Some(())
-}
 
 pub fn show_limits(line: &str, said: &mut String) -> Option<()> {
     let (limits, values) = line.split_once(':')?;
@@ -28,7 +18,12 @@ pub fn show_limits(line: &str, said: &mut String) -> Option<()> {
     let limits = DefMinMax::new(number(default)?, number(least)?, number(most)?);
     limit_laws::<u64>();
     say_value(said, &limits.default())?;
-    say_limited(limits, values, said)
+    for value in values.split_whitespace() {
+        let limited = limits.limit(number(value)?);
+        say_value(said, &limited)?;
+        say_value(said, &limits.limit(limited))?;
+    }
+    Some(())
 }
 
 fn set_dgram(config: &mut client_dgram::Config, setting: &str) -> Option<()> {
@@ -36,34 +31,10 @@ fn set_dgram(config: &mut client_dgram::Config, setting: &str) -> Option<()> {
     match word {
         "" => {}
         "parallel" => config.set_max_parallel(number(value)? as usize),
-        "timeout" => config.set_read_timeout(Duration::from_micros(number(value)?)),
+        "timeout" => config.set_read_timeout(time_of(value)?),
         "retries" => config.set_max_retries(value.parse::<u8>().ok()?),
         "size" => config.set_udp_payload_size(value.parse::<u16>().ok()),
         "receive" => config.set_recv_size(number(value)? as usize),
-        _ => return None,
-    }
-    Some(())
-}
-
-fn set_balancer(config: &mut Config, setting: &str) -> Option<()> {
-    let (word, value) = first_word(setting);
-    match word {
-        "" => {}
-        "factor" => config.set_slow_rt_factor(value.parse::<u32>().ok()?),
-        "errors" => config.set_defer_transport_error(true),
-        "refused" => config.set_defer_refused(true),
-        "servfail" => config.set_defer_servfail(true),
-        _ => return None,
-    }
-    Some(())
-}
-
-fn set_bursts(config: &mut ConnConfig, setting: &str) -> Option<()> {
-    let (word, value) = first_word(setting);
-    match word {
-        "" => {}
-        "burst" => config.set_max_burst(number(value)),
-        "interval" => config.set_burst_interval(Duration::from_micros(number(value)?)),
         _ => return None,
     }
     Some(())
@@ -84,7 +55,15 @@ fn show_dgram(settings: &str, said: &mut String) -> Option<()> {
 fn show_balancer(settings: &str, said: &mut String) -> Option<()> {
     let mut config = Config::default();
     for setting in settings.split(',') {
-        set_balancer(&mut config, setting.trim())?;
+        let (word, value) = first_word(setting.trim());
+        match word {
+            "" => {}
+            "factor" => config.set_slow_rt_factor(value.parse::<u32>().ok()?),
+            "errors" => config.set_defer_transport_error(true),
+            "refused" => config.set_defer_refused(true),
+            "servfail" => config.set_defer_servfail(true),
+            _ => return None,
+        }
     }
     let copy = config.try_clone().ok()?;
     say_value(said, &copy.slow_rt_factor())?;
@@ -96,7 +75,13 @@ fn show_balancer(settings: &str, said: &mut String) -> Option<()> {
 fn show_bursts(settings: &str, said: &mut String) -> Option<()> {
     let mut config = ConnConfig::default();
     for setting in settings.split(',') {
-        set_bursts(&mut config, setting.trim())?;
+        let (word, value) = first_word(setting.trim());
+        match word {
+            "" => {}
+            "burst" => config.set_max_burst(number(value)),
+            "interval" => config.set_burst_interval(time_of(value)?),
+            _ => return None,
+        }
     }
     let copy = config.try_clone().ok()?;
     say_name(said, &copy.max_burst())?;

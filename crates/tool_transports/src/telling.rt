@@ -1,20 +1,28 @@
 //! What transports are told, and what is shown of it: `TRANSPORT; WORDS; WHAT, ..`.
 //!
 //! A transport is begun by its words, and draws the numbers between the semicolons, and zeros behind them. What happens stands
-//! between commas: an event as in a trace, without its moment; `ask BASE` asks what a message asks; `ask-past ID BASE` asks
-//! it of the server of an identifier, past a choice; `cancel NUMBER` gives a request up, by how many were asked before;
-//! `later MICROSECONDS`; `result NUMBER` says what stands for its result, and `due` when the next timer is due.
+//! between commas: an event as in a trace, without its moment; `ask BASE` asks what a message asks, and `fill COUNT BASE` so many
+//! times, each of which is written at place 0; `ask-past ID BASE` asks it of the server of an identifier, past a choice;
+//! `cancel NUMBER` gives a request up, by how many were asked before; `later MICROSECONDS`; `result NUMBER` says what stands for
+//! its next result, `octets` which octets were to be written last, and `due` when the next timer is due.
 //!
 //! What was said, put out and given is shown in this order. Where a colon stands, what comes before it happened already,
-//! and only what that says by itself is shown of it.
+//! and only what that says by itself is shown of it. Where bars stand, what happens between two of them is shown between two bars.
 
-use crate::lent::Lent;
+use crate::lent::{Lent, Response};
 use crate::making::made;
 use crate::reading::{first_word, number, request_of, what_of, word_list};
-use crate::saying::{say, say_given, say_out, say_outcome, say_reply, say_value};
+use crate::saying::{say, say_octets, say_outcome, say_outs, say_part, say_replies, say_value};
 use crate::transport::Transport;
-use client_request::{Error, GetResponse, Moment, Pending, Poll, RequestMessage, Signal, What};
+use client_request::{
+    Compose, Error, GetResponse, GetResponseMulti, Moment, Out, Part, Poll, RequestMessage, Signal,
+    What,
+};
+use dns_base::Message;
 use std::alloc::Global;
+
+/// How many octets a stream carries at most for a message.
+const LONGEST: u64 = 65537;
 
 /// Lets a transport hear a signal, and tells whether another whole frame stands.
 fn step(transport: &mut Transport, lent: &mut Lent, signal: Signal<'_>) -> Result<bool, Error> {
@@ -40,7 +48,7 @@ fn take_more(transport: &mut Transport, lent: &mut Lent, place: u64) -> Result<(
 }
 
 /// Tells what happened.
-fn hear(transport: &mut Transport, lent: &mut Lent, what: &What) -> Result<(), Error> {
+pub fn hear(transport: &mut Transport, lent: &mut Lent, what: &What) -> Result<(), Error> {
     let more = step(transport, lent, Signal::Told(what))?;
     match what {
         What::Bytes { place, .. } if more => take_more(transport, lent, *place),
@@ -48,11 +56,11 @@ fn hear(transport: &mut Transport, lent: &mut Lent, what: &What) -> Result<(), E
     }
 }
 
-/// It is so many microseconds later: the timers that are due fire.
-fn later(transport: &mut Transport, lent: &mut Lent, micros: u64) -> Result<(), Error> {
-    lent.now = lent.now.saturating_add(micros);
+/// It is that moment, in microseconds: the timers that are due fire.
+pub fn go_to(transport: &mut Transport, lent: &mut Lent, now: u64) -> Result<(), Error> {
+    lent.now = now;
     for _ in 0..u64::MAX {
-        let Some(timer) = lent.timers.fire(Moment(lent.now)) else {
+        let Some(timer) = lent.timers.fire(Moment(now)) else {
             return Ok(());
         };
         let _ = step(transport, lent, Signal::Due(timer))?;
@@ -60,43 +68,56 @@ fn later(transport: &mut Transport, lent: &mut Lent, micros: u64) -> Result<(), 
     Ok(())
 }
 
-/// Keeps what stands for the result of a request that was sent.
-fn keep(lent: &mut Lent, sent: Result<Pending, Error>) -> Result<(), Error> {
-    match sent {
-        Ok(response) => lent.keep(response.ticket(), Some(response)),
-        Err(error) => Err(error),
-    }
-}
-
-fn ask(transport: &mut Transport, lent: &mut Lent, request: RequestMessage) -> Result<(), Error> {
-    let mut cx = lent.cx();
-    let sent = transport.send(&mut cx, request);
-    let (ticket, place) = (cx.ticket, cx.place);
-    lent.ticket = ticket;
-    lent.place = place;
-    keep(lent, sent)
-}
-
-/// The same past a choice, which can't give the request up.
-fn ask_past(
+/// Asks a request, of the server of an identifier where there is one: past a choice, which can't give it up.
+pub fn ask(
     transport: &mut Transport,
     lent: &mut Lent,
-    id: u64,
+    past: Option<u64>,
     request: RequestMessage,
 ) -> Result<(), Error> {
     let mut cx = lent.cx();
-    let sent = transport.send_past(&mut cx, id, request);
+    let sent = match past {
+        Some(id) => transport.send_past(&mut cx, id, request),
+        None => transport.send(&mut cx, request),
+    };
     let (ticket, place) = (cx.ticket, cx.place);
     lent.ticket = ticket;
     lent.place = place;
     match sent {
+        Ok(response) if past.is_none() => {
+            lent.keep(response.ticket(), Some(Response::Single(response)))
+        }
         Ok(response) => lent.keep(response.ticket(), None),
         Err(error) => Err(error),
     }
 }
 
+/// Asks a request so many times, which is written at place 0 each time.
+fn fill(
+    alloc: Global,
+    transport: &mut Transport,
+    lent: &mut Lent,
+    words: &str,
+) -> Option<Result<(), Error>> {
+    let (count, digits) = first_word(words);
+    let request = request_of(alloc, digits)?;
+    let written = What::Wrote {
+        place: 0,
+        count: LONGEST,
+    };
+    for _ in 0..number(count)? {
+        let copy = request.try_clone(alloc).ok()?;
+        let asked = ask(transport, lent, None, copy);
+        if asked.is_err() {
+            return Some(asked);
+        }
+        hear(transport, lent, &written).ok()?;
+    }
+    Some(Ok(()))
+}
+
 /// Gives up the request before which so many were asked, if it was not before.
-fn cancel(transport: &mut Transport, lent: &mut Lent, number: u64) -> Result<(), Error> {
+pub fn cancel(transport: &mut Transport, lent: &mut Lent, number: u64) -> Result<(), Error> {
     let Some(slot) = lent.responses.get_mut(number as usize) else {
         return Ok(());
     };
@@ -111,34 +132,38 @@ fn cancel(transport: &mut Transport, lent: &mut Lent, number: u64) -> Result<(),
     given_up
 }
 
-/// Says what stands for the result of the request before which so many were asked.
-fn say_result_of(lent: &mut Lent, number: u64, said: &mut String) -> Option<()> {
+/// The result of a request that has but one.
+fn single_part(polled: Poll<Result<Message, Error>>) -> Poll<Part> {
+    match polled {
+        Poll::Pending => Poll::Pending,
+        Poll::Ready(Ok(message)) => Poll::Ready(Ok(Some(message))),
+        Poll::Ready(Err(error)) => Poll::Ready(Err(error)),
+    }
+}
+
+/// Says what stands for the next result of the request before which so many were asked.
+fn say_result(lent: &mut Lent, number: u64, said: &mut String) -> Option<()> {
     let Some(Some(response)) = lent.responses.get_mut(number as usize) else {
-        return say(said, "none");
+        return say(said, if lent.says_ids { "pending" } else { "none" });
     };
-    match response.get_response(&mut lent.board) {
+    let polled = match response {
+        Response::Single(response) => single_part(response.get_response(&mut lent.board)),
+        Response::Transfer(response) => response.get_response(&mut lent.board),
+    };
+    match polled {
         Poll::Pending => say(said, "pending"),
-        Poll::Ready(given) => say_given(said, &given),
+        Poll::Ready(part) => say_part(said, &part, lent.says_ids),
     }
 }
 
-/// Says the moment at which the next timer is due, in microseconds.
-fn say_due(lent: &Lent, said: &mut String) -> Option<()> {
-    match lent.timers.next_due() {
-        Some((due, _)) => say_value(said, &due),
-        None => say(said, "none"),
+/// Says the octets that were to be written last.
+fn say_written(lent: &Lent, said: &mut String) -> Option<()> {
+    match lent.outs.as_slice().last() {
+        Some(Out::Write { octets, .. }) | Some(Out::Resume { octets, .. }) => {
+            say_octets(said, octets.as_slice())
+        }
+        _ => say(said, "none"),
     }
-}
-
-fn tell_asked_past(
-    alloc: Global,
-    transport: &mut Transport,
-    lent: &mut Lent,
-    words: &str,
-) -> Option<Result<(), Error>> {
-    let (id, digits) = first_word(words);
-    let request = request_of(alloc, digits)?;
-    Some(ask_past(transport, lent, number(id)?, request))
 }
 
 /// What a call answers that is told one thing; none where it is no call of a transport.
@@ -150,10 +175,18 @@ fn told(
 ) -> Option<Result<(), Error>> {
     let (word, rest) = first_word(words);
     match word {
-        "ask" => Some(ask(transport, lent, request_of(alloc, rest)?)),
-        "ask-past" => tell_asked_past(alloc, transport, lent, rest),
+        "ask" => Some(ask(transport, lent, None, request_of(alloc, rest)?)),
+        "ask-past" => {
+            let (id, digits) = first_word(rest);
+            let id = Some(number(id)?);
+            Some(ask(transport, lent, id, request_of(alloc, digits)?))
+        }
+        "fill" => fill(alloc, transport, lent, rest),
         "cancel" => Some(cancel(transport, lent, number(rest)?)),
-        "later" => Some(later(transport, lent, number(rest)?)),
+        "later" => {
+            let now = lent.now.saturating_add(number(rest)?);
+            Some(go_to(transport, lent, now))
+        }
         _ => Some(hear(transport, lent, &what_of(alloc, words)?)),
     }
 }
@@ -168,8 +201,13 @@ fn tell(
 ) -> Option<()> {
     let (word, rest) = first_word(words);
     match word {
-        "result" => say_result_of(lent, number(rest)?, said),
-        "due" => say_due(lent, said),
+        "result" => say_result(lent, number(rest)?, said),
+        "due" => match lent.timers.next_due() {
+            Some((due, _)) => say_value(said, &due),
+            None => say(said, "none"),
+        },
+        "octets" => say_written(lent, said),
+        _ if transport.tell_own(alloc, lent, words, said)? => Some(()),
         _ => say_outcome(said, told(alloc, transport, lent, words)?),
     }
 }
@@ -187,23 +225,27 @@ fn tell_all(
     Some(())
 }
 
-fn say_outs(lent: &Lent, said: &mut String) -> Option<()> {
-    for out in lent.outs.as_slice() {
-        say_out(said, out)?;
-    }
-    Some(())
-}
-
-fn say_replies(lent: &mut Lent, said: &mut String) -> Option<()> {
-    for _ in 0..lent.board.len() {
-        let posted = lent.board.take_first()?;
-        say_reply(said, lent.number_of(posted.ticket), &posted.part)?;
+/// Tells what stands between two bars, and says what comes of it.
+fn show_part(
+    alloc: Global,
+    transport: &mut Transport,
+    lent: &mut Lent,
+    all: &str,
+    said: &mut String,
+) -> Option<()> {
+    let length = said.len();
+    tell_all(alloc, transport, lent, all, said)?;
+    say_outs(lent, said)?;
+    say_replies(lent, said)?;
+    lent.forget(alloc);
+    if lent.says_ids && said.len() == length {
+        said.push_str("-").ok()?;
     }
     Some(())
 }
 
 /// Tells what stands before a colon and behind it, and says what comes of it.
-fn show_told(
+pub fn show_told(
     alloc: Global,
     transport: &mut Transport,
     lent: &mut Lent,
@@ -214,10 +256,19 @@ fn show_told(
     if !before.is_empty() {
         tell_all(alloc, transport, lent, before, said)?;
         lent.forget(alloc);
+        if lent.says_ids && !said.is_empty() {
+            said.push_str(": ").ok()?;
+        }
     }
-    tell_all(alloc, transport, lent, behind, said)?;
-    say_outs(lent, said)?;
-    say_replies(lent, said)
+    let mut is_behind = false;
+    for part in behind.split('|') {
+        if is_behind {
+            said.push_str(" | ").ok()?;
+        }
+        show_part(alloc, transport, lent, part, said)?;
+        is_behind = true;
+    }
+    Some(())
 }
 
 /// Says what a transport does, by the word that leads the line.
@@ -225,6 +276,6 @@ pub fn show(alloc: Global, word: &str, line: &str, said: &mut String) -> Option<
     let (begun, rest) = line.split_once(';')?;
     let (words, all) = rest.split_once(';')?;
     let mut transport = made(alloc, word, begun)?;
-    let mut lent = Lent::new(alloc, word_list(alloc, words)?);
+    let mut lent = Lent::new(alloc, word_list(alloc, words)?, 0);
     show_told(alloc, &mut transport, &mut lent, all, said)
 }

@@ -17,50 +17,33 @@ fn set_all(alloc: Global, dues: &str) -> Option<Timers> {
     Some(timers)
 }
 
-/// Says the moment and the number of a timer.
-fn say_timer(said: &mut String, timer: (u128, TimerId)) -> Option<()> {
-    let (due, TimerId(id)) = timer;
-    say_value(said, &due)?;
-    write!(said, " {id}").ok()
-}
-
 /// Says a timer, if there is one.
 fn say_next(said: &mut String, next: Option<(u128, TimerId)>) -> Option<()> {
     match next {
-        Some(timer) => say_timer(said, timer),
-        None => say(said, "none"),
-    }
-}
-
-fn say_fired(said: &mut String, fired: Option<TimerId>) -> Option<()> {
-    match fired {
-        Some(TimerId(id)) => say_value(said, &id),
+        Some((due, TimerId(id))) => {
+            say_value(said, &due)?;
+            write!(said, " {id}").ok()
+        }
         None => say(said, "none"),
     }
 }
 
 fn say_heap(said: &mut String, timers: &Timers) -> Option<()> {
     for timer in timers.heap() {
-        say_timer(said, *timer)?;
+        say_next(said, Some(*timer))?;
     }
     Some(())
-}
-
-/// The greatest count in the heap while a timer is set and cancelled at each of these moments.
-fn most_in_heap(timers: &mut Timers, first: u64, end: u64) -> Option<usize> {
-    let mut most = 0;
-    for due in first..end {
-        let id = timers.set(u128::from(due)).ok()?;
-        timers.cancel(id);
-        most = most.max(timers.heap().len());
-    }
-    Some(most)
 }
 
 fn churn(timers: &mut Timers, words: &str, said: &mut String) -> Option<()> {
     let (first, rest) = first_word(words);
     let (end, most) = first_word(rest);
-    let most_seen = most_in_heap(timers, number(first)?, number(end)?)?;
+    let mut most_seen = 0;
+    for due in number(first)?..number(end)? {
+        let id = timers.set(u128::from(due)).ok()?;
+        timers.cancel(id);
+        most_seen = most_seen.max(timers.heap().len());
+    }
     say_value(said, &(most_seen as u64 <= number(most)?))
 }
 
@@ -68,7 +51,10 @@ fn tell(timers: &mut Timers, words: &str, said: &mut String) -> Option<()> {
     let (word, rest) = first_word(words);
     match word {
         "cancel" => Some(timers.cancel(TimerId(number(rest)?))),
-        "fire" => say_fired(said, timers.fire(Moment(number(rest)?))),
+        "fire" => match timers.fire(Moment(number(rest)?)) {
+            Some(TimerId(id)) => say_value(said, &id),
+            None => say(said, "none"),
+        },
         "next" => say_next(said, timers.next_due()),
         "count" => say_value(said, &timers.len()),
         "heap" => say_heap(said, timers),

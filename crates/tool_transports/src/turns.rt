@@ -8,7 +8,7 @@
 use crate::memory::{client_of, clock_of, edge_of, say_edge, server_of};
 use crate::poor::PoorEdge;
 use crate::reading::{first_word, number, request_of, word_list};
-use crate::saying::{say, say_message, say_name, say_sentence};
+use crate::saying::{say, say_name, say_octets, say_sentence};
 use client_core::{Client, ListClock, ListEdge, What};
 use client_loop::{ask, ask_both, ask_within, learn_all, turn};
 use client_request::{Error, ListWords, Row};
@@ -51,7 +51,7 @@ type Reply = Option<Result<Message, Error>>;
 
 fn say_reply(said: &mut String, reply: &Reply) -> Option<()> {
     match reply {
-        Some(Ok(message)) => say_message(said, message),
+        Some(Ok(message)) => say_octets(said, message.as_slice()),
         Some(Err(error)) => say_name(said, error),
         None => say(said, "no reply"),
     }
@@ -64,40 +64,37 @@ fn say_asked(said: &mut String, asked: &Result<Reply, Error>) -> Option<()> {
     }
 }
 
-fn show_ask(alloc: Global, rest: &str, said: &mut String) -> Option<()> {
+/// Asks within so many turns, or with as many as there may be.
+pub fn show_ask(alloc: Global, rest: &str, is_long: bool, said: &mut String) -> Option<()> {
     let (words, line) = rest.split_once(';')?;
-    let (request, rest) = first_word(words);
-    let (most, base) = first_word(rest);
     let mut stage = stage_of(alloc, line)?;
-    let asked = ask_within(
-        &mut stage.client,
-        &mut stage.edge,
-        &mut stage.clock,
-        &mut stage.words,
-        number(request)?,
-        request_of(alloc, base)?,
-        number(most)?,
-    );
+    let Stage {
+        client,
+        clock,
+        words: drawn,
+        edge,
+    } = &mut stage;
+    let asked = if is_long {
+        ask(client, edge, clock, drawn, 0, request_of(alloc, words)?)
+    } else {
+        let (request, rest) = first_word(words);
+        let (most, base) = first_word(rest);
+        let base = request_of(alloc, base)?;
+        ask_within(
+            client,
+            edge,
+            clock,
+            drawn,
+            number(request)?,
+            base,
+            number(most)?,
+        )
+    };
     say_asked(said, &asked)?;
-    say_edge(said, &stage.edge)
+    say_edge(said, edge)
 }
 
-fn show_long(alloc: Global, rest: &str, said: &mut String) -> Option<()> {
-    let (base, line) = rest.split_once(';')?;
-    let mut stage = stage_of(alloc, line)?;
-    let asked = ask(
-        &mut stage.client,
-        &mut stage.edge,
-        &mut stage.clock,
-        &mut stage.words,
-        0,
-        request_of(alloc, base)?,
-    );
-    say_asked(said, &asked)?;
-    say_edge(said, &stage.edge)
-}
-
-fn show_both(alloc: Global, rest: &str, said: &mut String) -> Option<()> {
+pub fn show_both(alloc: Global, rest: &str, said: &mut String) -> Option<()> {
     let (base, line) = rest.split_once(';')?;
     let mut stage = stage_of(alloc, line)?;
     let replies = ask_both(
@@ -126,7 +123,7 @@ fn say_row(said: &mut String, row: &Row) -> Option<()> {
     say_sentence(said, "outs", &row.outs.len())
 }
 
-fn show_turn(alloc: Global, line: &str, said: &mut String) -> Option<()> {
+pub fn show_turn(alloc: Global, line: &str, said: &mut String) -> Option<()> {
     let mut stage = stage_of(alloc, line)?;
     let row = turn(
         &mut stage.client,
@@ -149,25 +146,20 @@ fn servers_of(alloc: Global, words: &str) -> Option<Vec<ServerConf>> {
     Some(servers)
 }
 
-fn show_learned(alloc: Global, words: &str, said: &mut String) -> Option<()> {
+pub fn show_learned(alloc: Global, words: &str, said: &mut String) -> Option<()> {
     let servers = servers_of(alloc, words)?;
     let mut edge = ListEdge::new(alloc, Vec::new(alloc));
     learn_all(&mut edge, &servers).ok()?;
     say_edge(said, &edge)
 }
 
-fn say_poor_learning(alloc: Global, said: &mut String) -> Option<()> {
-    let servers = servers_of(alloc, "both-53")?;
-    match learn_all(&mut PoorEdge { servers: 0 }, &servers) {
-        Ok(()) => say(said, "learned"),
-        Err(NoMemory) => say(said, "no memory"),
-    }
-}
-
-fn show_poor(alloc: Global, base: &str, said: &mut String) -> Option<()> {
+pub fn show_poor(alloc: Global, base: &str, said: &mut String) -> Option<()> {
     let mut stage = stage_of(alloc, "4660; 0; ")?;
     let mut edge = PoorEdge { servers: 0 };
-    say_poor_learning(alloc, said)?;
+    match learn_all(&mut edge, &servers_of(alloc, "both-53")?) {
+        Ok(()) => say(said, "learned")?,
+        Err(NoMemory) => say(said, "no memory")?,
+    }
     if let Err(error) = turn(
         &mut stage.client,
         &mut edge,
@@ -186,16 +178,4 @@ fn show_poor(alloc: Global, base: &str, said: &mut String) -> Option<()> {
         9,
     );
     say_asked(said, &asked)
-}
-
-pub fn show(alloc: Global, word: &str, rest: &str, said: &mut String) -> Option<()> {
-    match word {
-        "ask" => show_ask(alloc, rest, said),
-        "ask-long" => show_long(alloc, rest, said),
-        "ask-both" => show_both(alloc, rest, said),
-        "turn" => show_turn(alloc, rest, said),
-        "learn" => show_learned(alloc, rest, said),
-        "poor" => show_poor(alloc, rest, said),
-        _ => None,
-    }
 }

@@ -29,13 +29,6 @@ fn upstream(alloc: Global, word: &str) -> Option<Upstream<RequestMessage>> {
     }
 }
 
-fn say_result(cx: &mut Cx<'_, ListWords>, response: &mut Handed, said: &mut String) -> Option<()> {
-    match response.get_response(cx.board) {
-        Poll::Pending => say(said, "pending"),
-        Poll::Ready(given) => say_given(said, &given),
-    }
-}
-
 /// Tells a server one thing, with what stands for the result of its request while that was not given up.
 fn call(
     alloc: Global,
@@ -51,7 +44,10 @@ fn call(
             say_outcome(said, server.cancel(cx, given_up))
         }
         "result" => match response {
-            Some(response) => say_result(cx, response, said),
+            Some(response) => match response.get_response(cx.board) {
+                Poll::Pending => say(said, "pending"),
+                Poll::Ready(given) => say_given(said, &given),
+            },
             None => say(said, "none"),
         },
         _ => {
@@ -66,7 +62,7 @@ pub fn show(alloc: Global, line: &str, said: &mut String) -> Option<()> {
     let (words, rest) = rest.split_once(';')?;
     let (base, calls) = rest.split_once(';')?;
     let mut server = upstream(alloc, word)?;
-    let mut lent = Lent::new(alloc, word_list(alloc, words)?);
+    let mut lent = Lent::new(alloc, word_list(alloc, words)?, 0);
     let mut cx = lent.cx();
     let request = request_of(alloc, base.trim())?;
     let mut response = Some(server.send_request(&mut cx, request).ok()?);

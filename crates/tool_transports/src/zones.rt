@@ -37,20 +37,17 @@ fn say_update(said: &mut String, update: &Update) -> Option<()> {
     }
 }
 
-fn say_updates(said: &mut String, updates: &[Update]) -> Option<()> {
-    for update in updates {
-        say_update(said, update)?;
-    }
-    Some(())
-}
-
-fn show_updates(alloc: Global, line: &str, said: &mut String) -> Option<()> {
+pub fn show_updates(alloc: Global, line: &str, said: &mut String) -> Option<()> {
     let (kind, messages) = line.split_once(';')?;
     let mut interpreter = Interpreter::new(apex(alloc)?, kind_of(kind)?);
     for digits in messages.split(',') {
         let message = message_of(alloc, digits.trim())?;
         match interpreter.interpret(alloc, &message) {
-            Ok(updates) => say_updates(said, updates.as_slice())?,
+            Ok(updates) => {
+                for update in &updates {
+                    say_update(said, update)?;
+                }
+            }
             Err(fault) => say_name(said, &fault)?,
         }
     }
@@ -97,7 +94,7 @@ fn say_zone(said: &mut String, zone: &Zone) -> Option<()> {
     Some(())
 }
 
-fn show_zone(alloc: Global, line: &str, said: &mut String) -> Option<()> {
+pub fn show_zone(alloc: Global, line: &str, said: &mut String) -> Option<()> {
     let (whole, changes) = line.split_once(';')?;
     let mut zone = zone_of(alloc, whole)?;
     match zone.apply(updates_of(alloc, XfrKind::Ixfr, changes)?) {
@@ -107,7 +104,7 @@ fn show_zone(alloc: Global, line: &str, said: &mut String) -> Option<()> {
     say_zone(said, &zone)
 }
 
-fn show_fetch(alloc: Global, line: &str, said: &mut String) -> Option<()> {
+pub fn show_fetch(alloc: Global, line: &str, said: &mut String) -> Option<()> {
     let (words, rest) = line.split_once(';')?;
     let (kind, most) = first_word(words);
     let (whole, events) = rest.split_once(';')?;
@@ -130,13 +127,4 @@ fn show_fetch(alloc: Global, line: &str, said: &mut String) -> Option<()> {
         Err(fault) => say_name(said, &fault)?,
     }
     say_zone(said, &zone)
-}
-
-pub fn show(alloc: Global, word: &str, rest: &str, said: &mut String) -> Option<()> {
-    match word {
-        "updates" => show_updates(alloc, rest, said),
-        "zone" => show_zone(alloc, rest, said),
-        "fetch" => show_fetch(alloc, rest, said),
-        _ => None,
-    }
 }

@@ -10,18 +10,18 @@ mod cutting;
 mod states;
 mod watch;
 
-use crate::streams::fault::Fault;
-use crate::streams::reading::{first_word, message_of};
+use crate::reading::{first_word, message_of};
 use cutting::part_of;
 use dns_base::Message;
 use states::state_named;
 use std::alloc::Global;
+use std::fmt::Write;
 use watch::Watch;
 
 /// The transfer that lines go on with, and its last message.
 pub struct Watched {
-    watch: Option<Watch>,
-    last: Option<Message>,
+    pub watch: Option<Watch>,
+    pub last: Option<Message>,
 }
 
 impl Drop for Watched {
@@ -30,91 +30,51 @@ impl Drop for Watched {
     }
 }
 
-/// The lines of the messages into which a message is cut.
-fn parts_text(
-    alloc: Global,
-    watch: &mut Watch,
-    message: &Message,
-    size: u16,
-) -> Result<Vec<u8>, Fault> {
-    let mut text = String::new(alloc);
-    for at in 0..message.header_counts().ancount() {
-        if at % size.max(1) == 0 {
-            let part = part_of(alloc, message, at, size)?;
-            watch.check(&part, &mut text)?;
-        }
-    }
-    Ok(text.into_bytes())
-}
-
-/// The line of a message that comes at a state: `STATE QUERY MESSAGE`.
-fn checked_at(alloc: Global, words: &str) -> Result<Vec<u8>, Fault> {
+/// Adds the line of a message that comes at a state: `STATE QUERY MESSAGE`.
+fn check_at(alloc: Global, words: &str, text: &mut String) -> Option<()> {
     let (state, rest) = first_word(words);
     let (query, digits) = first_word(rest);
-    let Some(state) = state_named(state) else {
-        return Err(Fault::Refused);
-    };
     let mut watch = Watch::begun(alloc, query)?;
-    watch.state = state;
-    let message = message_of(alloc, digits)?;
-    let mut text = String::new(alloc);
-    watch.check(&message, &mut text)?;
-    Ok(text.into_bytes())
-}
-
-/// The line of the serial that a state keeps.
-fn kept(alloc: Global, word: &str) -> Result<Vec<u8>, Fault> {
-    let Some(state) = state_named(word) else {
-        return Err(Fault::Refused);
-    };
-    let serial = state.kept_serial();
-    Ok(format!(in alloc; "{serial:?}\n")?.into_bytes())
+    watch.state = state_named(state)?;
+    watch.check(&message_of(alloc, digits)?, text)
 }
 
 impl Watched {
-    pub fn new() -> Watched {
-        Watched {
-            watch: None,
-            last: None,
-        }
-    }
-
-    fn begin(&mut self, alloc: Global, query: &str) -> Result<Vec<u8>, Fault> {
-        self.watch = Some(Watch::begun(alloc, query)?);
-        Ok(Vec::new(alloc))
-    }
-
     /// Lets a message come.
-    fn take(&mut self, alloc: Global, digits: &str) -> Result<Vec<u8>, Fault> {
-        let Some(watch) = &mut self.watch else {
-            return Err(Fault::Refused);
-        };
+    fn take(&mut self, alloc: Global, digits: &str, text: &mut String) -> Option<()> {
         let message = message_of(alloc, digits)?;
-        let mut text = String::new(alloc);
-        watch.check(&message, &mut text)?;
+        self.watch.as_mut()?.check(&message, text)?;
         self.last = Some(message);
-        Ok(text.into_bytes())
+        Some(())
     }
 
-    /// Lets the last message come once more, in parts.
-    fn cut(&mut self, alloc: Global, size: &str) -> Result<Vec<u8>, Fault> {
-        match (&mut self.watch, &self.last, size.parse::<u16>()) {
-            (Some(watch), Some(message), Ok(size)) => {
-                watch.begin();
-                parts_text(alloc, watch, message, size)
+    /// Lets the last message come once more, in parts of so many records.
+    fn cut(&mut self, alloc: Global, size: u16, text: &mut String) -> Option<()> {
+        let Watched { watch, last } = self;
+        let (watch, message) = (watch.as_mut()?, last.as_ref()?);
+        watch.begin();
+        for at in 0..message.header_counts().ancount() {
+            if at % size.max(1) == 0 {
+                watch.check(&part_of(alloc, message, at, size)?, text)?;
             }
-            _ => Err(Fault::Refused),
         }
+        Some(())
     }
 
-    pub fn shown(&mut self, alloc: Global, line: &str) -> Result<Vec<u8>, Fault> {
+    pub fn show(&mut self, alloc: Global, line: &str, text: &mut String) -> Option<()> {
         let (word, rest) = first_word(line);
         match word {
-            "ask" => self.begin(alloc, rest),
-            "cut" => self.cut(alloc, rest),
-            "at" => checked_at(alloc, rest),
-            "kept" => kept(alloc, rest),
-            _ => self.take(alloc, line),
+            "ask" => {
+                self.watch = Some(Watch::begun(alloc, rest)?);
+                Some(())
+            }
+            "cut" => self.cut(alloc, rest.parse::<u16>().ok()?, text),
+            "at" => check_at(alloc, rest, text),
+            "kept" => {
+                let serial = state_named(rest)?.kept_serial();
+                write!(text, "{serial:?}\n").ok()
+            }
+            _ => self.take(alloc, line, text),
         }
     }
 }

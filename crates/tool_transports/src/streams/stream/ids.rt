@@ -1,78 +1,50 @@
 //! Which ids a table of requests gives. What it holds is numbers.
 
-use crate::streams::fault::Fault;
-use crate::streams::reading::{first_word, number};
-use crate::streams::saying::{say, say_bool, say_number};
+use crate::reading::{first_word, number};
+use crate::saying::{say, say_value};
 use client_stream::{InsertFault, Queries};
-use std::alloc::{AllocError, Global};
+use std::alloc::Global;
 
 type Table = Queries<u64>;
 
-/// Says the id that an item gets.
-fn say_put(table: &mut Table, item: u64, said: &mut String) -> Result<(), AllocError> {
-    match table.insert(item) {
-        Ok(id) => say_number(said, u64::from(id)),
-        Err(InsertFault::Full(_)) => say(said, "full"),
-        Err(InsertFault::NoMemory(_)) => say(said, "NoMemory"),
-    }
-}
-
-fn say_item(said: &mut String, item: Option<u64>) -> Result<(), AllocError> {
+fn say_item(said: &mut String, item: Option<u64>) -> Option<()> {
     match item {
-        Some(item) => say_number(said, item),
+        Some(item) => say_value(said, &item),
         None => say(said, "none"),
     }
 }
 
-/// The id of a word.
-fn id_of(word: &str) -> Result<u16, Fault> {
-    match word.parse::<u16>() {
-        Ok(id) => Ok(id),
-        Err(_) => Err(Fault::Refused),
-    }
-}
-
-/// Puts the items of words in.
-fn put_all(table: &mut Table, items: &str, said: &mut String) -> Result<(), Fault> {
+/// Puts the items of words in, and says their ids.
+fn put_all(table: &mut Table, items: &str, said: &mut String) -> Option<()> {
     for item in items.split(' ') {
-        say_put(table, number(item)?, said)?;
+        match table.insert(number(item)?) {
+            Ok(id) => say_value(said, &id)?,
+            Err(InsertFault::Full(_)) => say(said, "full")?,
+            Err(InsertFault::NoMemory(_)) => say(said, "NoMemory")?,
+        }
     }
-    Ok(())
+    Some(())
 }
 
 /// Takes the items of ids out.
-fn take_all(table: &mut Table, ids: &str, said: &mut String) -> Result<(), Fault> {
+fn take_all(table: &mut Table, ids: &str, said: &mut String) -> Option<()> {
     for id in ids.split(' ') {
-        say_item(said, table.try_remove(id_of(id)?))?;
+        say_item(said, table.try_remove(id.parse::<u16>().ok()?))?;
     }
-    Ok(())
+    Some(())
 }
 
 /// Takes an item out, and puts it back under its id.
-fn put_back(table: &mut Table, id: u16, said: &mut String) -> Result<(), AllocError> {
-    let Some(item) = table.try_remove(id) else {
-        return say(said, "none");
-    };
-    table.insert_at(id, item);
-    say_number(said, item)
-}
-
-fn say_slots(table: &Table, said: &mut String) -> Result<(), AllocError> {
-    for slot in table.slots() {
-        say_item(said, *slot)?;
+fn put_back(table: &mut Table, id: u16, said: &mut String) -> Option<()> {
+    let item = table.try_remove(id);
+    if let Some(item) = item {
+        table.insert_at(id, item);
     }
-    Ok(())
+    say_item(said, item)
 }
 
-fn drain(table: &mut Table, said: &mut String) -> Result<(), Fault> {
-    for item in table.drain()?.as_slice() {
-        say_number(said, *item)?;
-    }
-    Ok(())
-}
-
-/// How many of so many items, which are numbered from 0, get their number for id, and how many are refused.
-fn fill(table: &mut Table, count: u64) -> (u64, u64) {
+/// Says how many of so many items, which are numbered from 0, get their number for id, and how many are refused.
+fn fill(table: &mut Table, count: u64, said: &mut String) -> Option<()> {
     let mut given: u64 = 0;
     let mut refused: u64 = 0;
     for item in 0..count {
@@ -82,38 +54,41 @@ fn fill(table: &mut Table, count: u64) -> (u64, u64) {
             _ => {}
         }
     }
-    (given, refused)
+    say_value(said, &given)?;
+    say_value(said, &refused)
 }
 
-fn fill_by(table: &mut Table, count: u64, said: &mut String) -> Result<(), AllocError> {
-    let (given, refused) = fill(table, count);
-    say_number(said, given)?;
-    say_number(said, refused)
-}
-
-fn tell(table: &mut Table, words: &str, said: &mut String) -> Result<(), Fault> {
+fn tell(table: &mut Table, words: &str, said: &mut String) -> Option<()> {
     let (word, rest) = first_word(words);
     match word {
         "put" => put_all(table, rest, said),
         "take" => take_all(table, rest, said),
-        "back" => Ok(put_back(table, id_of(rest)?, said)?),
-        "slots" => Ok(say_slots(table, said)?),
-        "drain" => drain(table, said),
-        "count" => Ok(say_number(said, table.count() as u64)?),
-        "empty" => Ok(say_bool(said, table.is_empty())?),
-        "next" => Ok(say_item(said, table.next_id().map(u64::from))?),
-        "fill" => Ok(fill_by(table, number(rest)?, said)?),
-        _ => Err(Fault::Refused),
+        "back" => put_back(table, rest.parse::<u16>().ok()?, said),
+        "slots" => {
+            for slot in table.slots() {
+                say_item(said, *slot)?;
+            }
+            Some(())
+        }
+        "drain" => {
+            for item in table.drain().ok()?.as_slice() {
+                say_value(said, item)?;
+            }
+            Some(())
+        }
+        "count" => say_value(said, &table.count()),
+        "empty" => say_value(said, &table.is_empty()),
+        "next" => say_item(said, table.next_id().map(u64::from)),
+        "fill" => fill(table, number(rest)?, said),
+        _ => None,
     }
 }
 
-/// What a table answers to what stands between commas.
-pub fn shown(alloc: Global, line: &str) -> Result<Vec<u8>, Fault> {
+/// Says what a table answers to what stands between commas.
+pub fn show(alloc: Global, line: &str, said: &mut String) -> Option<()> {
     let mut table = Queries::new(alloc);
-    let mut said = String::new(alloc);
     for words in line.split(',') {
-        tell(&mut table, words.trim(), &mut said)?;
+        tell(&mut table, words.trim(), said)?;
     }
-    said.push_str("\n")?;
-    Ok(said.into_bytes())
+    Some(())
 }

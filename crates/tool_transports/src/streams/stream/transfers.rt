@@ -1,6 +1,6 @@
 //! A connection as a transport of transfers, by its trait.
 
-use crate::streams::stream::line::Connected;
+use crate::streams::stream::Connected;
 use client_request::{Cx, Error, ListWords, RequestMessageMulti, SendRequestMulti, Signal};
 use client_stream::RequestMulti;
 
