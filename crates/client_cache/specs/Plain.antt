@@ -16,8 +16,7 @@ use Rattle.client_cache.specs.declared.steps.Way.{Way}
 use Rattle.client_cache.specs.declared.steps.Way.TheVariants.{Given, Asks}
 use Rattle.client_cache.specs.Keeping.{Outcome, Table, Asked, Found, Spare, asked_in, first_kept, takes as takes_kept, keeps, spare_in, spare_stands_in}
 use Rattle.client_cache.specs.declared.table.Flags.{Flags}
-use Rattle.client_request.specs.declared.error.Error.{Error}
-use Rattle.right_trace.specs.Errors.{is_failure}
+use Rattle.right_trace.specs.Errors.{is_failing}
 
 -- A request that was handed on: its ticket here, the key under which its result is kept, if it is, and what may stand in for that.
 pub record Job : Type 0 where
@@ -54,22 +53,22 @@ gives_kept ticket k v x = (with_table k x.1, answers ticket (part_of x.0) v)
 abbrev pub gives_outcome : (ticket : ℕ) → Key → Kept → View → Outcome → Kept × View
 gives_outcome ticket key k v outcome = gives_kept ticket k v (keeps k.settings key v.now outcome k.table)
 
--- An error is kept and given; but what stands in for it is given in its place, as stale, and nothing is kept.
-abbrev pub gives_instead : (ticket : ℕ) → Key → Kept → View → Error → Option (List ℕ) → Kept × View
-gives_instead ticket key k v error None = gives_outcome ticket key k v (Err error)
-gives_instead ticket key k v error (Some message) = (k, answers_stale ticket message v)
+-- A result is kept and given; but what stands in for it is given in its place, as stale, and nothing is kept.
+abbrev pub gives_instead : (ticket : ℕ) → Key → Kept → View → Outcome → Option (List ℕ) → Kept × View
+gives_instead ticket key k v outcome None = gives_outcome ticket key k v outcome
+gives_instead ticket key k v outcome (Some message) = (k, answers_stale ticket message v)
 
--- only for an error for which an expired message may stand
-abbrev pub gives_error : (ticket : ℕ) → Key → Option Spare → Kept → View → Error → Kept × View
-gives_error ticket key spare k v error =
-    if is_failure error then gives_instead ticket key k v error (spare_stands_in k.settings v.now spare)
-    else gives_outcome ticket key k v (Err error)
+-- only for a result for which an expired message may stand; how long a message may be kept is not asked before
+abbrev pub gives_result : (ticket : ℕ) → Key → Option Spare → Kept → View → Outcome → Kept × View
+gives_result ticket key spare k v outcome =
+    if is_failing outcome then gives_instead ticket key k v outcome (spare_stands_in k.settings v.now spare)
+    else gives_outcome ticket key k v outcome
 
 -- an end of a transfer is given as it is
 abbrev pub gives_part : (ticket : ℕ) → Key → Option Spare → Kept → View → Part → Kept × View
 gives_part ticket key spare k v (Ok None) = (k, answers ticket (Ok None) v)
-gives_part ticket key spare k v (Ok (Some message)) = gives_outcome ticket key k v (Ok message)
-gives_part ticket key spare k v (Err error) = gives_error ticket key spare k v error
+gives_part ticket key spare k v (Ok (Some message)) = gives_result ticket key spare k v (Ok message)
+gives_part ticket key spare k v (Err error) = gives_result ticket key spare k v (Err error)
 
 -- A result is given; first it is kept, where it is to be.
 abbrev pub gives : (ticket : ℕ) → Option Key → Option Spare → Kept → View → Part → Kept × View

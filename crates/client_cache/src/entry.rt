@@ -177,13 +177,13 @@ impl Stored {
             Err(_) => Ok(None),
         }
     }
+}
 
-    /// Whether it says what a name has, or that the name is not there: any other response code tells of a server.
-    fn tells_of_name(&self) -> bool
-        ensures { result ≡ tells_of_name (opt_rcode self.now.message) }
-    {
-        matches!(self.message.opt_rcode(), OptRcode(0) | OptRcode(3))
-    }
+/// Whether a message says what a name has, or that the name is not there: any other response code tells of a server.
+pub(crate) fn tells_of_name(message: &Message) -> bool
+    ensures { result ≡ tells_of_name (opt_rcode message.now) }
+{
+    matches!(message.opt_rcode(), OptRcode(0) | OptRcode(3))
 }
 
 /// The same message, or the same error.
@@ -505,7 +505,7 @@ impl Spared {
         match &entry.outcome {
             Err(_) => Ok(Spared::nothing()),
             Ok(stored) => {
-                if !stored.tells_of_name() {
+                if !tells_of_name(&stored.message) {
                     return Ok(Spared::nothing());
                 }
                 let name = asked.name.to_name(alloc)?;

@@ -2,10 +2,10 @@
 
 ghost use Rattle.std.specs.Prelude.{◌≡◌, IfOk, OnOk, Ok, Err};
 ghost use Rattle.client_request.specs.Cx.{view_of, LendsTheSame};
-ghost use Rattle.right_trace.specs.Errors.{is_failure};
+ghost use Rattle.right_trace.specs.Errors.{is_failing, is_failure};
 ghost use Rattle.client_cache.specs.Plain as plain;
 
-use crate::entry::Spared;
+use crate::entry::{Spared, tells_of_name};
 use crate::keeping::keep_result;
 use crate::table::{Table, new_table};
 use cache_rules::Key;
@@ -102,23 +102,33 @@ fn is_failure(error: Error) -> bool
     )
 }
 
-/// Gives a request the error that came for it, which is kept first; or what stands in for that, as stale.
-fn give_error<W: Words>(
+/// Whether an expired message may stand for a result: for such an error, or for a message that tells of no name.
+fn is_failing(outcome: &Result<Message, Error>) -> bool
+    ensures { result ≡ is_failing outcome.now }
+{
+    match outcome {
+        Ok(message) => !tells_of_name(message),
+        Err(error) => is_failure(*error),
+    }
+}
+
+/// Gives a request what came for it, which is kept first; or, where that fails, what stands in for it, as stale.
+fn give_result<W: Words>(
     kept: &mut Kept,
     cx: &mut Cx<'_, W>,
     ticket: u64,
     key: Key,
     spare: Spared,
-    error: Error,
+    outcome: Result<Message, Error>,
 ) -> Result<(), NoMemory>
     ensures lends { LendsTheSame cx.old cx.new }
-    ensures ok { OnOk result ((kept.new, view_of W.stream cx.new) ≡ plain.gives_error ticket key spare kept.old (view_of W.stream cx.old) error) }
+    ensures ok { OnOk result ((kept.new, view_of W.stream cx.new) ≡ plain.gives_result ticket key spare kept.old (view_of W.stream cx.old) outcome) }
 {
-    if !is_failure(error) {
-        return give_kept(kept, cx, ticket, key, Err(error));
+    if !is_failing(&outcome) {
+        return give_kept(kept, cx, ticket, key, outcome);
     }
     match spare.stand_in(kept.alloc, &kept.config, cx.now.0)? {
-        None => give_kept(kept, cx, ticket, key, Err(error)),
+        None => give_kept(kept, cx, ticket, key, outcome),
         Some(message) => cx.board.put_stale(ticket, message),
     }
 }
@@ -139,8 +149,8 @@ fn give<W: Words>(
     };
     match part {
         Ok(None) => cx.board.put(ticket, Ok(None)),
-        Ok(Some(message)) => give_kept(kept, cx, ticket, key, Ok(message)),
-        Err(error) => give_error(kept, cx, ticket, key, spare, error),
+        Ok(Some(message)) => give_result(kept, cx, ticket, key, spare, Ok(message)),
+        Err(error) => give_result(kept, cx, ticket, key, spare, Err(error)),
     }
 }
 

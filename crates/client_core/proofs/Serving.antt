@@ -8,6 +8,7 @@ use Rattle.client_choice.specs.Redundant.{started}
 use Rattle.client_choice.specs.Servers.{Server, added, flags}
 use Rattle.client_request.specs.Request.{Request}
 use Rattle.client_settings.specs.Settings.{RedundantSettings}
+use Rattle.client_settings.specs.declared.settings.Transports.{Transports}
 use Rattle.client_steps.specs.Upstream as upstream
 use Rattle.client_steps.specs.Whole.{Servers, and_server, asks_by_streams, servers_of, upstream_at, with_servers}
 use Rattle.client_steps.specs.declared.upstream.Upstream.{Upstream}
@@ -18,15 +19,15 @@ next_of : (ss : List ServerConf) (i : ℕ) (s : ServerConf) → i < length ss �
 next_of ss i s h is = let a : i + 1 ≡ suc i = add-one i in let b = drop-cons ss i s h in cc
 
 -- a server of a list is added, and those behind it are left
-pub one_added : (options : ResolvOptions) (ss : List ServerConf) (i : ℕ) (s : ServerConf) (r r' all : Servers) → i < length ss → s ≡ get_or ss i s → r' ≡ and_server i (asks_by_streams options s) r → with_servers i options (drop i ss) r ≡ all → with_servers (i + 1) options (drop (i + 1) ss) r' ≡ all
-one_added options ss i s r r' all h is added so_far =
-    ap (λ (x : Servers). with_servers (i + 1) options (drop (i + 1) ss) x) added
-    ∙ ap (λ (rest : List ServerConf). with_servers i options rest r) (sym (next_of ss i s h is))
+pub one_added : (t : Transports) (options : ResolvOptions) (ss : List ServerConf) (i : ℕ) (s : ServerConf) (r r' all : Servers) → i < length ss → s ≡ get_or ss i s → r' ≡ and_server t i (asks_by_streams options s) r → with_servers t i options (drop i ss) r ≡ all → with_servers t (i + 1) options (drop (i + 1) ss) r' ≡ all
+one_added t options ss i s r r' all h is added so_far =
+    ap (λ (x : Servers). with_servers t (i + 1) options (drop (i + 1) ss) x) added
+    ∙ ap (λ (rest : List ServerConf). with_servers t i options rest r) (sym (next_of ss i s h is))
     ∙ so_far
 
 -- none is left
-pub all_added : (options : ResolvOptions) (ss : List ServerConf) (i : ℕ) (r all : Servers) → length ss ≤ i → with_servers i options (drop i ss) r ≡ all → r ≡ all
-all_added options ss i r all le so_far = ap (λ (rest : List ServerConf). with_servers i options rest r) (sym (drop_all i ss le)) ∙ so_far
+pub all_added : (t : Transports) (options : ResolvOptions) (ss : List ServerConf) (i : ℕ) (r all : Servers) → length ss ≤ i → with_servers t i options (drop i ss) r ≡ all → r ≡ all
+all_added t options ss i r all le so_far = ap (λ (rest : List ServerConf). with_servers t i options rest r) (sym (drop_all i ss le)) ∙ so_far
 
 -- no transport has given up
 
@@ -42,26 +43,26 @@ flags_behind : (ss : List (Server (Upstream Request))) (s : Server (Upstream Req
 flags_behind [] s = refl
 flags_behind (x ∷ ss) s = ap (λ bs. upstream.holds_failed x.upstream ∷ bs) (flags_behind ss s)
 
-fresh : (n : ℕ) (b : Bool) → upstream.holds_failed (upstream_at n b) ≡ false
-fresh n true = refl
-fresh n false = refl
+fresh : (t : Transports) (n : ℕ) (b : Bool) → upstream.holds_failed (upstream_at t n b) ≡ false
+fresh t n true = refl
+fresh t n false = refl
 
-one_works : (n : ℕ) (b : Bool) (r : Servers) → failing r ≡ false → failing (and_server n b r) ≡ false
-one_works n b r works = by r.failed refl
+one_works : (t : Transports) (n : ℕ) (b : Bool) (r : Servers) → failing r ≡ false → failing (and_server t n b r) ≡ false
+one_works t n b r works = by r.failed refl
   where
     both : (x y : Bool) → (x || y) ≡ false → (x ≡ false) × (y ≡ false)
     both true y e = absurd (let z : true ≡ false = e in cc)
     both false y e = (refl, e)
 
-    last : list_any (λ b. b) (flags upstream.holds_failed (r.choice.servers ++ added (upstream_at n b) ∷ [])) ≡ false
-    last = ap (list_any (λ b. b)) (flags_behind r.choice.servers (added (upstream_at n b))) ∙ any_behind (flags upstream.holds_failed r.choice.servers) (upstream.holds_failed (upstream_at n b)) (both r.failed (list_any (λ b. b) (flags upstream.holds_failed r.choice.servers)) works).1 (fresh n b)
+    last : list_any (λ b. b) (flags upstream.holds_failed (r.choice.servers ++ added (upstream_at t n b) ∷ [])) ≡ false
+    last = ap (list_any (λ b. b)) (flags_behind r.choice.servers (added (upstream_at t n b))) ∙ any_behind (flags upstream.holds_failed r.choice.servers) (upstream.holds_failed (upstream_at t n b)) (both r.failed (list_any (λ b. b) (flags upstream.holds_failed r.choice.servers)) works).1 (fresh t n b)
 
-    by : (x : Bool) → r.failed ≡ x → (r.failed || list_any (λ b. b) (flags upstream.holds_failed (r.choice.servers ++ added (upstream_at n b) ∷ []))) ≡ false
-    by x e = ap (λ y. y || list_any (λ b. b) (flags upstream.holds_failed (r.choice.servers ++ added (upstream_at n b) ∷ []))) (both r.failed (list_any (λ b. b) (flags upstream.holds_failed r.choice.servers)) works).0 ∙ last
+    by : (x : Bool) → r.failed ≡ x → (r.failed || list_any (λ b. b) (flags upstream.holds_failed (r.choice.servers ++ added (upstream_at t n b) ∷ []))) ≡ false
+    by x e = ap (λ y. y || list_any (λ b. b) (flags upstream.holds_failed (r.choice.servers ++ added (upstream_at t n b) ∷ []))) (both r.failed (list_any (λ b. b) (flags upstream.holds_failed r.choice.servers)) works).0 ∙ last
 
-all_work : (n : ℕ) (options : ResolvOptions) (ss : List ServerConf) (r : Servers) → failing r ≡ false → failing (with_servers n options ss r) ≡ false
-all_work n options [] r works = works
-all_work n options (s ∷ ss) r works = all_work (n + 1) options ss (and_server n (asks_by_streams options s) r) (one_works n (asks_by_streams options s) r works)
+all_work : (t : Transports) (n : ℕ) (options : ResolvOptions) (ss : List ServerConf) (r : Servers) → failing r ≡ false → failing (with_servers t n options ss r) ≡ false
+all_work t n options [] r works = works
+all_work t n options (s ∷ ss) r works = all_work t (n + 1) options ss (and_server t n (asks_by_streams options s) r) (one_works t n (asks_by_streams options s) r works)
 
-pub none_failed : (settings : RedundantSettings) (options : ResolvOptions) (ss : List ServerConf) → redundant.holds_failed upstream.holds_failed (servers_of settings options ss) ≡ false
-none_failed settings options ss = all_work 0 options ss (started settings) refl
+pub none_failed : (t : Transports) (settings : RedundantSettings) (options : ResolvOptions) (ss : List ServerConf) → redundant.holds_failed upstream.holds_failed (servers_of t settings options ss) ≡ false
+none_failed t settings options ss = all_work t 0 options ss (started settings) refl

@@ -8,7 +8,7 @@ ghost use Rattle.client_steps.specs.Client as plain;
 ghost use Rattle.client_steps.specs.Machines.{ClientHolds};
 ghost use Rattle.client_core.specs.Waiting.{time_left, wait_of};
 ghost use Rattle.client_steps.specs.Upstream as below;
-ghost use Rattle.client_steps.specs.Whole.{machine, reading, started, with_one_more, plain_step, client_with};
+ghost use Rattle.client_steps.specs.Whole.{machine, reading, started, started_with, with_one_more, plain_step, client_with};
 ghost use Rattle.client_cache.specs.Plain as caching;
 ghost use Rattle.client_cache.specs.Serving.{would_serve};
 ghost use Rattle.client_choice.specs.Redundant as choosing;
@@ -18,6 +18,7 @@ use crate::{cache, redundant};
 use client_cache::Request;
 use client_choice::redundant as choice;
 use client_request::{Board, Cx, Error, Event, Moment, Outs, RequestMessage, Row, Timers, Words};
+use client_settings::{Settings, Transports};
 use client_steps::{Asked, take_in};
 use dns_base::{Duration, NoMemory};
 use resolv_conf::{ResolvConf, ServerConf};
@@ -30,6 +31,7 @@ use std::marker::Model;
 pub struct Client {
     alloc: Global,
     use_vc: bool,
+    transports: Transports,
     count: usize,
     layer: Layers,
     asked: Asked<Request<choice::Request>>,
@@ -47,6 +49,7 @@ impl Drop for Client {
         let Client {
             alloc: _,
             use_vc: _,
+            transports: _,
             count: _,
             layer: _,
             asked: _,
@@ -72,6 +75,7 @@ impl Model for Client {
 
     ghost view = { λ c. record {
       use_vc = c.use_vc;
+      transports = c.transports;
       count = c.count;
       layer = c.layer;
       asked = c.asked;
@@ -132,7 +136,6 @@ impl Client {
 
     /// The same, whose cache is hashed from a seed: who does not know it can't ask for names that slow the cache down. A
     /// client that lives long and asks what others ask of it wants a random one. What the client does is the same with any.
-    #[tactic(auto, using(crate::proofs::Serving::none_failed))]
     pub fn with_seed(
         alloc: Global,
         conf: &ResolvConf,
@@ -143,11 +146,37 @@ impl Client {
         ensures made { IfOk result (λ c. c ≡ started redundant cache conf.now) }
         ensures refused { IfErr result (λ e. e ≡ Error.NoMemory) }
     {
-        let servers = servers_of(alloc, conf, redundant)?;
+        let settings = Settings {
+            redundant,
+            cache,
+            transports: Transports::new(),
+        };
+        Client::with_settings(alloc, conf, settings, seed)
+    }
+
+    /// The same with settings of transports, which hold for every server alike, also for one that is added. The seed is that
+    /// of `with_seed`.
+    #[tactic(auto, using(crate::proofs::Serving::none_failed))]
+    pub fn with_settings(
+        alloc: Global,
+        conf: &ResolvConf,
+        settings: Settings,
+        seed: u64,
+    ) -> Result<Client, Error>
+        ensures made { IfOk result (λ c. c ≡ started_with settings.transports settings.redundant settings.cache conf.now) }
+        ensures refused { IfErr result (λ e. e ≡ Error.NoMemory) }
+    {
+        let Settings {
+            redundant,
+            cache,
+            transports,
+        } = settings;
+        let servers = servers_of(alloc, conf, redundant, &transports)?;
         let layer = Layers::with_seed(alloc, servers, cache, seed)?;
         Ok(Client {
             alloc,
             use_vc: conf.options.use_vc,
+            transports,
             count: conf.servers.len(),
             layer,
             asked: Asked::new(alloc),
@@ -176,7 +205,17 @@ impl Client {
             return Err(Error::Failed);
         }
         let servers = self.layer.upstream_mut();
-        if add_server(self.alloc, servers, self.count, self.use_vc, server).is_err() {
+        let transports = &self.transports;
+        if add_server(
+            self.alloc,
+            servers,
+            transports,
+            self.count,
+            self.use_vc,
+            server,
+        )
+        .is_err()
+        {
             self.failed = true;
             return Err(Error::NoMemory);
         }
@@ -195,6 +234,7 @@ impl Client {
         ensures none_due { OnOk result (due_now self.new.now self.new.timers.set ≡ None) }
         ensures timeout { OnOk result (self.new.timeout ≡ self.old.timeout) }
         ensures use_vc { OnOk result (self.new.use_vc ≡ self.old.use_vc) }
+        ensures transports { OnOk result (self.new.transports ≡ self.old.transports) }
         ensures count { OnOk result (self.new.count ≡ self.old.count) }
         ensures lasts { OnOk result (self.new.failed ≡ false) }
         ensures numbers { NumbersRunOut result (plain_step (W.stream words.old) event self.old) }

@@ -46,7 +46,7 @@ mod servers;
 
 pub use client::Client;
 pub use client_request::{Event, Moment, Out, Row, Rows, Trace, Via, What};
-pub use client_settings::{cache, redundant};
+pub use client_settings::{Settings, Transports, cache, dgram, multi_stream, redundant, stream};
 pub use client_steps::{Asked, Handed, Upstream, Waiting};
 pub use clock::{Clock, ListClock};
 pub use edge::{Deed, Edge, is_fault};

@@ -5,11 +5,16 @@ use Rattle.client_core.proofs.Replaying.{row_event}
 use Rattle.client_request.specs.declared.event.Event.{Event}
 use Rattle.client_request.specs.declared.event.Row.{Row}
 use Rattle.client_steps.specs.Client.{Client, Machine, plain_rows, row_step, then_rows}
-use Rattle.proof_cutting.specs.Cuts.{EveryPlainTraceMayBeCut}
-use Rattle.proof_client.specs.Ties.{AreHandedIn, EveryPlainTraceHits, EveryPlainTraceIsRight, EveryPlainTraceServesStale}
+use Rattle.proof_cutting.specs.Cuts.{TracesMayBeCut}
+use Rattle.proof_client.specs.Ties.{AreHandedIn, TracesAreRight, TracesHit, TracesServeStale}
+use Rattle.client_settings.specs.Client.{default_transports}
+use Rattle.client_settings.specs.declared.settings.Transports.{Transports}
+use Rattle.client_steps.specs.Headline.{conf_of}
+use Rattle.right_settings.proofs.First.{first_given}
+use Rattle.right_trace.specs.Trace as trace
 use Rattle.client_settings.specs.Settings.{CacheSettings, RedundantSettings}
-use Rattle.client_steps.specs.Whole.{machine, plain_trace}
-use Rattle.client_replay.specs.Replayed.{IsReplay}
+use Rattle.client_steps.specs.Whole.{machine, plain_trace_with}
+use Rattle.client_replay.specs.Replayed.{IsReplay, IsReplayWith}
 use Rattle.resolv_conf.specs.declared.conf.ResolvConf.{ResolvConf}
 
 -- no row was made yet
@@ -35,18 +40,31 @@ module _ {U P : Type 0} (m : Machine U P) (timeout : ℕ) where
   each_row (e ∷ es) c rows h = of_step e es c rows (each_row es) (row_step m timeout e c) refl h
 
 -- What was made is what a replay makes.
-pub is_replay : (redundant : RedundantSettings) (cache : CacheSettings) (conf : ResolvConf) (words : ℕ → ℕ) (events : List Event) (rows : List Row)
-    → EveryPlainTraceIsRight → EveryPlainTraceHits → EveryPlainTraceServesStale → EveryPlainTraceMayBeCut
-    → plain_trace redundant cache conf words events ≡ Some (rows ++ []) → AreHandedIn cache words events → IsReplay redundant cache conf words events rows
-is_replay redundant cache conf words events rows right hits serves cuts made handed =
+pub is_replay : (given : Transports) (redundant : RedundantSettings) (cache : CacheSettings) (conf : ResolvConf) (words : ℕ → ℕ) (events : List Event) (rows : List Row)
+    → ((t : trace.Transports) (given : Transports) → TracesAreRight t given) → ((t : trace.Transports) (given : Transports) → TracesHit t given) → ((t : trace.Transports) (given : Transports) → TracesServeStale t given) → TracesMayBeCut
+    → plain_trace_with given redundant cache conf words events ≡ Some (rows ++ []) → AreHandedIn cache words events → IsReplayWith given redundant cache conf words events rows
+is_replay given redundant cache conf words events rows right hits serves cuts made handed =
     let plain = made ∙ ap Some (append-nil rows) in
-    let law = right redundant cache conf words events rows plain handed in
     record {
       plain = plain;
       each = each_row machine conf.options.timeout events _ rows plain;
-      right = law.0;
-      timely = law.1;
-      hits = hits redundant cache conf words events rows plain handed;
-      stale = serves redundant cache conf words events rows plain handed;
-      cut = cuts redundant cache conf words events rows plain handed;
+      right = λ t are. (right t given redundant cache conf words events rows are plain handed).0;
+      timely = λ t are. (right t given redundant cache conf words events rows are plain handed).1;
+      hits = λ t are. hits t given redundant cache conf words events rows are plain handed;
+      stale = λ t are. serves t given redundant cache conf words events rows are plain handed;
+      cut = λ t are. cuts t given redundant cache conf words events rows are plain handed;
+    }
+
+-- With the defaults it is a replay with the first settings.
+pub replay_of : (redundant : RedundantSettings) (cache : CacheSettings) (conf : ResolvConf) (words : ℕ → ℕ) (events : List Event) (rows : List Row) → IsReplayWith default_transports redundant cache conf words events rows → IsReplay redundant cache conf words events rows
+replay_of redundant cache conf words events rows x =
+    let are = first_given (conf_of conf) in
+    record {
+      plain = x.plain;
+      each = x.each;
+      right = x.right trace.first_transports are;
+      timely = x.timely trace.first_transports are;
+      hits = x.hits trace.first_transports are;
+      stale = x.stale trace.first_transports are;
+      cut = x.cut trace.first_transports are;
     }

@@ -3,10 +3,10 @@
 ghost use Rattle.std.specs.Prelude.{◌≡◌, Some, None, Ok, List, IfOk, IfErr, IsErrOf, [], map};
 ghost use Rattle.client_request.specs.Timers.{IsWant};
 ghost use Rattle.client_request.specs.declared.event.Row.{Row};
-ghost use Rattle.client_replay.specs.Replayed.{IsReplay};
+ghost use Rattle.client_replay.specs.Replayed.{IsReplay, IsReplayWith};
 ghost use Rattle.proof_cutting.specs.Cuts.{MayBeCut};
 ghost use Rattle.client_steps.specs.Headline.{conf_of, settings_of};
-ghost use Rattle.client_steps.specs.Whole.{plain_trace};
+ghost use Rattle.client_steps.specs.Whole.{plain_trace, plain_trace_with};
 ghost use Rattle.client_cache.specs.Plain.{room_of};
 ghost use Rattle.client_request.specs.Composed.{composed};
 ghost use Rattle.right_trace.specs.Hit.{AllHit};
@@ -15,13 +15,13 @@ ghost use Rattle.right_trace.specs.StaleServed.{AllServeStale};
 ghost use Rattle.right_trace.specs.Timely.{Timely};
 
 use crate::taking::TakeRow;
-use client_core::{Client, all_asked_in_octets, all_in_octets, cache, redundant};
+use client_core::{
+    Client, Settings, Transports, all_asked_in_octets, all_in_octets, cache, redundant,
+};
 use client_request::{Error, Event, Events, Rows, Trace, Words};
 use dns_base::NoMemory;
-use proof_client::{
-    every_plain_trace_hits, every_plain_trace_is_right, every_plain_trace_serves_stale,
-};
-use proof_cutting::every_plain_trace_may_be_cut;
+use proof_client::traces_with_settings;
+use proof_cutting::traces_may_be_cut;
 use resolv_conf::ResolvConf;
 use std::alloc::Global;
 
@@ -78,6 +78,33 @@ pub trait Replay {
         ensures replay { IfOk result (λ _. (rows : List Row) × IsReplay redundant cache conf.now (W.stream words.old) events rows × T.has taker.new rows) }
         ensures numbers { IsErrOf result Error.NumbersUsed → plain_trace redundant cache conf.now (W.stream words.old) events ≡ None }
         ensures refused { IfErr result IsWant };
+
+    /// The trace of a client with settings of its transports, for every server alike. It is right and timely, and all else of
+    /// `replay`, by these settings.
+    fn replay_with<W: Words>(
+        alloc: Global,
+        conf: &ResolvConf,
+        settings: Settings,
+        words: &mut W,
+        events: &[Event],
+    ) -> Result<Trace, Error>
+        ensures replay { IfOk result (λ t. IsReplayWith settings.transports settings.redundant settings.cache conf.now (W.stream words.old) events.now t.rows) }
+        ensures numbers { IsErrOf result Error.NumbersUsed → plain_trace_with settings.transports settings.redundant settings.cache conf.now (W.stream words.old) events.now ≡ None }
+        ensures refused { IfErr result IsWant };
+
+    /// The same, where each row is taken as soon as it is made. After an error some of the rows were taken.
+    fn replay_into_with<W: Words, T: TakeRow>(
+        alloc: Global,
+        conf: &ResolvConf,
+        settings: Settings,
+        words: &mut W,
+        events: Events,
+        taker: &mut T,
+    ) -> Result<(), Error>
+        requires none_taken { T.has taker.old [] }
+        ensures replay { IfOk result (λ _. (rows : List Row) × IsReplayWith settings.transports settings.redundant settings.cache conf.now (W.stream words.old) events rows × T.has taker.new rows) }
+        ensures numbers { IsErrOf result Error.NumbersUsed → plain_trace_with settings.transports settings.redundant settings.cache conf.now (W.stream words.old) events ≡ None }
+        ensures refused { IfErr result IsWant };
 }
 
 impl Replay for Client {
@@ -104,15 +131,42 @@ impl Replay for Client {
         events: Events,
         taker: &mut T,
     ) -> Result<(), Error> {
-        cache.max_validity_is_limited();
+        let settings = Settings {
+            redundant,
+            cache,
+            transports: Transports::new(),
+        };
+        Client::replay_into_with(alloc, conf, settings, words, events, taker)
+    }
+
+    fn replay_with<W: Words>(
+        alloc: Global,
+        conf: &ResolvConf,
+        settings: Settings,
+        words: &mut W,
+        events: &[Event],
+    ) -> Result<Trace, Error> {
+        let copies = copied(alloc, events)?;
+        let mut rows = Rows::new(alloc);
+        Client::replay_into_with(alloc, conf, settings, words, copies, &mut rows)?;
+        Ok(Trace { rows })
+    }
+
+    fn replay_into_with<W: Words, T: TakeRow>(
+        alloc: Global,
+        conf: &ResolvConf,
+        settings: Settings,
+        words: &mut W,
+        events: Events,
+        taker: &mut T,
+    ) -> Result<(), Error> {
+        settings.cache.max_validity_is_limited();
         let told = events.as_slice();
         all_asked_in_octets(told);
         all_in_octets(told);
-        every_plain_trace_is_right();
-        every_plain_trace_hits();
-        every_plain_trace_serves_stale();
-        every_plain_trace_may_be_cut();
-        let mut client = Client::new(alloc, conf, redundant, cache)?;
+        traces_with_settings();
+        traces_may_be_cut();
+        let mut client = Client::with_settings(alloc, conf, settings, 0)?;
         for event in events.into_vec() {
             let row = client.step(words, event)?;
             taker.take(row)?;

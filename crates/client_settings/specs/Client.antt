@@ -12,3 +12,7 @@ default_transports = record { dgram = dgram.default_settings; multi_stream = mul
 -- a client as by default, with these settings of its choice and of its cache
 abbrev pub default_settings : Settings
 default_settings = record { redundant = default_redundant; cache = default_cache; transports = default_transports }
+
+-- what all settings of transports have
+abbrev pub AreLimited : Transports → Type 0
+AreLimited t = dgram.AreLimited t.dgram × multi_stream.AreLimited t.multi_stream

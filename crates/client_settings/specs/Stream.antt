@@ -1,5 +1,5 @@
 -- The settings of a stream connection: times in microseconds.
-use Rattle.std.specs.Prelude.{ℕ}
+use Rattle.std.specs.Prelude.{ℕ, ◌≤◌}
 
 -- The second time is that of transfers.
 pub record Settings : Type 0 where
@@ -9,3 +9,7 @@ pub record Settings : Type 0 where
 
 abbrev pub default_settings : Settings
 default_settings = record { response_timeout = 19000000; streaming_response_timeout = 19000000; idle_timeout = 10000000 }
+
+-- what all settings have: a millisecond at least for a frame
+abbrev pub AreLimited : Settings → Type 0
+AreLimited s = 1000 ≤ s.response_timeout

@@ -1,9 +1,9 @@
 //! The settings of a datagram transport.
 
-ghost use Rattle.std.specs.Prelude.{◌≡◌, Option, Some, Ok};
+ghost use Rattle.std.specs.Prelude.{◌≡◌, ◌<◌, Option, Some, Ok};
 ghost use Rattle.std.specs.Ordering.{nat_cmp};
 ghost use Rattle.client_request.specs.Limits.{limited};
-ghost use Rattle.client_settings.specs.Dgram.{Settings, default_settings};
+ghost use Rattle.client_settings.specs.Dgram.{AreLimited, Settings, default_settings};
 
 use client_request::DefMinMax;
 use dns_base::{Duration, NoMemory};
@@ -46,6 +46,7 @@ pub struct Config {
 
 impl Model for Config {
     ghost use Rattle.client_settings.specs.Dgram.{Settings};
+    ghost use Rattle.std.specs.Prelude.{◌≤◌};
 
     ghost Value = { Settings };
 
@@ -64,6 +65,8 @@ impl Model for Config {
       udp_payload_size = s.udp_payload_size;
       recv_size = s.recv_size;
     } };
+
+    ghost invariant = { λ c. (1 ≤ c.max_parallel) × (1000 ≤ c.read_timeout) };
 }
 
 impl Default for Config {
@@ -74,7 +77,26 @@ impl Default for Config {
     }
 }
 
+/// A payload size has two octets.
+fn size_is_short(size: u16)
+    ensures { size < 65536 }
+{
+    let _size = size;
+}
+
 impl Config {
+    /// There is a place at least, and an answer is waited for, whatever was set.
+    pub fn are_limited(&self)
+        ensures { AreLimited self.now }
+    {
+        let _places = self.max_parallel;
+        let _time = self.read_timeout;
+        match self.udp_payload_size {
+            None => {}
+            Some(size) => size_is_short(size),
+        }
+    }
+
     /// The defaults: 100 requests at a time, 5 seconds, 5 further tries, a payload size of 1232 octets,
     /// and 2000 octets of an answer.
     pub fn new() -> Config

@@ -15,7 +15,7 @@
 //! ```
 //!
 //! `redundant::Config`, `cache::Config`, `dgram::Config`, `stream::Config` and `multi_stream::Config` are seen as records
-//! of their settings, times in microseconds; `Settings` is those of a whole client, which no call takes yet. `new` and
+//! of their settings, times in microseconds; `Settings` is those of a whole client. `new` and
 //! `Default` give the defaults; a setter changes its setting alone, to the value cut into the limits (`limited`); a getter
 //! gives it. The crate stands on `client_request` for `DefMinMax` alone.
 #![tactic(auto)]

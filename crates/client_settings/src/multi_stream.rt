@@ -6,7 +6,7 @@ ghost use Rattle.std.specs.Ordering.{nat_cmp};
 ghost use Rattle.client_request.specs.Limits.{limited};
 ghost use Rattle.client_settings.specs.contracts.stream.Config.{the_row as stream_row};
 ghost use Rattle.client_settings.specs.contracts.multi_stream.Config.{the_row};
-ghost use Rattle.client_settings.specs.MultiStream.{default_settings, over_stream, with_stream};
+ghost use Rattle.client_settings.specs.MultiStream.{AreLimited, default_settings, over_stream, with_stream};
 
 use crate::stream;
 use client_request::DefMinMax;
@@ -33,10 +33,13 @@ pub struct Config {
 
 impl Model for Config {
     ghost use Rattle.client_settings.specs.MultiStream.{Settings};
+    ghost use Rattle.std.specs.Prelude.{◌≤◌};
 
     ghost Value = { Settings };
 
     ghost view = { λ c. record { response_timeout = c.response_timeout; stream = c.stream } };
+
+    ghost invariant = { λ c. 1000 ≤ c.response_timeout };
 }
 
 impl Default for Config {
@@ -59,6 +62,14 @@ impl From<stream::Config> for Config {
 }
 
 impl Config {
+    /// A request and a frame are waited for, whatever was set.
+    pub fn are_limited(&self)
+        ensures { AreLimited self.now }
+    {
+        let _ = &self.response_timeout;
+        self.stream.are_limited();
+    }
+
     /// The defaults: 30 seconds for a request, and those of a stream connection.
     pub fn new() -> Config
         ensures { result ≡ default_settings }

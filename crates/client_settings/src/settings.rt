@@ -1,7 +1,7 @@
 //! The settings of a client.
 
 ghost use Rattle.std.specs.Prelude.{◌≡◌, Ok};
-ghost use Rattle.client_settings.specs.Client.{default_settings, default_transports};
+ghost use Rattle.client_settings.specs.Client.{AreLimited, default_settings, default_transports};
 
 use crate::{cache, dgram, multi_stream, redundant};
 use dns_base::NoMemory;
@@ -16,6 +16,14 @@ pub struct Transports {
 }
 
 impl Transports {
+    /// There is a place at least, and what is asked is waited for, whatever was set.
+    pub fn are_limited(&self)
+        ensures { AreLimited self.now }
+    {
+        self.dgram.are_limited();
+        self.multi_stream.are_limited();
+    }
+
     /// The defaults of each transport.
     pub fn new() -> Transports
         ensures { result ≡ default_transports }

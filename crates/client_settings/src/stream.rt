@@ -3,7 +3,7 @@
 ghost use Rattle.std.specs.Prelude.{◌≡◌, ℕ, Ok};
 ghost use Rattle.std.specs.Ordering.{nat_cmp};
 ghost use Rattle.client_request.specs.Limits.{limited};
-ghost use Rattle.client_settings.specs.Stream.{Settings, default_settings};
+ghost use Rattle.client_settings.specs.Stream.{AreLimited, Settings, default_settings};
 
 use client_request::DefMinMax;
 use dns_base::{Duration, NoMemory};
@@ -41,6 +41,7 @@ pub struct Config {
 
 impl Model for Config {
     ghost use Rattle.client_settings.specs.Stream.{Settings};
+    ghost use Rattle.std.specs.Prelude.{◌≤◌};
 
     ghost Value = { Settings };
 
@@ -55,6 +56,8 @@ impl Model for Config {
       streaming_response_timeout = s.streaming_response_timeout;
       idle_timeout = s.idle_timeout;
     } };
+
+    ghost invariant = { λ c. 1000 ≤ c.response_timeout };
 }
 
 impl Default for Config {
@@ -66,6 +69,13 @@ impl Default for Config {
 }
 
 impl Config {
+    /// A frame is waited for, whatever was set.
+    pub fn are_limited(&self)
+        ensures { AreLimited self.now }
+    {
+        let _ = &self.response_timeout;
+    }
+
     /// The defaults: 19 seconds for a response, of a transfer too, and 10 seconds without a request.
     pub fn new() -> Config
         ensures { result ≡ default_settings }

@@ -9,7 +9,7 @@ use Rattle.client_request.specs.declared.event.Event.{Event}
 use Rattle.client_request.specs.declared.event.Out.{Out}
 use Rattle.client_request.specs.declared.event.Row.{Row}
 use Rattle.client_settings.specs.Settings.{CacheSettings, RedundantSettings, default_cache, default_redundant}
-use Rattle.client_steps.specs.Whole.{Whole, started, plain_step, client_with}
+use Rattle.client_steps.specs.Whole.{Whole, started_with, plain_step, client_with}
 use Rattle.resolv_conf.specs.Files.{empty_conf}
 use Rattle.resolv_conf.specs.declared.conf.ResolvConf.{ResolvConf}
 use Rattle.client_shared.specs.Drawn.{Continues}
@@ -17,9 +17,12 @@ use Rattle.client_shared.specs.declared.entry.Entry.{Entry}
 use Rattle.client_shared.specs.declared.entry.Item.{Item}
 use Rattle.client_shared.specs.declared.entry.Item.TheVariants.{Made, Lost}
 use Rattle.client_shared.specs.declared.entry.Receipt.{Receipt}
+use Rattle.client_settings.specs.declared.settings.Transports.{Transports}
+use Rattle.client_settings.specs.Client.{default_transports}
 
 -- What a shared client is opened with: a configuration, settings, the words that come, and for how many callers.
 pub record Opening : Type 0 where
+  pub transports : Transports
   pub redundant : RedundantSettings
   pub cache : CacheSettings
   pub conf : ResolvConf
@@ -27,7 +30,7 @@ pub record Opening : Type 0 where
   pub callers : ℕ
 
 abbrev pub no_opening : Opening
-no_opening = record { redundant = default_redundant; cache = default_cache; conf = empty_conf; words = λ k. 0; callers = 0 }
+no_opening = record { transports = default_transports; redundant = default_redundant; cache = default_cache; conf = empty_conf; words = λ k. 0; callers = 0 }
 
 abbrev pub no_table : TableId
 no_table = record { words = 0; slots = 0; views_name = 0; atom = 0; block = 0; offset = 0; slot_names = [] }
@@ -62,7 +65,7 @@ Runs n s f (Made e ∷ items) t g = (e.caller < n) × (m : Whole) × (h : ℕ �
 Runs n s f (Lost caller ∷ items) t g = (caller < n) × (items ≡ []) × (s ≡ t) × (f ≡ g)
 
 abbrev pub opened : Opening → Whole
-opened o = started o.redundant o.cache o.conf
+opened o = started_with o.transports o.redundant o.cache o.conf
 
 -- A history is legal where the plain client, started on the opening and given the events and the words, puts these outs out, for callers whose numbers are below their count.
 abbrev pub IsLegal : Opening → List Item → Type 0
@@ -210,8 +213,12 @@ pub record IsClosed (entries : List Entry) (lost : Option ℕ) (p : Passed) : Ty
   pub calls_are : calls_of p.number (history entries lost) ≡ calls p
   pub lost_is : is_lost p ≡ is_of p.number lost
 
+abbrev pub opening_with : Transports → RedundantSettings → CacheSettings → ResolvConf → (ℕ → ℕ) → ℕ → Opening
+opening_with transports redundant cache conf words callers = record { transports = transports; redundant = redundant; cache = cache; conf = conf; words = words; callers = callers }
+
+-- the same with the default settings of transports
 abbrev pub opening_of : RedundantSettings → CacheSettings → ResolvConf → (ℕ → ℕ) → ℕ → Opening
-opening_of redundant cache conf words callers = record { redundant = redundant; cache = cache; conf = conf; words = words; callers = callers }
+opening_of = opening_with default_transports
 
 -- What is known of a shared client beside its type: for how many callers it was made.
 pub record Shared : Type 0 where

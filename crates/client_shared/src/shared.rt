@@ -4,14 +4,14 @@ ghost use Rattle.std.specs.Prelude.{◌≡◌, ◌≢◌, ◌⊎◌, ◌+◌, �
 ghost use mathlib.Core.List.{IsPrefix};
 ghost use Rattle.client_request.specs.Timers.{IsWant};
 ghost use Rattle.client_shared.specs.Drawn.{AreDrawn};
-ghost use Rattle.client_shared.specs.History.{history, opening_of, numbered, newcomer, calls, is_lost, IsLegal, IsFresh, IsSubmitted, IsRefused, IsStopped, IsBehind, IsSettled, IsClosed};
+ghost use Rattle.client_shared.specs.History.{history, opening_of, opening_with, numbered, newcomer, calls, is_lost, IsLegal, IsFresh, IsSubmitted, IsRefused, IsStopped, IsBehind, IsSettled, IsClosed};
 ghost use Rattle.joint_history.specs.Words.{word_of};
 
 use crate::desk::{Desk, Parts};
 use crate::entry::{Item, Journal, Receipt};
 use crate::key::{ClientKey, Opened};
 use crate::pass::{Pass, meet};
-use client_core::{Client, cache, redundant};
+use client_core::{Client, Settings, Transports, cache, redundant};
 use client_request::{Error, Event, Words};
 use joint_history::{Joint, Seat};
 use resolv_conf::ResolvConf;
@@ -109,8 +109,31 @@ impl<L: ClientKey, W: Words + Drop> SharedClient<L, W> {
         ensures passes { IfOk result (λ r. r.1.items ≡ numbered callers) }
         ensures refused { IfErr result (λ e. e ≡ Error.NoMemory) }
     {
+        let settings = Settings {
+            redundant,
+            cache,
+            transports: Transports::new(),
+        };
+        SharedClient::with_settings(alloc, opened, conf, settings, words, callers)
+    }
+
+    /// The same with settings of transports, for every server alike.
+    pub fn with_settings(
+        alloc: Global,
+        opened: Opened,
+        conf: &ResolvConf,
+        settings: Settings,
+        words: W,
+        callers: u32,
+    ) -> Result<(SharedClient<L, W>, Vec<Pass<L>>), Error>
+        requires table { word_of opened.joint ≡ L.table }
+        requires opening { L.opening ≡ opening_with settings.transports settings.redundant settings.cache conf.now (W.stream words) callers }
+        ensures shared { IfOk result (λ r. r.0.callers ≡ callers) }
+        ensures passes { IfOk result (λ r. r.1.items ≡ numbered callers) }
+        ensures refused { IfErr result (λ e. e ≡ Error.NoMemory) }
+    {
         let Opened { joint, mut seat } = opened;
-        let client = Client::new(alloc, conf, redundant, cache)?;
+        let client = Client::with_settings(alloc, conf, settings, 0)?;
         let Ok(passes) = passes_of(alloc, &joint, &mut seat, callers) else {
             return Err(Error::NoMemory);
         };

@@ -3,7 +3,7 @@
 ghost use Rattle.std.specs.Prelude.{◌≡◌, ◌≢◌, ◌⊎◌, ◌+◌, ◌<◌, ◌≤◌, ◌^◌, ◌++◌, [], ◌∷◌, Some, None, Err, true, false, length, IfOk, IfErr, IsErrOf};
 ghost use mathlib.Core.List.{IsPrefix};
 ghost use Rattle.client_request.specs.Timers.{IsWant};
-ghost use Rattle.client_shared.specs.History.{opened, opening_of, numbered, calls, is_lost, IsLegal, IsSubmitted, IsRefused, IsStopped, IsBehind, IsKeeping, Puts, EndsLost};
+ghost use Rattle.client_shared.specs.History.{opened, opening_of, opening_with, numbered, calls, is_lost, IsLegal, IsSubmitted, IsRefused, IsStopped, IsBehind, IsKeeping, Puts, EndsLost};
 ghost use Rattle.client_shared.specs.Unjournaled.{IsCounting, IsCounted, IsFull};
 ghost use Rattle.joint_history.specs.Words.{word_of};
 
@@ -12,7 +12,7 @@ use crate::key::{ClientKey, Opened};
 use crate::pass::{Pass, meet};
 use crate::recording::step;
 use crate::shared::passes_of;
-use client_core::{Client, cache, redundant};
+use client_core::{Client, Settings, Transports, cache, redundant};
 use client_request::{Error, Event, Words};
 use joint_history::{Joint, Seat};
 use resolv_conf::ResolvConf;
@@ -256,8 +256,31 @@ impl<L: ClientKey, W: Words + Drop> UnjournaledClient<L, W> {
         ensures passes { IfOk result (λ r. r.1.items ≡ numbered callers) }
         ensures refused { IfErr result (λ e. e ≡ Error.NoMemory) }
     {
+        let settings = Settings {
+            redundant,
+            cache,
+            transports: Transports::new(),
+        };
+        UnjournaledClient::with_settings(alloc, opened, conf, settings, words, callers)
+    }
+
+    /// The same with settings of transports, for every server alike.
+    pub fn with_settings(
+        alloc: Global,
+        opened: Opened,
+        conf: &ResolvConf,
+        settings: Settings,
+        words: W,
+        callers: u32,
+    ) -> Result<(UnjournaledClient<L, W>, Vec<Pass<L>>), Error>
+        requires table { word_of opened.joint ≡ L.table }
+        requires opening { L.opening ≡ opening_with settings.transports settings.redundant settings.cache conf.now (W.stream words) callers }
+        ensures shared { IfOk result (λ r. r.0.callers ≡ callers) }
+        ensures passes { IfOk result (λ r. r.1.items ≡ numbered callers) }
+        ensures refused { IfErr result (λ e. e ≡ Error.NoMemory) }
+    {
         let Opened { joint, mut seat } = opened;
-        let client = Client::new(alloc, conf, redundant, cache)?;
+        let client = Client::with_settings(alloc, conf, settings, 0)?;
         let Ok(passes) = passes_of(alloc, &joint, &mut seat, callers) else {
             return Err(Error::NoMemory);
         };

@@ -3,16 +3,20 @@ use Rattle.std.specs.Prelude.{Bool, true, false, map}
 use Rattle.client_settings.specs.Settings.{RedundantSettings, CacheSettings}
 use Rattle.client_steps.specs.Whole.{asks_by_streams}
 use Rattle.right_trace.specs.Settings.{Settings}
-use Rattle.right_trace.specs.Trace.{Conf, Use, ByDatagrams, ByStreams}
+use Rattle.right_trace.specs.Trace.{Conf, Use, ByDatagrams, ByStreams, Transports, first_transports}
 use Rattle.resolv_conf.specs.declared.conf.ResolvConf.{ResolvConf}
 
 abbrev pub use_of : (by_streams : Bool) → Use
 use_of true = ByStreams
 use_of false = ByDatagrams
 
--- each server by how it is asked, and the timeout in microseconds
+-- each server by how it is asked, the timeout in microseconds, and the settings of transports
+abbrev pub conf_with : Transports → ResolvConf → Conf
+conf_with t conf = record { servers = map (λ s. use_of (asks_by_streams conf.options s)) conf.servers; timeout = conf.options.timeout; transports = t }
+
+-- the same with the first settings of transports
 abbrev pub conf_of : ResolvConf → Conf
-conf_of conf = record { servers = map (λ s. use_of (asks_by_streams conf.options s)) conf.servers; timeout = conf.options.timeout }
+conf_of = conf_with first_transports
 
 -- what is deferred, and how long what may be kept
 abbrev pub settings_of : RedundantSettings → CacheSettings → Settings

@@ -11,7 +11,8 @@ PORT                        where it is listened, from 1 to 65535
 TURNS                       how many turns are made, from 1 to 18446744073709551615;
                             without it there is no end
 
-Options stand before PORT, each with its value. Of each but --listen the last counts.
+Options stand before PORT, each but --noedns with its value. Of each but --listen the last
+counts.
 
 --record FILE               write what the client within saw as a script that replays;
                             first of all words
@@ -33,6 +34,10 @@ Options stand before PORT, each with its value. Of each but --listen the last co
                             seconds, from 1 to 86400
 --workers N                 answer datagrams by so many threads at each address, from 1 to
                             64; 1. Not beside --status or --record
+--sockets N                 ask a server at so many sockets at a time, from 1 to 1000, in
+                            each round; 1000, and 100 by crate
+--bufsize OCTETS            announce this payload size to servers, from 512 to 65535; 1232
+--noedns                    announce none
 --help, --version           alone: this page, or the release
 
 On any other status than 0 a sentence on standard error says why.

@@ -1,21 +1,20 @@
 -- What a lookup ends with that is recorded.
 use Rattle.std.proofs.Common.{◌≡◌, ◌≢◌, ◌⊎◌, inl, inr, ℕ, ◌<◌, ◌≤◌, List, [], Option, String, Global, Ok, Err, ap, subst, arith}
 use Rattle.client_request.specs.Words.{listed}
-use Rattle.client_settings.specs.Settings.{CacheSettings, RedundantSettings, default_cache}
-use Rattle.client_steps.specs.Whole.{started}
+use Rattle.client_settings.specs.declared.settings.Settings.{Settings}
+use Rattle.client_steps.specs.Whole.{Whole, started_with}
 use Rattle.client_loop.specs.Asking.{scene}
 use Rattle.dns_record.specs.Asking.{left_of}
 use Rattle.dns_record.specs.Laws.{RecordLaw}
-use Rattle.dns_record.specs.Recording.{IsRefused, Recorded, Recording, drawn, opening}
+use Rattle.dns_record.specs.Recording.{IsRefused, Opening, Recorded, Recording, drawn, opening}
 use Rattle.dns_record.specs.declared.ended.Refused.{Refused}
-use Rattle.resolver_policy.specs.Practice.{practical_choice}
 use Rattle.resolv_conf.specs.declared.conf.ResolvConf.{ResolvConf}
 use Rattle.dns_values.specs.Source.{Rose}
 use Rattle.dns_lookup_run.specs.Ends.{EndsTold, IsDone, IsOfAsking, TellsWhy}
 use Rattle.dns_lookup_run.specs.Making.{IsMadeFor}
 use Rattle.dns_lookup_run.specs.Recorded.{AskedEnd, IsRecordedFor, RecordedEnd, Recordings, asked, keeps_by, no_conf, no_memory, not_recorded, refused, unrecorded_line, words_ahead}
 use Rattle.dns_lookup_run.specs.Sentences.{numbers_text, unwritten_text}
-use Rattle.dns_lookup_run.specs.Worlds.{World, at_words, begun, said}
+use Rattle.dns_lookup_run.specs.Worlds.{World, at_words, begun, client_for, said, settings_for}
 use Rattle.dns_lookup_run.proofs.Endings.{rose_later}
 use Rattle.dns_lookup_run.proofs.Making.{all_kept}
 use Rattle.dns_lookup_run.proofs.Runs.{of_asking}
@@ -29,18 +28,23 @@ unfolding words_ahead
 with_ahead P words count h is = subst P (ap (λ (n : ℕ). drawn n words) is) h
 
 module _ {L R : Type 0} (held : L → Option (List ℕ)) (faults : L → ℕ) (kept : R → Option (List ℕ)) (file_faults : R → ℕ) (lookup : Lookup) (conf : ResolvConf) (status : ℕ) (before after : L) (first last : R) (old new : World)
-    (choice : RedundantSettings) (cache : CacheSettings) (choice_is : choice ≡ practical_choice) (cache_is : cache ≡ default_cache) where
+    (settings : Settings) (set : settings ≡ settings_for conf) where
+  -- the client with these settings, and with what its record begins
+  abbrev first_with : Settings → Whole
+  first_with s = started_with s.transports s.redundant s.cache conf
+
+  abbrev opening_with : Settings → Opening
+  opening_with s = opening conf s.redundant s.cache s.transports (words_ahead old.words) (kept first)
+
   -- nothing can be recorded
-  pub refused_end : (why : Refused) → IsRefused why conf choice cache (words_ahead old.words) (file_faults first) (file_faults last) → (status ≡ 8) ⊎ (status ≡ 6)
+  pub refused_end : (why : Refused) → IsRefused why conf settings.redundant settings.cache settings.transports (words_ahead old.words) (file_faults first) (file_faults last) → (status ≡ 8) ⊎ (status ≡ 6)
       → (status ≡ 8 → said held faults before after (unrecorded_line why)) → AskedEnd held faults kept file_faults lookup conf status before after first last old new
   refused_end why is (inl eight) told =
-      not_recorded why
-      (subst (λ (k : CacheSettings). IsRefused why conf practical_choice k (words_ahead old.words) (file_faults first) (file_faults last)) cache_is
-      (subst (λ (p : RedundantSettings). IsRefused why conf p cache (words_ahead old.words) (file_faults first) (file_faults last)) choice_is is)) (told eight) eight
+      not_recorded why (subst (λ (s : Settings). IsRefused why conf s.redundant s.cache s.transports (words_ahead old.words) (file_faults first) (file_faults last)) set is) (told eight) eight
   refused_end why is (inr six) told = no_memory six
 
   -- it is asked, and recorded
-  recorded_for : (r s : Recording) (middle : R) → r.words ≡ words_ahead old.words → Recorded (opening conf choice cache (words_ahead old.words) (kept first)) [] (kept middle) r (started choice cache conf) → RecordLaw
+  recorded_for : (r s : Recording) (middle : R) → r.words ≡ words_ahead old.words → Recorded (opening_with settings) [] (kept middle) r (first_with settings) → RecordLaw
       → IsMadeFor (keeps_by kept) lookup conf (record { recorder = r; sink = middle }) (record { recorder = s; sink = last }) (at_words (left_of r) old) (at_words (left_of s) new)
       → IsRecordedFor kept lookup conf (words_ahead old.words) r s first middle last (at_words (listed (words_ahead old.words)) old) (at_words (left_of s) new)
   recorded_for r s middle words begins law made =
@@ -48,17 +52,15 @@ module _ {L R : Type 0} (held : L → Option (List ℕ)) (faults : L → ℕ) (k
       let end : World = at_words (left_of s) new in
       let m : IsMadeFor (keeps_by kept) lookup conf (record { recorder = r; sink = middle }) (record { recorder = s; sink = last }) start end =
       subst (λ (ws : List ℕ). IsMadeFor (keeps_by kept) lookup conf (record { recorder = r; sink = middle }) (record { recorder = s; sink = last }) (at_words (listed ws) old) end) words made in
-      let o = opening conf practical_choice default_cache (words_ahead old.words) (kept first) in
-      let b : Recorded o [] (kept middle) r (started practical_choice default_cache conf) =
-      subst (λ (k : CacheSettings). Recorded (opening conf practical_choice k (words_ahead old.words) (kept first)) [] (kept middle) r (started practical_choice k conf)) cache_is
-      (subst (λ (p : RedundantSettings). Recorded (opening conf p cache (words_ahead old.words) (kept first)) [] (kept middle) r (started p cache conf)) choice_is begins) in
+      let o = opening_with (settings_for conf) in
+      let b : Recorded o [] (kept middle) r (client_for conf) = subst (λ (s : Settings). Recorded (opening_with s) [] (kept middle) r (first_with s)) set begins in
       let all : Recorded o m.rows (kept last) s m.left =
       all_kept kept 0 m.asks m.answers m.rows (record { recorder = r; sink = middle }) (record { recorder = s; sink = last }) (begun conf start m.waits)
       (scene m.left end.words end.deeds m.later_waits end.polls end.moments) m.are_made o [] b in
       record { made = m; has = law o m.rows (kept last) s.words s.size s.ended m.left all }
 
   pub asked_end : (r : Recording) (middle : R) (end : Recordings R) → end.sink ≡ last → r.words ≡ words_ahead old.words
-      → Recorded (opening conf choice cache (words_ahead old.words) (kept first)) [] (kept middle) r (started choice cache conf) → RecordLaw → IsOfAsking status
+      → Recorded (opening_with settings) [] (kept middle) r (first_with settings) → RecordLaw → IsOfAsking status
       → EndsTold held faults lookup conf status before after (at_words (left_of r) old) (at_words (left_of end.recorder) new)
       → (status ≡ 0 → held after ≡ held before) → (status ≡ 4 → said held faults before after unwritten_text) → (status ≡ 7 → said held faults before after numbers_text)
       → (status ≢ 6 → status ≢ 7 → IsMadeFor (keeps_by kept) lookup conf (record { recorder = r; sink = middle }) end (at_words (left_of r) old) (at_words (left_of end.recorder) new))

@@ -6,13 +6,11 @@ use Rattle.client_core.specs.declared.edge.Deed.{Deed}
 use Rattle.client_core.specs.declared.edge.Deed.TheVariants.{Learned}
 use Rattle.client_loop.specs.Asking.{IsAnswered, Scene, StopsForNumbers, scene}
 use Rattle.client_loop.specs.Turns.{after_deeds}
-use Rattle.client_settings.specs.Settings.{default_cache}
-use Rattle.resolver_policy.specs.Practice.{practical_choice}
-use Rattle.client_steps.specs.Whole.{Whole, started}
+use Rattle.client_steps.specs.Whole.{Whole}
 use Rattle.dns_lookup_pages.specs.Lacking.{lacking_in}
 use Rattle.dns_lookup_pages.specs.Queries.{query_octets}
 use Rattle.dns_lookup_pages.specs.declared.short.Lacking.{Lacking}
-use Rattle.dns_lookup_run.specs.Worlds.{World, begun, is_message}
+use Rattle.dns_lookup_run.specs.Worlds.{World, begun, client_for, is_message}
 use Rattle.resolv_conf.specs.declared.conf.ResolvConf.{ResolvConf}
 use Rattle.dns_lookup_words.specs.declared.manner.Ask.{Ask}
 use Rattle.dns_lookup_words.specs.declared.manner.Flags.{Flags}
@@ -77,7 +75,7 @@ pub data AreAnswered : ℕ → List Ask → List Answer → Scene → Scene → 
 
 -- A new client of a configuration, whose servers were learned, and nothing else was done with their edge.
 pub record HasBegun (conf : ResolvConf) (client : Whole) (deeds deeds_after : Option (List Deed)) (polls polls_after : ℕ) : Type 0 where
-  pub made : client ≡ started practical_choice default_cache conf
+  pub made : client ≡ client_for conf
   pub learned : deeds_after ≡ after_deeds (map (λ server. Learned server) conf.servers) deeds
   pub polled : polls_after ≡ polls
 

@@ -8,8 +8,9 @@ use Rattle.client_loop.specs.Asking.{Scene, scene}
 use Rattle.client_loop.specs.Turns.{after_deeds}
 use Rattle.client_request.specs.declared.error.Error.{Error}
 use Rattle.client_settings.specs.Settings.{default_cache}
-use Rattle.resolver_policy.specs.Practice.{practical_choice}
-use Rattle.client_steps.specs.Whole.{started}
+use Rattle.client_settings.specs.declared.settings.Settings.{Settings}
+use Rattle.resolver_policy.specs.Practice.{practical_choice, practical_transports}
+use Rattle.client_steps.specs.Whole.{Whole, started_with}
 use Rattle.resolv_conf.specs.declared.conf.ResolvConf.{ResolvConf}
 
 -- the words that come, what the edge tells, its count of polls, and the moments that the clock tells
@@ -35,9 +36,16 @@ around deeds polls given stream old new P =
 abbrev pub said : {L : Type 0} → (L → Option (List ℕ)) → (L → ℕ) → (old new : L) → (line : List ℕ) → Type 0
 said held faults old new line = IsSaid line (held old) (held new) (faults old) (faults new)
 
--- a new client of a configuration, whose servers the edge has learned; it keeps these waits
+-- how the client is set that asks the servers of a configuration, and a new one, which asks as practice has it
+abbrev pub settings_for : ResolvConf → Settings
+settings_for conf = record { redundant = practical_choice; cache = default_cache; transports = practical_transports conf }
+
+abbrev pub client_for : ResolvConf → Whole
+client_for conf = started_with (practical_transports conf) practical_choice default_cache conf
+
+-- such a client, whose servers the edge has learned; it keeps these waits
 abbrev pub begun : ResolvConf → World → Option (List ℕ) → Scene
-begun conf old waits = scene (started practical_choice default_cache conf) old.words (after_deeds (map (λ server. Learned server) conf.servers) old.deeds) waits old.polls old.moments
+begun conf old waits = scene (client_for conf) old.words (after_deeds (map (λ server. Learned server) conf.servers) old.deeds) waits old.polls old.moments
 
 -- it is a message
 abbrev pub is_message : Option (Result (List ℕ) Error) → Bool

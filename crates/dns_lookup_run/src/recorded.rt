@@ -12,11 +12,11 @@ ghost use Rattle.dns_lookup_run.specs.Worlds.{around, said};
 
 use crate::asks::{Answered, Asks};
 use crate::conf::conf_of;
-use crate::program::ask_all;
+use crate::program::{ask_all, settings_for};
 use crate::telling::{tell_conf, tell_no_memory, tell_notes, tell_refusal};
 use crate::watched_clock::WatchedClock;
 use crate::watched_edge::WatchedEdge;
-use client_core::{Client, Clock, Edge, cache};
+use client_core::{Client, Clock, Edge};
 use client_request::{Error, RequestMessage, Words};
 use command_parts::{end_by, statuses};
 use dns_base::{NoMemory, Status};
@@ -25,7 +25,6 @@ use dns_record::{Ahead, Ended, Recorder, Refused, record_law, recorded_ask};
 use dns_values::{Sink, Source};
 use record_file::NOT_RECORDED;
 use resolv_conf::ResolvConf;
-use resolver_policy::practical_choice;
 use std::alloc::Global;
 use std::marker::Model;
 
@@ -177,10 +176,9 @@ fn ask_recorded<K: Sink, L: Sink, E: Edge + Drop, C: Clock + Drop, W: Words, R: 
     ensures line_flushed { IsTold result.status.0 → IsFlushed (L.held errors.new) (L.flushed errors.new) ⊎ Rose (L.faults errors.old) (L.faults errors.new) }
 {
     record_law();
-    let choice = practical_choice();
-    let cache = cache::Config::new();
+    let settings = settings_for(conf);
     let mut file = file;
-    let begun = Recorder::begin(alloc, conf, choice, &cache, rng, ahead(), &mut file);
+    let begun = Recorder::with_settings(alloc, conf, &settings, rng, ahead(), &mut file);
     let recorder = match begun {
         Ok(recorder) => recorder,
         Err(refused) => return without(tell_unrecorded(alloc, refused, errors), file),

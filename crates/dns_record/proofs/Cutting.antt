@@ -10,7 +10,7 @@ use Rattle.client_request.specs.Words.{listed}
 use Rattle.client_request.specs.declared.event.Event.{Event}
 use Rattle.client_request.specs.declared.event.Row.{Row}
 use Rattle.client_steps.specs.Client.{plain_rows, row_step, then_rows}
-use Rattle.client_steps.specs.Whole.{Client, Whole, client_with, machine, started}
+use Rattle.client_steps.specs.Whole.{Client, Whole, client_with, machine, started_with}
 use Rattle.dns_record.specs.Recording.{GoesOn, IsCutRecord, IsRecord, Opening, script_of_rows, text_of_rows, told_conf}
 use Rattle.dns_record.proofs.Starting.{same_start}
 use Rattle.dns_script.specs.Lines.{event_line}
@@ -48,12 +48,12 @@ rows_plain (row ∷ rows) h = (event_plain row.event h.0, rows_plain rows h.1)
 
 module _ (o : Opening) where
   start : Client
-  start = client_with (listed o.words) (started o.redundant o.cache o.conf)
+  start = client_with (listed o.words) (started_with o.transports o.redundant o.cache o.conf)
 
   text_split : (rows first later : List Row) → events_of rows ≡ events_of first ++ events_of later → text_of_rows o rows ≡ text_of_rows o first ++ flat_map event_line (events_of later)
   text_split rows first later split =
-      let head : List ℕ = head_text (told_conf o.conf) o.redundant o.cache o.words in
-      ap (λ (es : List Event). script_text_of (script_of (told_conf o.conf) o.redundant o.cache o.words es)) split
+      let head : List ℕ = head_text (told_conf o.conf) o.redundant o.cache o.transports o.words in
+      ap (λ (es : List Event). script_text_of (script_of (told_conf o.conf) o.redundant o.cache o.transports o.words es)) split
       ∙ ap (λ (t : List ℕ). head ++ t) (flat_map-append event_line (events_of first) (events_of later))
       ∙ sym (append_assoc head (flat_map event_line (events_of first)) (flat_map event_line (events_of later)))
 
@@ -75,18 +75,18 @@ module _ (o : Opening) where
         script = script_of_rows o first;
         is_script =
             scripts_are_read_back (script_of_rows o first)
-            (first_told (told_conf o.conf) o.redundant o.cache o.words (events_of rows) (events_of first) (events_of later) split h.told)
-            (first_in_range (told_conf o.conf) o.redundant o.cache o.words (events_of rows) (events_of first) (events_of later) split h.range);
+            (first_told (told_conf o.conf) o.redundant o.cache o.transports o.words (events_of rows) (events_of first) (events_of later) split h.told)
+            (first_in_range (told_conf o.conf) o.redundant o.cache o.transports o.words (events_of rows) (events_of first) (events_of later) split h.range);
         fits = omega arith;
         replay =
-            ap (λ (w : Whole). plain_rows machine t (events_of first) (client_with (listed o.words) w)) (same_start o.redundant o.cache o.conf h.alike)
+            ap (λ (w : Whole). plain_rows machine t (events_of first) (client_with (listed o.words) w)) (same_start o.transports o.redundant o.cache o.conf h.alike)
             ∙ rows_before t first later start both;
       }
 
   pub cut_record : (rows : List Row) (held : Option (List ℕ)) (left : List ℕ) (size : ℕ) (client : Whole) (n : ℕ) → GoesOn o rows held left size client → length (text_of_rows o []) ≤ n
       → IsCutRecord o rows (take n (text_of_rows o rows))
   cut_record rows held left size client n h behind =
-      let head : List ℕ = head_text (told_conf o.conf) o.redundant o.cache o.words in
+      let head : List ℕ = head_text (told_conf o.conf) o.redundant o.cache o.transports o.words in
       let more : length head ≤ n = subst (λ (t : List ℕ). length t ≤ n) (append-nil head) behind in
       let c : CutLines (λ row. event_line row.event) rows (take (n - length head) (flat_map (λ row. event_line row.event) rows)) =
       cut_lines (λ row. event_text row.event) rows (n - length head) (rows_plain rows h.range.events) in

@@ -10,7 +10,7 @@ use Rattle.client_request.specs.Words.{listed}
 use Rattle.client_request.specs.declared.event.Event.{Event}
 use Rattle.client_request.specs.declared.event.Row.{Row}
 use Rattle.client_steps.specs.Client.{plain_rows, row_step}
-use Rattle.client_steps.specs.Whole.{Client, Whole, client_with, machine, plain_step, started}
+use Rattle.client_steps.specs.Whole.{Client, Whole, client_with, machine, plain_step, started_with}
 use Rattle.dns_record.specs.Recording.{EndsIf, GoesOn, HasEnded, IsRecord, Keeps, NotedSo, Opening, Recorded, RecordedSo, Recording, Takes, end_for, lost_after, script_of_rows, text_of_rows, told_conf, with_end}
 use Rattle.dns_record.specs.declared.ended.Ended.{Ended}
 use Rattle.dns_record.proofs.Cutting.{cut_record}
@@ -41,8 +41,8 @@ range_more (e ∷ events) event h one = (h.0, range_more events event h.1 one)
 
 text_more : (o : Opening) (rows : List Row) (row : Row) → text_of_rows o (rows ++ row ∷ []) ≡ text_of_rows o rows ++ event_line row.event
 text_more o rows row =
-    ap (λ events. script_text_of (script_of (told_conf o.conf) o.redundant o.cache o.words events)) (event_behind rows row)
-    ∙ one_more_line (told_conf o.conf) o.redundant o.cache o.words (events_of rows) row.event
+    ap (λ events. script_text_of (script_of (told_conf o.conf) o.redundant o.cache o.transports o.words events)) (event_behind rows row)
+    ∙ one_more_line (told_conf o.conf) o.redundant o.cache o.transports o.words (events_of rows) row.event
 
 -- what is recorded so far is a record
 pub is_record : (o : Opening) (rows : List Row) (held : Option (List ℕ)) (left : List ℕ) (size : ℕ) (client : Whole) → GoesOn o rows held left size client → IsRecord (text_of_rows o rows) rows
@@ -53,8 +53,8 @@ is_record o rows held left size client h =
       is_script = scripts_are_read_back (script_of_rows o rows) h.told h.range;
       fits = subst (λ n. n ≤ 16777216) h.size_is h.fits;
       replay =
-          ap (λ (w : Whole). plain_rows machine t (events_of rows) (client_with (listed o.words) w)) (same_start o.redundant o.cache o.conf h.alike)
-          ∙ plain_of t (client_with (listed o.words) (started o.redundant o.cache o.conf)) (client_with (listed left) client) rows h.leads;
+          ap (λ (w : Whole). plain_rows machine t (events_of rows) (client_with (listed o.words) w)) (same_start o.transports o.redundant o.cache o.conf h.alike)
+          ∙ plain_of t (client_with (listed o.words) (started_with o.transports o.redundant o.cache o.conf)) (client_with (listed left) client) rows h.leads;
     }
 
 -- where it ends here, behind at most the first of a line
@@ -94,13 +94,13 @@ row_recorded o rows held after left right size next None client moved event row 
     let events = event_behind rows row in
     record {
       alike = h.alike;
-      told = record { servers = h.told.servers; options = h.told.options; settings = h.told.settings; lane = refl; events = subst (λ es. are_told_events es ≡ true) (sym events) (told_more (events_of rows) row.event h.told.events noted.3) };
-      range = record { addresses = h.range.addresses; timeout = h.range.timeout; words = h.range.words; events = subst (AllByRecursion IsEvent) (sym events) (range_more (events_of rows) row.event h.range.events range) };
+      told = record { servers = h.told.servers; options = h.told.options; settings = h.told.settings; transports = h.told.transports; lane = refl; events = subst (λ es. are_told_events es ≡ true) (sym events) (told_more (events_of rows) row.event h.told.events noted.3) };
+      range = record { addresses = h.range.addresses; timeout = h.range.timeout; sizes = h.range.sizes; words = h.range.words; events = subst (AllByRecursion IsEvent) (sym events) (range_more (events_of rows) row.event h.range.events range) };
       written = noted.0 ∙ ap (with_octets (event_line row.event)) h.written ∙ octets_joined (text_of_rows o rows) (event_line row.event) o.held ∙ ap (λ x. with_octets x o.held) (sym text);
       size_is = noted.1 ∙ ap (λ n. n + length (event_line row.event)) h.size_is ∙ sym (length-append (text_of_rows o rows) (event_line row.event)) ∙ ap length (sym text);
       fits = noted.2;
       timeout = timeout ∙ h.timeout;
-      leads = leads_on t (client_with (listed o.words) (started o.redundant o.cache o.conf)) before behind rows row h.leads stepped;
+      leads = leads_on t (client_with (listed o.words) (started_with o.transports o.redundant o.cache o.conf)) before behind rows row h.leads stepped;
     }
 
 -- the same by why it ended

@@ -6,7 +6,8 @@ use Rattle.client_request.specs.Words.{listed, rest_of}
 use Rattle.client_request.specs.declared.event.Event.{Event}
 use Rattle.client_request.specs.declared.event.Row.{Row}
 use Rattle.client_settings.specs.Settings.{CacheSettings, RedundantSettings}
-use Rattle.client_steps.specs.Whole.{Whole, client_with, is_tcp, plain_step, plain_trace, started}
+use Rattle.client_settings.specs.declared.settings.Transports.{Transports}
+use Rattle.client_steps.specs.Whole.{Whole, client_with, is_tcp, plain_step, plain_trace_with, started_with}
 use Rattle.dns_record.specs.declared.ended.Ended.{Ended}
 use Rattle.dns_record.specs.declared.ended.Ended.TheVariants as endings
 use Rattle.dns_record.specs.declared.ended.Refused.{Refused}
@@ -19,7 +20,7 @@ use Rattle.dns_values.specs.Sink.{with_octets}
 use Rattle.dns_values.specs.Source.{Rose, one_more}
 use Rattle.resolv_conf.specs.Conf.{default_options, name_server}
 use Rattle.resolv_conf.specs.declared.conf.ResolvConf.{ResolvConf}
-use Rattle.script_printing.specs.CanBeTold.{CanBeTold, IsInRange, are_told_settings, is_whole}
+use Rattle.script_printing.specs.CanBeTold.{CanBeTold, IsInRange, are_told_settings, are_told_transports, is_whole}
 use Rattle.script_printing.specs.Laws.{HasNoLine}
 use Rattle.script_printing.specs.Texts.{first_lane, head_text, script_of, script_text_of}
 
@@ -28,6 +29,7 @@ pub record Opening : Type 0 where
   pub conf : ResolvConf
   pub redundant : RedundantSettings
   pub cache : CacheSettings
+  pub transports : Transports
   pub words : List ℕ
   pub held : Option (List ℕ)
 
@@ -42,15 +44,16 @@ told_conf conf = record {
 abbrev pub are_asked_alike : ResolvConf → Bool
 are_asked_alike conf = list_all (λ server. conf.options.use_vc || not (is_tcp server.transport)) conf.servers
 
--- A script tells what a client of this configuration and cache is made of.
-pub record IsToldStart (conf : ResolvConf) (cache : CacheSettings) : Type 0 where
+-- A script tells what a client of this configuration and these settings is made of.
+pub record IsToldStart (conf : ResolvConf) (cache : CacheSettings) (transports : Transports) : Type 0 where
   pub alike : are_asked_alike conf ≡ true
   pub whole : is_whole conf.options.timeout ≡ true
   pub settings : are_told_settings cache ≡ true
+  pub transports : are_told_transports transports ≡ true
 
 -- the script of these rows
 abbrev pub script_of_rows : Opening → List Row → Script
-script_of_rows o rows = script_of (told_conf o.conf) o.redundant o.cache o.words (events_of rows)
+script_of_rows o rows = script_of (told_conf o.conf) o.redundant o.cache o.transports o.words (events_of rows)
 
 abbrev pub text_of_rows : Opening → List Row → List ℕ
 text_of_rows o rows = script_text_of (script_of_rows o rows)
@@ -60,7 +63,7 @@ pub record IsRecord (text : List ℕ) (rows : List Row) : Type 0 where
   pub script : Script
   pub is_script : IsScript false text script
   pub fits : length text ≤ 16777216
-  pub replay : plain_trace script.redundant script.cache script.conf (listed script.words) (first_lane script.lanes) ≡ Some rows
+  pub replay : plain_trace_with script.transports script.redundant script.cache script.conf (listed script.words) (first_lane script.lanes) ≡ Some rows
 
 -- These are first octets of the record of rows: up to their last whole line the record of the first of the rows.
 pub record IsCutRecord (o : Opening) (rows : List Row) (octets : List ℕ) : Type 0 where
@@ -98,7 +101,7 @@ pub record GoesOn (o : Opening) (rows : List Row) (held : Option (List ℕ)) (le
   pub size_is : size ≡ length (text_of_rows o rows)
   pub fits : size ≤ 16777216
   pub timeout : client.timeout ≡ o.conf.options.timeout
-  pub leads : Leads o.conf.options.timeout (client_with (listed o.words) (started o.redundant o.cache o.conf)) rows (client_with (listed left) client)
+  pub leads : Leads o.conf.options.timeout (client_with (listed o.words) (started_with o.transports o.redundant o.cache o.conf)) rows (client_with (listed left) client)
 
 -- It has ended: the first of the rows are recorded, and behind their record stands at most the first of one more line. Cut anywhere behind what stands before the first event,
 -- it is a record up to its last whole line.
@@ -125,13 +128,14 @@ NotedSo event held after size left None = (after ≡ with_octets (event_line eve
 NotedSo event held after size left (Some why) = (n : ℕ) × (after ≡ with_octets (take n (event_line event)) held)
 
 -- why a record does not begin
-abbrev pub IsRefused : Refused → ResolvConf → RedundantSettings → CacheSettings → (words : List ℕ) → (faults faults_after : ℕ) → Type 0
-IsRefused refusals.Server conf redundant cache words faults after = are_asked_alike conf ≡ false
-IsRefused refusals.Timeout conf redundant cache words faults after = is_whole conf.options.timeout ≡ false
-IsRefused refusals.Settings conf redundant cache words faults after = are_told_settings cache ≡ false
-IsRefused refusals.Full conf redundant cache words faults after = 16777216 < length (head_text conf redundant cache words)
-IsRefused refusals.SinkFailed conf redundant cache words faults after = Rose faults after
-IsRefused refusals.NoMemory conf redundant cache words faults after = Unit {0}
+abbrev pub IsRefused : Refused → ResolvConf → RedundantSettings → CacheSettings → Transports → (words : List ℕ) → (faults faults_after : ℕ) → Type 0
+IsRefused refusals.Server conf redundant cache transports words faults after = are_asked_alike conf ≡ false
+IsRefused refusals.Timeout conf redundant cache transports words faults after = is_whole conf.options.timeout ≡ false
+IsRefused refusals.Settings conf redundant cache transports words faults after = are_told_settings cache ≡ false
+IsRefused refusals.Transports conf redundant cache transports words faults after = are_told_transports transports ≡ false
+IsRefused refusals.Full conf redundant cache transports words faults after = 16777216 < length (head_text conf redundant cache transports words)
+IsRefused refusals.SinkFailed conf redundant cache transports words faults after = Rose faults after
+IsRefused refusals.NoMemory conf redundant cache transports words faults after = Unit {0}
 
 -- why a record that went on ends with an event, where it does: with this recording before it, and the faults of its sink before and after
 abbrev pub EndsFor : Ended → Event → Recording → (faults after : ℕ) → Type 0
@@ -177,5 +181,5 @@ drawn zero words = []
 drawn (suc n) words = drawn n words ++ rest_behind n words 0 ∷ []
 
 -- What is recorded at first: nothing was put out yet.
-abbrev pub opening : ResolvConf → RedundantSettings → CacheSettings → (words : List ℕ) → (held : Option (List ℕ)) → Opening
-opening conf redundant cache words held = record { conf = conf; redundant = redundant; cache = cache; words = words; held = held }
+abbrev pub opening : ResolvConf → RedundantSettings → CacheSettings → Transports → (words : List ℕ) → (held : Option (List ℕ)) → Opening
+opening conf redundant cache transports words held = record { conf = conf; redundant = redundant; cache = cache; transports = transports; words = words; held = held }

@@ -17,6 +17,7 @@ abbrev pub refused_text : Refused → List ℕ
 refused_text refusals.Server = codes "one server is asked by streams alone, and another is not"
 refused_text refusals.Timeout = codes "the time for a request is no whole number of seconds"
 refused_text refusals.Settings = codes "a setting of the cache is outside its limits"
+refused_text refusals.Transports = codes "a setting of transports is outside its limits"
 refused_text refusals.Full = codes "there is no room for what stands before the first event"
 refused_text refusals.SinkFailed = codes "it could not be made or written"
 refused_text refusals.NoMemory = codes "memory ran out"

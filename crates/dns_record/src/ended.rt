@@ -57,6 +57,9 @@ pub enum Refused {
     Timeout,
     /// A setting of the cache is outside its limits, or a time among them is no whole number of seconds.
     Settings,
+    /// A setting of transports is outside its limits, a time among them is no whole number of thousandths of a second, or
+    /// messages of transfers have another time than other frames.
+    Transports,
     /// What stands before the first event has more than 16777216 octets.
     Full,
     /// The sink failed.
@@ -85,6 +88,7 @@ impl Display for Refused {
             ),
             Refused::Timeout => f.write_str("the time for a request is no whole number of seconds"),
             Refused::Settings => f.write_str("a setting of the cache is outside its limits"),
+            Refused::Transports => f.write_str("a setting of transports is outside its limits"),
             Refused::Full => f.write_str("there is no room for what stands before the first event"),
             Refused::SinkFailed => f.write_str("it could not be made or written"),
             Refused::NoMemory => f.write_str("memory ran out"),

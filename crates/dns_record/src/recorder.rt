@@ -6,8 +6,9 @@ ghost use Rattle.client_request.specs.Calls.{NumbersRunOut};
 ghost use Rattle.client_request.specs.Response.{IsRefusal};
 ghost use Rattle.client_request.specs.Words.{listed};
 ghost use Rattle.client_request.specs.declared.event.Row.{Row};
+ghost use Rattle.client_settings.specs.Client.{default_transports};
 ghost use Rattle.client_settings.specs.Settings.{RedundantSettings};
-ghost use Rattle.client_steps.specs.Whole.{Whole, client_with, plain_step, started, with_one_more};
+ghost use Rattle.client_steps.specs.Whole.{Whole, client_with, plain_step, started, started_with, with_one_more};
 ghost use Rattle.dns_record.specs.Recording.{EndsFor, EndsIf, IsRefused, IsToldStart, Keeps, KeepsTaken, NotedSo, Opening, Recorded, Takes, are_asked_alike, drawn, lost_after, opening, rest_behind, with_end};
 ghost use Rattle.dns_script.specs.Lines.{event_line};
 ghost use Rattle.dns_script.specs.Told.{tells_well};
@@ -17,14 +18,14 @@ ghost use Rattle.script_printing.specs.CanBeTold.{IsEvent};
 
 use crate::block::Block;
 use crate::ended::{Ended, Refused};
-use client_core::{Client, cache, redundant};
+use client_core::{Client, Settings, Transports, cache, redundant};
 use client_request::{Error, Event, Row, WordList, Words};
 use dns_base::NoMemory;
 use dns_values::{MOST_TEXT, Sink, SinkFault, write_all};
 use resolv_conf::{ResolvConf, ServerConf, Transport};
 use script_printing::{
     event_is_in_range, head_is_in_range, head_text, is_whole, push_event, settings_are_told,
-    tells_well,
+    tells_well, transports_are_told,
 };
 use std::alloc::Global;
 use std::marker::Model;
@@ -84,10 +85,10 @@ fn are_asked_alike(conf: &ResolvConf) -> bool
         || !matches!(server.transport, Transport::Tcp))
 }
 
-/// That a script tells what a client of this configuration and cache is made of, or why it does not.
-fn check(conf: &ResolvConf, cache: &cache::Config) -> Result<(), Refused>
-    ensures told { OnOk result (IsToldStart conf.now cache.now) }
-    ensures refused { IfErr result (λ e. (choice : RedundantSettings) (words : List ℕ) (faults after : ℕ) → IsRefused e conf.now choice cache.now words faults after) }
+/// That a script tells what a client of this configuration and these settings is made of, or why it does not.
+fn check(conf: &ResolvConf, settings: &Settings) -> Result<(), Refused>
+    ensures told { OnOk result (IsToldStart conf.now settings.now.cache settings.now.transports) }
+    ensures refused { IfErr result (λ e. (choice : RedundantSettings) (words : List ℕ) (faults after : ℕ) → IsRefused e conf.now choice settings.now.cache settings.now.transports words faults after) }
 {
     if !are_asked_alike(conf) {
         return Err(Refused::Server);
@@ -95,8 +96,11 @@ fn check(conf: &ResolvConf, cache: &cache::Config) -> Result<(), Refused>
     if !is_whole(conf.options.timeout) {
         return Err(Refused::Timeout);
     }
-    if !settings_are_told(cache) {
+    if !settings_are_told(&settings.cache) {
         return Err(Refused::Settings);
+    }
+    if !transports_are_told(&settings.transports) {
+        return Err(Refused::Transports);
     }
     Ok(())
 }
@@ -114,12 +118,7 @@ fn drawn<W: Words>(alloc: Global, words: &mut W, count: usize) -> Result<WordLis
 }
 
 impl Recorder {
-    /// Begins the record of a client of this configuration and these settings: draws so many words ahead, and writes what
-    /// stands before the first event. Of a server its address is told, and of the options the time for a request and whether
-    /// streams alone are used, since the others have no effect on a client.
-    ///
-    /// `Server`, `Timeout` or `Settings` where a script can't tell what the client is made of, `Full` where it has no room for
-    /// that, `SinkFailed` where the sink failed, perhaps in the middle of a line, and `NoMemory`. The words are drawn even then.
+    /// Begins the record of a client of this configuration and these settings, with the defaults of transports, as `with_settings`.
     pub fn begin<W: Words, K: Sink>(
         alloc: Global,
         conf: &ResolvConf,
@@ -129,18 +128,56 @@ impl Recorder {
         ahead: Ahead,
         sink: &mut K,
     ) -> Result<Recorder, Refused>
-        ensures begun { IfOk result (λ r. Recorded (opening conf.now choice cache.now (drawn ahead.count (W.stream words.old)) (K.held sink.old)) [] (K.held sink.new) r (started choice cache.now conf.now)) }
+        ensures begun { IfOk result (λ r. Recorded (opening conf.now choice cache.now default_transports (drawn ahead.count (W.stream words.old)) (K.held sink.old)) [] (K.held sink.new) r (started choice cache.now conf.now)) }
         ensures on { IfOk result (λ r. r.ended ≡ None) }
         ensures words { IfOk result (λ r. r.words ≡ drawn ahead.count (W.stream words.old)) }
         ensures few { IfOk result (λ r. r.few ≡ ahead.few) }
         ensures none_lost { IfOk result (λ r. r.lost ≡ 0) }
         ensures rest { OnOk result (W.stream words.new ≡ rest_behind ahead.count (W.stream words.old)) }
-        ensures refused { IfErr result (λ e. IsRefused e conf.now choice cache.now (drawn ahead.count (W.stream words.old)) (K.faults sink.old) (K.faults sink.new)) }
+        ensures refused { IfErr result (λ e. IsRefused e conf.now choice cache.now default_transports (drawn ahead.count (W.stream words.old)) (K.faults sink.old) (K.faults sink.new)) }
     {
-        check(conf, cache)?;
+        let settings = Settings {
+            redundant: choice,
+            cache: cache.try_clone()?,
+            transports: Transports::new(),
+        };
+        Recorder::with_settings(alloc, conf, &settings, words, ahead, sink)
+    }
+
+    /// Begins the record of a client of this configuration and these settings: draws so many words ahead, and writes what
+    /// stands before the first event. Of a server its address is told, and of the options the time for a request and whether
+    /// streams alone are used, since the others have no effect on a client.
+    ///
+    /// `Server`, `Timeout`, `Settings` or `Transports` where a script can't tell what the client is made of, `Full` where it has no
+    /// room for that, `SinkFailed` where the sink failed, perhaps in the middle of a line, and `NoMemory`. The words are drawn even
+    /// then.
+    pub fn with_settings<W: Words, K: Sink>(
+        alloc: Global,
+        conf: &ResolvConf,
+        settings: &Settings,
+        words: &mut W,
+        ahead: Ahead,
+        sink: &mut K,
+    ) -> Result<Recorder, Refused>
+        ensures begun { let s = settings.now in IfOk result (λ r. Recorded (opening conf.now s.redundant s.cache s.transports (drawn ahead.count (W.stream words.old)) (K.held sink.old)) [] (K.held sink.new) r (started_with s.transports s.redundant s.cache conf.now)) }
+        ensures on { IfOk result (λ r. r.ended ≡ None) }
+        ensures words { IfOk result (λ r. r.words ≡ drawn ahead.count (W.stream words.old)) }
+        ensures few { IfOk result (λ r. r.few ≡ ahead.few) }
+        ensures none_lost { IfOk result (λ r. r.lost ≡ 0) }
+        ensures rest { OnOk result (W.stream words.new ≡ rest_behind ahead.count (W.stream words.old)) }
+        ensures refused { let s = settings.now in IfErr result (λ e. IsRefused e conf.now s.redundant s.cache s.transports (drawn ahead.count (W.stream words.old)) (K.faults sink.old) (K.faults sink.new)) }
+    {
+        check(conf, settings)?;
         let list = drawn(alloc, words, ahead.count)?;
-        head_is_in_range(conf, list.as_slice());
-        let text = head_text(alloc, conf, choice, cache, list.as_slice())?;
+        head_is_in_range(conf, &settings.transports, list.as_slice());
+        let text = head_text(
+            alloc,
+            conf,
+            settings.redundant,
+            &settings.cache,
+            &settings.transports,
+            list.as_slice(),
+        )?;
         if text.len() > MOST_TEXT {
             return Err(Refused::Full);
         }

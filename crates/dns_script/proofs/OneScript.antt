@@ -70,7 +70,7 @@ pub script_is_one : (many : Bool) (text : List ℕ) (one other : Script) → IsS
 script_is_one many text one other h k =
     let reader : h.reader ≡ k.reader = lines_are_one (lines text) (begun_with many) h.reader k.reader h.lines_taken k.lines_taken in
     let lane : h.lane ≡ k.lane = same_Some h.lane k.lane (sym h.last_lane ∙ ap (λ (r : ScriptReader). r.lane) reader ∙ k.last_lane) in
-    let made : ScriptReader → List Event → Script = λ r l. record { conf = r.conf; redundant = (r.settings).redundant; cache = (r.settings).cache; words = r.words; lanes = r.lanes ++ l ∷ [] } in
+    let made : ScriptReader → List Event → Script = λ r l. record { conf = r.conf; redundant = (r.settings).redundant; cache = (r.settings).cache; transports = (r.settings).transports; words = r.words; lanes = r.lanes ++ l ∷ [] } in
     h.says ∙ ap (λ r. made r h.lane) reader ∙ ap (made k.reader) lane ∙ sym k.says
 
 pub script_is_taken : (many : Bool) (text : List ℕ) (script : Script) (n : ℕ) → IsScript many text script → RefusesLine many text n → ⊥

@@ -44,7 +44,7 @@ pub no_lane : (many : Bool) (text rest : List ℕ) (count : ℕ) (reader : Scrip
 no_lane many text rest count reader h e none =
     misses_lane reader (ap (λ (n : ℕ). n + 1) (sym (ap length (sym (all_lines many text rest count reader h e)) ∙ h.counted))) (all_taken many text rest count reader h e) none
 
-pub script_read : (many : Bool) (text rest : List ℕ) (count : ℕ) (reader : ScriptReader) (lane : List Event) (script : Script) → HasRead many text rest count reader → lines rest ≡ [] → reader.lane ≡ Some lane → script ≡ record { conf = reader.conf; redundant = (reader.settings).redundant; cache = (reader.settings).cache; words = reader.words; lanes = reader.lanes ++ lane ∷ [] } → IsScript many text script
+pub script_read : (many : Bool) (text rest : List ℕ) (count : ℕ) (reader : ScriptReader) (lane : List Event) (script : Script) → HasRead many text rest count reader → lines rest ≡ [] → reader.lane ≡ Some lane → script ≡ record { conf = reader.conf; redundant = (reader.settings).redundant; cache = (reader.settings).cache; transports = (reader.settings).transports; words = reader.words; lanes = reader.lanes ++ lane ∷ [] } → IsScript many text script
 script_read many text rest count reader lane script h e open_lane says = record {
   reader = reader;
   lines_taken = all_taken many text rest count reader h e;

@@ -9,6 +9,7 @@ use Rattle.client_request.specs.Request.{recorded_from}
 use Rattle.client_request.specs.declared.event.Event.{Event}
 use Rattle.client_request.specs.declared.event.What.{What}
 use Rattle.client_request.specs.declared.event.What.TheVariants.{Ask, Bytes, Datagram, Opened, Wrote}
+use Rattle.client_settings.specs.Client.{default_transports}
 use Rattle.client_settings.specs.Settings.{default_cache, default_redundant}
 use Rattle.resolv_conf.specs.Conf.{default_options, name_server}
 use Rattle.resolv_conf.specs.declared.conf.ResolvConf.{ResolvConf}
@@ -117,6 +118,7 @@ generated n = record {
   conf = generated_conf;
   redundant = default_redundant;
   cache = default_cache;
+  transports = default_transports;
   words = flat_map words_of (first_turns (200 * n));
   lanes = flat_map events_of (first_turns (200 * n)) ∷ [];
 }

@@ -19,6 +19,7 @@ use Rattle.dns_script.specs.declared.settings.Settings.{Settings}
 use Rattle.dns_script.specs.Reading.{◌>>=◌, cut, named, numbers_of, words_of}
 use Rattle.dns_script.specs.Settings.{sets}
 use Rattle.dns_script.specs.Told.{tells_well}
+use Rattle.client_settings.specs.Client.{default_transports}
 use Rattle.client_settings.specs.Settings.{default_redundant, default_cache}
 
 -- what stands behind `conf `, before any event: a line of a configuration
@@ -98,7 +99,7 @@ begun_with many = record {
   many = many;
   begun = false;
   conf = record { servers = []; options = default_options };
-  settings = record { redundant = default_redundant; cache = default_cache };
+  settings = record { redundant = default_redundant; cache = default_cache; transports = default_transports };
   words = [];
   lanes = [];
   lane = (if many then None else Some []);
@@ -110,7 +111,7 @@ pub record IsScript (many : Bool) (text : List ℕ) (script : Script) : Type 0 w
   pub lines_taken : TakesLines (lines text) (begun_with many) reader
   pub lane : List Event
   pub last_lane : reader.lane ≡ Some lane
-  pub says : script ≡ record { conf = reader.conf; redundant = (reader.settings).redundant; cache = (reader.settings).cache; words = reader.words; lanes = reader.lanes ++ lane ∷ [] }
+  pub says : script ≡ record { conf = reader.conf; redundant = (reader.settings).redundant; cache = (reader.settings).cache; transports = (reader.settings).transports; words = reader.words; lanes = reader.lanes ++ lane ∷ [] }
 
 -- Line n of the text is refused, counted from 1: the lines before it are taken, and it is not; or there is no lane at the end.
 pub data RefusesLine (many : Bool) (text : List ℕ) (n : ℕ) : Type 0 where

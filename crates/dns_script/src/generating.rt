@@ -6,7 +6,7 @@ ghost use Rattle.dns_script.specs.Generated.{after, answer_places, answered, by_
 use crate::hosts::{HOSTS, frame, host_answer, host_request, truncated_answer};
 use crate::script::{Lanes, Script};
 use client_request::{Event, Events, Moment, What, WordList};
-use client_settings::{cache, redundant};
+use client_settings::{Transports, cache, redundant};
 use dns_base::{IpAddr, NoMemory, Octets, SocketAddr};
 use resolv_conf::{ResolvConf, ServerConf, Transport};
 use std::alloc::Global;
@@ -156,6 +156,7 @@ pub fn generate(alloc: Global, n: u32) -> Result<Script, NoMemory>
         conf,
         redundant: redundant::Config::new(),
         cache: cache::Config::new(),
+        transports: Transports::new(),
         words: turns.words,
         lanes,
     })

@@ -1,7 +1,7 @@
 //! Scripts: a configuration, words, and the events of each lane.
 
 use client_request::{Events, WordList};
-use client_settings::{cache, redundant};
+use client_settings::{Transports, cache, redundant};
 use dns_base::Seq;
 use resolv_conf::ResolvConf;
 
@@ -18,7 +18,7 @@ pub enum ScriptFault {
     NoMemory,
 }
 
-/// What a script says: the configuration, the settings of the choice among servers and of the cache, the
+/// What a script says: the configuration, the settings of the choice among servers, of the cache and of transports, the
 /// words to draw, and the events of each lane.
 #[derive(Drop)]
 pub struct Script {
@@ -28,6 +28,8 @@ pub struct Script {
     pub redundant: redundant::Config,
     /// The settings of the cache.
     pub cache: cache::Config,
+    /// The settings of transports, for every server alike.
+    pub transports: Transports,
     /// The words to draw, in order; 0 comes past their end.
     pub words: WordList,
     /// The events, a list for each lane; one list where there are no lanes.

@@ -179,8 +179,8 @@ impl ScriptReader {
 ///
 /// Its events are those of a trace, but that a fault is one that a socket tells: `expired`, `short-send`,
 /// `nothing-taken` and `end-of-data` are found by the client itself. Each `conf` line is one that
-/// `ResolvConf::parse_line` takes, and a `set` line has a setting of the choice among servers or of the cache, and
-/// `on` or `off`, a number, or a number of seconds, which is cut into the setting's limits.
+/// `ResolvConf::parse_line` takes, and a `set` line has a setting of the choice among servers, of the cache or of transports, and
+/// `on` or `off`, a number, or a number of seconds or milliseconds, which is cut into the setting's limits.
 ///
 /// A text that is no script gives the first line that is refused, or the line after the last where a
 /// lane is wanted and none came.
@@ -214,6 +214,7 @@ pub fn read_script(alloc: Global, text: &[u8], lanes: bool) -> Result<Script, Sc
                 conf,
                 redundant: settings.redundant,
                 cache: settings.cache,
+                transports: settings.transports,
                 words,
                 lanes,
             }),

@@ -1,12 +1,13 @@
 //! The settings that a script sets.
 
 ghost use Rattle.std.specs.Prelude.{◌≡◌};
+ghost use Rattle.client_settings.specs.Client.{default_transports};
 ghost use Rattle.client_settings.specs.Settings.{default_cache, default_redundant};
-ghost use Rattle.dns_script.specs.Reading.{named, Makes, Reads};
-ghost use Rattle.dns_script.specs.Settings.{setting_names, sets, switch_names, u64_of, with_setting, with_switch, with_time};
+ghost use Rattle.dns_script.specs.Reading.{named, number_of, Makes, Reads};
+ghost use Rattle.dns_script.specs.Settings.{setting_names, sets, size_of, switch_names, transport_names, u64_of, with_count, with_setting, with_switch, with_time, with_wait};
 
 use crate::line::{LineFault, Words, number_of};
-use client_settings::{cache, redundant};
+use client_settings::{Transports, cache, redundant};
 use dns_base::Duration;
 
 /// The settings that are on or off.
@@ -30,6 +31,23 @@ pub(crate) enum TimeName {
     StaleFor,
 }
 
+/// The settings of datagrams that are counts.
+#[derive(Clone, Copy, Debug, PartialEq, Eq)]
+pub(crate) enum CountName {
+    MaxParallel,
+    MaxRetries,
+    RecvSize,
+}
+
+/// The settings of transports that are times.
+#[derive(Clone, Copy, Debug, PartialEq, Eq)]
+pub(crate) enum WaitName {
+    DgramRead,
+    StreamResponse,
+    StreamIdle,
+    MultiStreamResponse,
+}
+
 /// The settings, as a line names them.
 #[derive(Clone, Copy, Debug, PartialEq, Eq)]
 pub(crate) enum SettingName {
@@ -37,6 +55,10 @@ pub(crate) enum SettingName {
     /// How many entries the cache has at most.
     Entries,
     Time(TimeName),
+    Count(CountName),
+    /// The payload size that datagrams announce.
+    PayloadSize,
+    Wait(WaitName),
 }
 
 /// What the lines of a script set so far.
@@ -44,6 +66,38 @@ pub(crate) enum SettingName {
 pub(crate) struct Settings {
     pub redundant: redundant::Config,
     pub cache: cache::Config,
+    pub transports: Transports,
+}
+
+/// A setting of transports by its name.
+fn transport_setting_named(word: &[u8]) -> Option<SettingName>
+    ensures { result ≡ named transport_names word.now }
+{
+    if word == b"dgram-max-parallel".as_slice() {
+        return Some(SettingName::Count(CountName::MaxParallel));
+    }
+    if word == b"dgram-max-retries".as_slice() {
+        return Some(SettingName::Count(CountName::MaxRetries));
+    }
+    if word == b"dgram-recv-size".as_slice() {
+        return Some(SettingName::Count(CountName::RecvSize));
+    }
+    if word == b"dgram-udp-payload-size".as_slice() {
+        return Some(SettingName::PayloadSize);
+    }
+    if word == b"dgram-read-timeout".as_slice() {
+        return Some(SettingName::Wait(WaitName::DgramRead));
+    }
+    if word == b"stream-response-timeout".as_slice() {
+        return Some(SettingName::Wait(WaitName::StreamResponse));
+    }
+    if word == b"stream-idle-timeout".as_slice() {
+        return Some(SettingName::Wait(WaitName::StreamIdle));
+    }
+    if word == b"multi-stream-response-timeout".as_slice() {
+        return Some(SettingName::Wait(WaitName::MultiStreamResponse));
+    }
+    None
 }
 
 /// A setting by its name.
@@ -86,7 +140,7 @@ fn setting_named(word: &[u8]) -> Option<SettingName>
     if word == b"cache-truncated".as_slice() {
         return Some(SettingName::Switch(SwitchName::CacheTruncated));
     }
-    None
+    transport_setting_named(word)
 }
 
 fn switch(word: &[u8]) -> Result<bool, LineFault>
@@ -110,14 +164,37 @@ fn number(word: &[u8]) -> Result<u64, LineFault>
     }
 }
 
+fn small_number(word: &[u8]) -> Result<u8, LineFault>
+    ensures { Reads (λ n. n) result (number_of 255 word.now) }
+{
+    match number_of(255, word) {
+        Some(number) => Ok(number as u8),
+        None => Err(LineFault::Refused),
+    }
+}
+
+/// A payload size, or that the request's own stays.
+fn payload_size(word: &[u8]) -> Result<Option<u16>, LineFault>
+    ensures { Reads (λ n. n) result (size_of word.now) }
+{
+    if word == b"none".as_slice() {
+        return Ok(None);
+    }
+    match number_of(65535, word) {
+        Some(number) => Ok(Some(number as u16)),
+        None => Err(LineFault::Refused),
+    }
+}
+
 impl Settings {
     /// The defaults.
     pub(crate) fn new() -> Settings
-        ensures { result ≡ record { redundant = default_redundant; cache = default_cache } }
+        ensures { result ≡ record { redundant = default_redundant; cache = default_cache; transports = default_transports } }
     {
         Settings {
             redundant: redundant::Config::new(),
             cache: cache::Config::new(),
+            transports: Transports::new(),
         }
     }
 
@@ -148,6 +225,45 @@ impl Settings {
         }
     }
 
+    /// The number of retries has 8 bits; one that has more is refused.
+    fn set_count(&mut self, name: CountName, word: &[u8]) -> Result<(), LineFault>
+        ensures { Makes result self.new (with_count name word.now self.old) }
+    {
+        match name {
+            CountName::MaxParallel => {
+                self.transports
+                    .dgram
+                    .set_max_parallel(number(word)? as usize)
+            }
+            CountName::MaxRetries => self.transports.dgram.set_max_retries(small_number(word)?),
+            CountName::RecvSize => self.transports.dgram.set_recv_size(number(word)? as usize),
+        }
+        Ok(())
+    }
+
+    fn set_wait(&mut self, name: WaitName, value: Duration)
+        ensures { self.new ≡ with_wait name value self.old }
+    {
+        match name {
+            WaitName::DgramRead => self.transports.dgram.set_read_timeout(value),
+            WaitName::StreamResponse => {
+                self.transports
+                    .multi_stream
+                    .stream_mut()
+                    .set_response_timeout(value)
+            }
+            WaitName::StreamIdle => {
+                self.transports
+                    .multi_stream
+                    .stream_mut()
+                    .set_idle_timeout(value)
+            }
+            WaitName::MultiStreamResponse => {
+                self.transports.multi_stream.set_response_timeout(value)
+            }
+        }
+    }
+
     fn set_setting(&mut self, name: SettingName, word: &[u8]) -> Result<(), LineFault>
         ensures { Makes result self.new (with_setting name word.now self.old) }
     {
@@ -155,6 +271,13 @@ impl Settings {
             SettingName::Switch(name) => self.set_switch(name, switch(word)?),
             SettingName::Entries => self.cache.set_max_cache_entries(number(word)?),
             SettingName::Time(name) => self.set_time(name, Duration::from_secs(number(word)?)),
+            SettingName::Count(name) => self.set_count(name, word)?,
+            SettingName::PayloadSize => {
+                self.transports
+                    .dgram
+                    .set_udp_payload_size(payload_size(word)?)
+            }
+            SettingName::Wait(name) => self.set_wait(name, Duration::from_millis(number(word)?)),
         }
         Ok(())
     }

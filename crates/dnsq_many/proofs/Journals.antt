@@ -21,7 +21,7 @@ use Rattle.client_shared.specs.History as passes
 use Rattle.client_shared.specs.Lanes.{IsLane, IsBegunLane, IsStoppedLane, AreLanes, AreBegunLanes, IsSomeStopped}
 use Rattle.client_shared.proofs.Histories.{events_in-append}
 use Rattle.client_shared.proofs.LaneSteps.{get_front, get_end}
-use Rattle.client_steps.specs.Whole.{plain_trace}
+use Rattle.client_steps.specs.Whole.{plain_trace_with}
 use Rattle.dns_script.specs.declared.script.Script.{Script}
 use Rattle.proof_client.specs.Ties.{AreHandedIn}
 use Rattle.proof_shared.specs.Histories.{LegalHistories, events_of}
@@ -227,7 +227,7 @@ module _ (lanes : List (List Event)) (qs : List Passed) (entries : List Entry) (
         event = st.event;
         lanes = λ n. prefix_trans (events_by n before) (events_by n entries) (lane_at script.lanes n) (fewer before q.number n began) (subst (λ (ls : List (List Event)). IsPrefix (events_by n entries) (lane_at ls n)) (sym same) (begun_lanes begun n));
         next = subst (λ (z : List Event × List Event). IsPrefix (z.0 ++ st.event ∷ []) z.1) (λ i. (sym own_before i, sym lane_is i)) (next_begins s.events st.count st.event st.next);
-        stops = subst (λ (p : Opening). plain_trace p.redundant p.cache p.conf p.words (events_of before ++ st.event ∷ []) ≡ None) is none;
+        stops = subst (λ (p : Opening). plain_trace_with p.transports p.redundant p.cache p.conf p.words (events_of before ++ st.event ∷ []) ≡ None) is none;
       }
 
   are_made : (o : Opening) (laws : LegalHistories) (script : Script) (receipts : List Receipt) (left : ℕ → ℕ) → o ≡ opening_for script → script.lanes ≡ lanes → AreLanes fresh qs lanes receipts → IsLegal o (history entries lost)

@@ -9,10 +9,10 @@ use Rattle.client_request.specs.Composed.{composed}
 use Rattle.client_request.specs.Words.{listed}
 use Rattle.client_request.specs.declared.event.Event.{Event}
 use Rattle.client_shared.specs.Drawn.{drawn_by}
-use Rattle.client_shared.specs.History.{Opening, opening_of, row_of}
+use Rattle.client_shared.specs.History.{Opening, opening_with, row_of}
 use Rattle.client_shared.specs.declared.entry.Entry.{Entry}
-use Rattle.client_steps.specs.Headline.{conf_of, settings_of}
-use Rattle.client_steps.specs.Whole.{plain_trace}
+use Rattle.client_steps.specs.Headline.{conf_with, settings_of}
+use Rattle.client_steps.specs.Whole.{plain_trace_with}
 use Rattle.dns_script.specs.Lines.{line}
 use Rattle.dns_script.specs.TraceText.{has_stale, last_line, row_text}
 use Rattle.dns_script.specs.declared.script.Script.{Script}
@@ -22,6 +22,8 @@ use Rattle.right_trace.specs.InOctets.{AllInOctets}
 use Rattle.right_trace.specs.Right.{Right}
 use Rattle.right_trace.specs.StaleServed.{AllServeStale}
 use Rattle.right_trace.specs.Timely.{AllAskedInOctets, Timely}
+use Rattle.dnsq_run.specs.Program.{AreSet}
+use Rattle.right_trace.specs.Trace.{Transports}
 
 -- the events of one caller's entries, in order
 abbrev pub events_by : ℕ → List Entry → List Event
@@ -34,17 +36,17 @@ lane_at lanes n = option_map_or (λ events. events) (slice_get lanes n) []
 
 -- what the client of a script is opened with
 abbrev pub opening_for : Script → Opening
-opening_for script = opening_of script.redundant script.cache script.conf (listed script.words) (length script.lanes)
+opening_for script = opening_with script.transports script.redundant script.cache script.conf (listed script.words) (length script.lanes)
 
 -- These entries have the events of each lane in their order, each once, and nothing else; their rows are the plain trace of their events, with the
 -- script's settings and words and 0 past their end; they are right and timely, give what is kept, and serve what has expired; and the words that the entries drew are the script's first ones.
 pub record AreMade (script : Script) (entries : List Entry) : Type 0 where
   pub lanes : (n : ℕ) → events_by n entries ≡ lane_at script.lanes n
-  pub plain : plain_trace script.redundant script.cache script.conf (listed script.words) (events_of entries) ≡ Some (map row_of entries)
-  pub right : Right (conf_of script.conf) (settings_of script.redundant script.cache) (map row_of entries)
-  pub timely : Timely (conf_of script.conf) (map row_of entries)
-  pub hits : AllHit (conf_of script.conf) (settings_of script.redundant script.cache) composed (room_of script.cache) [] (map row_of entries)
-  pub stale : AllServeStale (conf_of script.conf) (settings_of script.redundant script.cache) (room_of script.cache) [] (map row_of entries)
+  pub plain : plain_trace_with script.transports script.redundant script.cache script.conf (listed script.words) (events_of entries) ≡ Some (map row_of entries)
+  pub right : (t : Transports) → AreSet script t → Right (conf_with t script.conf) (settings_of script.redundant script.cache) (map row_of entries)
+  pub timely : (t : Transports) → AreSet script t → Timely (conf_with t script.conf) (map row_of entries)
+  pub hits : (t : Transports) → AreSet script t → AllHit (conf_with t script.conf) (settings_of script.redundant script.cache) composed (room_of script.cache) [] (map row_of entries)
+  pub stale : (t : Transports) → AreSet script t → AllServeStale (conf_with t script.conf) (settings_of script.redundant script.cache) (room_of script.cache) [] (map row_of entries)
   pub words : (k : ℕ) → k < length (drawn_by entries) → slice_index (drawn_by entries) k ≡ listed script.words k
 
 -- In some order of first events of the lanes a number would pass 64 bits at the last of them.
@@ -54,7 +56,7 @@ pub record MayStop (script : Script) : Type 0 where
   pub event : Event
   pub lanes : (n : ℕ) → IsPrefix (events_by n entries) (lane_at script.lanes n)
   pub next : IsPrefix (events_by caller entries ++ event ∷ []) (lane_at script.lanes caller)
-  pub stops : plain_trace script.redundant script.cache script.conf (listed script.words) (events_of entries ++ event ∷ []) ≡ None
+  pub stops : plain_trace_with script.transports script.redundant script.cache script.conf (listed script.words) (events_of entries ++ event ∷ []) ≡ None
 
 -- an entry: whose it is, and its row
 abbrev pub entry_text : Entry → List ℕ

@@ -6,7 +6,7 @@ ghost use Rattle.dnsq_many.specs.Lanes.{AreMade, MayStop, AreInOctets, opening_f
 ghost use Rattle.joint_history.specs.Words.{word_of};
 
 use crate::short_words::words_are_short;
-use client_core::{all_asked_in_octets, all_in_octets};
+use client_core::{Settings, all_asked_in_octets, all_in_octets};
 use client_request::{Error, ListWords};
 use client_shared::{ClientKey, Entry, Journal, NoGate, Opened, SharedClient, run_lanes};
 use dns_script::Script;
@@ -46,22 +46,27 @@ fn journal_by<R: Threads + Wait + Sync, L: ClientKey + Send + Sync>(
         conf,
         redundant,
         cache,
+        transports,
         words,
         lanes,
     } = script;
+    let settings = Settings {
+        redundant,
+        cache,
+        transports,
+    };
     words_are_short(words.as_slice());
-    cache.max_validity_is_limited();
+    settings.cache.max_validity_is_limited();
     legal_histories();
     let lanes = lanes.into_vec();
     let Ok(callers) = u32::try_from(lanes.len()) else {
         return Err(Error::NoMemory);
     };
-    let (shared, mut passes) = SharedClient::<L, ListWords>::new(
+    let (shared, mut passes) = SharedClient::<L, ListWords>::with_settings(
         alloc,
         opened,
         &conf,
-        redundant,
-        cache,
+        settings,
         ListWords::new(words),
         callers,
     )?;

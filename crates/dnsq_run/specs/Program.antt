@@ -5,15 +5,17 @@ use Rattle.dns_values.specs.Sink.{with_octets}
 use Rattle.client_request.specs.Words.{listed}
 use Rattle.client_request.specs.declared.event.Event.{Event}
 use Rattle.client_request.specs.declared.event.Row.{Row}
-use Rattle.client_steps.specs.Headline.{conf_of, settings_of}
-use Rattle.client_steps.specs.Whole.{plain_trace}
+use Rattle.client_steps.specs.Headline.{conf_with, settings_of}
+use Rattle.client_steps.specs.Whole.{plain_trace_with}
 use Rattle.client_cache.specs.Plain.{room_of}
-use Rattle.client_replay.specs.Replayed.{IsReplay}
+use Rattle.client_replay.specs.Replayed.{IsReplayWith}
 use Rattle.client_request.specs.Composed.{composed}
 use Rattle.right_trace.specs.Hit.{AllHit}
 use Rattle.right_trace.specs.Right.{Right}
 use Rattle.right_trace.specs.StaleServed.{AllServeStale}
 use Rattle.right_trace.specs.Timely.{Timely}
+use Rattle.right_trace.specs.Trace.{Transports}
+use Rattle.right_settings.specs.Given.{AreGiven}
 use Rattle.dns_script.specs.ScriptReading.{IsScript, RefusesLine}
 use Rattle.dns_script.specs.TraceText.{first_line, have_stale, row_text, trace_text_of}
 use Rattle.dns_script.specs.declared.script.Script.{Script}
@@ -34,25 +36,29 @@ first_lane (events ∷ lanes) = events
 
 -- the rows of a script: the plain trace of its events with its settings, with its words and 0 past their end; none where a number would pass 64 bits
 abbrev pub rows_of : Script → Option (List Row)
-rows_of script = plain_trace script.redundant script.cache script.conf (listed script.words) (first_lane script.lanes)
+rows_of script = plain_trace_with script.transports script.redundant script.cache script.conf (listed script.words) (first_lane script.lanes)
 
 -- these rows are what a replay of the script makes
 abbrev pub IsPlayed : Script → List Row → Type 0
-IsPlayed script rows = IsReplay script.redundant script.cache script.conf (listed script.words) (first_lane script.lanes) rows
+IsPlayed script rows = IsReplayWith script.transports script.redundant script.cache script.conf (listed script.words) (first_lane script.lanes) rows
 
 -- These octets are the text of some rows without its last line, begun before it was known whether a reply is stale, and whether one is.
 pub record IsTextOf (text : List ℕ) (stale : Bool) (rows : List Row) : Type 0 where
   pub octets : text ≡ first_line false ++ flat_map row_text rows
   pub told : stale ≡ have_stale rows
 
--- These octets are the text of the plain trace of a script, which is right and timely, gives what is kept, and serves what has expired.
+-- The settings of transports of a script are those of the configuration.
+abbrev pub AreSet : Script → Transports → Type 0
+AreSet script t = AreGiven (conf_with t script.conf) script.transports
+
+-- These octets are the text of the plain trace of a script, which is right and timely, gives what is kept, and serves what has expired, by its settings of transports.
 pub record IsTold (script : Script) (out : List ℕ) : Type 0 where
   pub rows : List Row
   pub plain : rows_of script ≡ Some rows
-  pub right : Right (conf_of script.conf) (settings_of script.redundant script.cache) rows
-  pub timely : Timely (conf_of script.conf) rows
-  pub hits : AllHit (conf_of script.conf) (settings_of script.redundant script.cache) composed (room_of script.cache) [] rows
-  pub stale : AllServeStale (conf_of script.conf) (settings_of script.redundant script.cache) (room_of script.cache) [] rows
+  pub right : (t : Transports) → AreSet script t → Right (conf_with t script.conf) (settings_of script.redundant script.cache) rows
+  pub timely : (t : Transports) → AreSet script t → Timely (conf_with t script.conf) rows
+  pub hits : (t : Transports) → AreSet script t → AllHit (conf_with t script.conf) (settings_of script.redundant script.cache) composed (room_of script.cache) [] rows
+  pub stale : (t : Transports) → AreSet script t → AllServeStale (conf_with t script.conf) (settings_of script.redundant script.cache) (room_of script.cache) [] rows
   pub says : out ≡ trace_text_of rows
 
 -- The text is a script, not too long, and these octets are the text of its plain trace.

@@ -8,7 +8,7 @@ ghost use Rattle.command_parts.specs.Ends.{IsEarly, status_of, line_of};
 ghost use Rattle.dnsq_run.specs.Program.{first_lane, rows_of, IsPlayed, IsTextOf, IsTold, numbers_line};
 
 use crate::lines::refusal;
-use client_core::Client;
+use client_core::{Client, Settings};
 use client_replay::{Replay, TakeRow};
 use client_request::{Events, ListWords, Row};
 use command_parts::Ending;
@@ -40,12 +40,18 @@ pub(crate) fn play<T: TakeRow>(alloc: Global, script: Script, taker: &mut T) -> 
         conf,
         redundant,
         cache,
+        transports,
         words,
         lanes,
     } = script;
+    let settings = Settings {
+        redundant,
+        cache,
+        transports,
+    };
     let mut words = ListWords::new(words);
     let events = first_lane(alloc, lanes);
-    match Client::replay_into(alloc, &conf, redundant, cache, &mut words, events, taker) {
+    match Client::replay_into_with(alloc, &conf, settings, &mut words, events, taker) {
         Ok(()) => Ok(()),
         Err(error) => Err(refusal(alloc, error)),
     }

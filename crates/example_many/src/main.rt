@@ -10,7 +10,7 @@ use rand::rngs::StdRng;
 use resolv_conf::{ResolvConf, ServerConf, Transport};
 use resolver_policy::{practical, practical_choice};
 use std::process::ExitCode;
-use stub_resolver::{Error, StubResolver, cache};
+use stub_resolver::{Error, Settings, StubResolver};
 
 /// A resolver of one server, which is asked again for what is lost, within 30 seconds.
 type Resolver = StubResolver<SocketEdge<HostRuntime>, RealClock<HostRuntime>, RandWords<StdRng>>;
@@ -23,8 +23,9 @@ fn resolver_of(rt: HostRuntime, addr: SocketAddr) -> Result<Resolver, Error> {
     conf.options.timeout = Duration::from_secs(10);
     let conf = practical(rt.alloc(), conf, &mut words)?;
     let (edge, clock) = (SocketEdge::new(rt, rt.alloc()), RealClock::new(rt));
-    let (choice, cache) = (practical_choice(), cache::Config::new());
-    Ok(StubResolver::with_settings(rt.alloc(), conf, choice, cache, edge, clock, words)?)
+    let mut settings = Settings::new();
+    settings.redundant = practical_choice();
+    Ok(StubResolver::with_settings(rt.alloc(), conf, settings, edge, clock, words)?)
 }
 
 /// Prints a line for each host and address.

@@ -3,7 +3,12 @@ use Rattle.std.specs.Prelude.{ℕ, Option, None, Some}
 use Rattle.std.specs.Ordering.{nat_cmp}
 use Rattle.client_request.specs.Limits.{limited}
 use Rattle.client_settings.specs.Settings.{CacheSettings, RedundantSettings, default_cache, default_redundant, seconds}
+use Rattle.client_settings.specs.Client.{default_transports}
+use Rattle.client_settings.specs.declared.settings.Settings.{Settings}
+use Rattle.client_settings.specs.declared.settings.Transports.{Transports}
 use Rattle.command_parts.specs.Conf.{conf_at}
+use Rattle.forward_words.specs.declared.options.Announced.{Announced}
+use Rattle.forward_words.specs.declared.options.Announced.TheVariants.{ByPolicy, Size, Nothing}
 use Rattle.forward_words.specs.declared.options.Options.{Options}
 use Rattle.forward_words.specs.declared.options.Policy.{Policy}
 use Rattle.forward_words.specs.declared.options.Policy.TheVariants.{Plain, Practice}
@@ -41,6 +46,29 @@ cache_of o = record default_cache {
 abbrev pub choice_of : Policy → RedundantSettings
 choice_of Plain = default_redundant
 choice_of Practice = practice.practical_choice
+
+-- how each server is asked, of a configuration whose servers are asked, where nothing is said
+abbrev pub transports_by : Policy → ResolvConf → Transports
+transports_by Plain conf = default_transports
+transports_by Practice conf = practice.practical_transports conf
+
+-- at how many sockets a server is asked at a time, if it is said
+abbrev pub with_sockets : Option ℕ → Transports → Transports
+with_sockets None t = t
+with_sockets (Some n) t = practice.with_places n t
+
+-- and the payload size that is announced, if it is said
+abbrev pub announced : Announced → Transports → Transports
+announced ByPolicy t = t
+announced (Size n) t = practice.announcing (Some n) t
+announced Nothing t = practice.announcing None t
+
+abbrev pub transports_of : Options → ResolvConf → Transports
+transports_of o conf = announced o.announced (with_sockets o.sockets (transports_by o.policy conf))
+
+-- how the client is set that asks the servers of a configuration
+abbrev pub settings_of : Options → ResolvConf → Settings
+settings_of o conf = record { redundant = choice_of o.policy; cache = cache_of o; transports = transports_of o conf }
 
 -- the configuration whose servers are asked, of one that was read
 abbrev pub conf_by : Policy → (words : ℕ → ℕ) → ResolvConf → ResolvConf

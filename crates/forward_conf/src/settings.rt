@@ -4,12 +4,12 @@ ghost use Rattle.std.specs.Prelude.{◌≡◌, IfOk};
 ghost use Rattle.forward_conf.specs.Settings as spec;
 
 use client_request::Words;
-use client_settings::{cache, redundant};
+use client_settings::{Settings, Transports, cache, redundant};
 use command_parts::conf_at;
 use dns_base::{Duration, NoMemory};
-use forward_words::{Options, Policy};
+use forward_words::{Announced, Options, Policy};
 use resolv_conf::ResolvConf;
-use resolver_policy::{practical, practical_choice};
+use resolver_policy::{announcing, practical, practical_choice, practical_transports, with_places};
 use std::alloc::Global;
 
 /// For how long an answer that has expired is given in practice where the servers fail, in seconds: a day (RFC 8767 5).
@@ -66,6 +66,49 @@ pub fn choice_of(policy: Policy) -> redundant::Config
     match policy {
         Policy::Plain => redundant::Config::new(),
         Policy::Practice => practical_choice(),
+    }
+}
+
+/// How each server is asked, of a configuration whose servers are asked, where nothing is said.
+fn transports_by(policy: Policy, conf: &ResolvConf) -> Transports
+    ensures { result ≡ spec.transports_by policy conf.now }
+{
+    match policy {
+        Policy::Plain => Transports::new(),
+        Policy::Practice => practical_transports(conf),
+    }
+}
+
+/// The same where it is said at how many sockets a server is asked at a time, if it is.
+fn with_sockets(sockets: Option<u64>, transports: Transports) -> Transports
+    ensures { result ≡ spec.with_sockets sockets transports }
+{
+    match sockets {
+        None => transports,
+        Some(sockets) => with_places(sockets as usize, transports),
+    }
+}
+
+/// The same where it is said which payload size is announced, if it is.
+fn announced(announced: Announced, transports: Transports) -> Transports
+    ensures { result ≡ spec.announced announced transports }
+{
+    match announced {
+        Announced::ByPolicy => transports,
+        Announced::Size(size) => announcing(Some(size), transports),
+        Announced::Nothing => announcing(None, transports),
+    }
+}
+
+/// How the client is set that asks the servers of a configuration.
+pub fn settings_of(options: &Options, conf: &ResolvConf) -> Settings
+    ensures { result ≡ spec.settings_of options.now conf.now }
+{
+    let transports = with_sockets(options.sockets, transports_by(options.policy, conf));
+    Settings {
+        redundant: choice_of(options.policy),
+        cache: cache_of(options),
+        transports: announced(options.announced, transports),
     }
 }
 

@@ -1,8 +1,8 @@
 -- A configuration that was served and recorded.
 use Rattle.std.proofs.Common.{◌≡◌, ℕ, false, List, [], Option, None, Some, String, Global, refl, ◌∙◌, ap, sym, subst}
 use Rattle.std.specs.Prelude.{IfOk, IfSome, Result, Ok, Err}
-use Rattle.client_settings.specs.Settings.{CacheSettings, RedundantSettings}
-use Rattle.client_steps.specs.Whole.{Whole, started}
+use Rattle.client_settings.specs.declared.settings.Settings.{Settings}
+use Rattle.client_steps.specs.Whole.{Whole, started_with}
 use Rattle.dns_record.specs.Laws.{RecordLaw}
 use Rattle.dns_record.specs.Recording as recording
 use Rattle.dns_record.specs.Recording.{IsRefused, Recording, opening}
@@ -11,7 +11,7 @@ use Rattle.front_steps.specs.Steps.{beginning}
 use Rattle.forward_run.specs.Front.{after_deeds}
 use Rattle.forward_conf.specs.Itself.{asks_itself}
 use Rattle.forward_conf.specs.Reading.{IsConfAsked}
-use Rattle.forward_conf.specs.Settings.{cache_of, choice_of}
+use Rattle.forward_conf.specs.Settings.{settings_of}
 use Rattle.forward_run.specs.Ends.{IfAsked}
 use Rattle.forward_run.specs.Serving.{begun_deeds}
 use Rattle.forward_run.specs.Turns.{World}
@@ -23,36 +23,38 @@ use Rattle.forward_words.specs.declared.words.Asked.{Asked}
 use Rattle.resolv_conf.specs.declared.conf.ResolvConf.{ResolvConf}
 use Rattle.forward_record.specs.Core.{RecordedClient}
 use Rattle.forward_record.specs.Sentences.{unrecorded_line, unrecorded_sentence}
-use Rattle.forward_record.specs.Serving.{IsBegun, IsNotRecorded, IsNotRecordedIf, IsRefusalSaid, IsServed, IsRun, IsServedOf, words_ahead, words_behind}
+use Rattle.forward_record.specs.Serving.{IsBegun, IsNotRecorded, IsNotRecordedIf, IsRefusalSaid, IsServed, IsRun, IsServedOf, opening_of, words_ahead, words_behind}
 use Rattle.forward_record.specs.Turns.{Recorded, Turned, scene, within}
 use Rattle.forward_record.specs.declared.serving.Unserved.{Unserved}
 
+-- the client with these settings, and with what its record begins
+abbrev first_with : ResolvConf → Settings → Whole
+first_with conf s = started_with s.transports s.redundant s.cache conf
+
+abbrev opening_with : ResolvConf → (words : List ℕ) → (before : Option (List ℕ)) → Settings → recording.Opening
+opening_with conf words before s = opening conf s.redundant s.cache s.transports words before
+
 -- a forwarder over a new client, whose record begins
-pub begun : {K : Type 0} (held : K → Option (List ℕ)) (options : Options) (conf : ResolvConf) (words : List ℕ) (before : Option (List ℕ)) (choice : RedundantSettings) (cache : CacheSettings) (client : Whole) (r : Recording) (sink : K)
+pub begun : {K : Type 0} (held : K → Option (List ℕ)) (options : Options) (conf : ResolvConf) (words : List ℕ) (before : Option (List ℕ)) (settings : Settings) (client : Whole) (r : Recording) (sink : K)
     (core : RecordedClient K) (f : Recorded K)
-    → choice ≡ choice_of options.policy → cache ≡ cache_of options → client ≡ started choice cache conf → recording.Recorded (opening conf choice cache words before) [] (held sink) r (started choice cache conf)
+    → settings ≡ settings_of options conf → client ≡ first_with conf settings → recording.Recorded (opening_with conf words before settings) [] (held sink) r (first_with conf settings)
     → core ≡ record { client = client; recorder = r; sink = sink } → f ≡ beginning core → IsBegun held options conf words before f
-begun {K = K} held options conf words before choice cache client r sink core f choice_is cache_is made begins core_is f_is =
-    let a : started choice cache conf ≡ started (choice_of options.policy) (cache_of options) conf =
-    ap (λ (p : RedundantSettings). started p cache conf) choice_is ∙ ap (λ (k : CacheSettings). started (choice_of options.policy) k conf) cache_is in
-    let b : recording.Recorded (opening conf (choice_of options.policy) (cache_of options) words before) [] (held sink) r (started (choice_of options.policy) (cache_of options) conf) =
-    subst (λ (k : CacheSettings). recording.Recorded (opening conf (choice_of options.policy) k words before) [] (held sink) r (started (choice_of options.policy) k conf)) cache_is
-    (subst (λ (p : RedundantSettings). recording.Recorded (opening conf p cache words before) [] (held sink) r (started p cache conf)) choice_is begins) in
+begun {K = K} held options conf words before settings client r sink core f is made begins core_is f_is =
+    let said = settings_of options conf in
+    let a : client ≡ first_with conf said = made ∙ ap (first_with conf) is in
+    let b : recording.Recorded (opening_with conf words before said) [] (held sink) r (first_with conf said) =
+    subst (λ (s : Settings). recording.Recorded (opening_with conf words before s) [] (held sink) r (first_with conf s)) is begins in
     let whole : f ≡ beginning (record { client = client; recorder = r; sink = sink }) = f_is ∙ ap beginning core_is in
     subst (λ (g : Recorded K). IsBegun held options conf words before g) (sym whole) (record {
       new = refl;
-      client = made ∙ a;
-      begun = subst (λ (c : Whole). recording.Recorded (opening conf (choice_of options.policy) (cache_of options) words before) [] (held sink) r c) (sym (made ∙ a)) b;
+      client = a;
+      begun = subst (λ (c : Whole). recording.Recorded (opening_with conf words before said) [] (held sink) r c) (sym a) b;
     })
 
 -- or it is refused
-pub not_begun : (options : Options) (conf : ResolvConf) (words : List ℕ) (choice : RedundantSettings) (cache : CacheSettings) (faults after : ℕ) (why : Refused)
-    → choice ≡ choice_of options.policy → cache ≡ cache_of options → IsRefused why conf choice cache words faults after → IsNotRecorded options conf words faults why
-not_begun options conf words choice cache faults after why choice_is cache_is h = (
-  after,
-  subst (λ (k : CacheSettings). IsRefused why conf (choice_of options.policy) k words faults after) cache_is
-      (subst (λ (p : RedundantSettings). IsRefused why conf p cache words faults after) choice_is h),
-)
+pub not_begun : (options : Options) (conf : ResolvConf) (words : List ℕ) (settings : Settings) (faults after : ℕ) (why : Refused)
+    → settings ≡ settings_of options conf → IsRefused why conf settings.redundant settings.cache settings.transports words faults after → IsNotRecorded options conf words faults why
+not_begun options conf words settings faults after why is h = (after, subst (λ (s : Settings). IsRefused why conf s.redundant s.cache s.transports words faults after) is h)
 
 -- and turns are made
 pub served : {K : Type 0} (held : K → Option (List ℕ)) (options : Options) (asked : Asked) (conf : ResolvConf) (answered : ℕ) (before : Option (List ℕ)) (first last : Recorded K) (old new : World) (words : ℕ → ℕ) (deeds : Option (List FrontDeed)) (polls : ℕ)
@@ -66,7 +68,7 @@ served held options asked conf answered before first last old new words deeds po
     subst (λ (ws : ℕ → ℕ). Turned held asked.turns answered (scene first ws starts old.polls old.moments) (within last new)) words_are
     (subst (λ (ds : Option (List FrontDeed)). Turned held asked.turns answered (scene first words ds old.polls old.moments) (within last new)) told
     (subst (λ (n : ℕ). Turned held asked.turns answered (scene first words deeds n old.moments) (within last new)) same turned)) in
-    let o = opening conf (choice_of options.policy) (cache_of options) (words_ahead old.words) before in
+    let o = opening_of options conf (words_ahead old.words) before in
     record {
       first = first;
       is_begun = begins;

@@ -1,14 +1,14 @@
 -- What the program does where it is recorded, and how it ends.
 use Rattle.std.specs.Prelude.{◌≡◌, ◌≢◌, ◌⊎◌, ℕ, false, List, [], Option, None, Some, IfSome}
 use Rattle.command_parts.specs.Ends.{IsSaid}
-use Rattle.client_steps.specs.Whole.{started}
+use Rattle.client_steps.specs.Whole.{started_with}
 use Rattle.dns_record.specs.Recording as recording
 use Rattle.dns_record.specs.Recording.{HasEnded, IsRefused, drawn, opening, rest_behind}
 use Rattle.dns_record.specs.declared.ended.Refused.{Refused}
 use Rattle.forward_conf.specs.Itself.{asks_itself}
 use Rattle.forward_conf.specs.Reading.{IsConfAsked}
 use Rattle.forward_conf.specs.Sentences.{status_of}
-use Rattle.forward_conf.specs.Settings.{cache_of, choice_of}
+use Rattle.forward_conf.specs.Settings.{cache_of, choice_of, transports_of}
 use Rattle.forward_conf.specs.declared.cause.Cause.{Cause}
 use Rattle.forward_run.specs.Ends.{IfAsked}
 use Rattle.forward_run.specs.Front.{after_deeds}
@@ -33,17 +33,17 @@ words_behind words = rest_behind 65536 words
 
 -- with what the record of a configuration begins, as the options say, where these are the words and this is what the sink held
 abbrev pub opening_of : Options → ResolvConf → (words : List ℕ) → (before : Option (List ℕ)) → recording.Opening
-opening_of options conf words before = opening conf (choice_of options.policy) (cache_of options) words before
+opening_of options conf words before = opening conf (choice_of options.policy) (cache_of options) (transports_of options conf) words before
 
 -- A forwarder that took nothing in, over a new client of a configuration, whose record begins.
 pub record IsBegun {K : Type 0} (held : K → Option (List ℕ)) (options : Options) (conf : ResolvConf) (words : List ℕ) (before : Option (List ℕ)) (f : Recorded K) : Type 0 where
   pub new : f ≡ beginning f.within
-  pub client : f.within.client ≡ started (choice_of options.policy) (cache_of options) conf
+  pub client : f.within.client ≡ started_with (transports_of options conf) (choice_of options.policy) (cache_of options) conf
   pub begun : recording.Recorded (opening_of options conf words before) [] (held f.within.sink) f.within.recorder f.within.client
 
 -- Why a configuration is not recorded, where these were the sink's faults before.
 abbrev pub IsNotRecorded : Options → ResolvConf → (words : List ℕ) → (faults : ℕ) → Refused → Type 0
-IsNotRecorded options conf words faults why = (after : ℕ) × IsRefused why conf (choice_of options.policy) (cache_of options) words faults after
+IsNotRecorded options conf words faults why = (after : ℕ) × IsRefused why conf (choice_of options.policy) (cache_of options) (transports_of options conf) words faults after
 
 -- nothing is served and this holds of the cause, if it is one without a record
 abbrev pub IfEnds : Unserved → (Cause → Type 0) → Type 0

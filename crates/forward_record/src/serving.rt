@@ -27,9 +27,7 @@ use command_parts::statuses::NO_MEMORY;
 use dns_base::Status;
 use dns_record::{Ahead, Recorder, Refused, record_law};
 use dns_values::{Sink, Source};
-use forward_conf::{
-    Cause, cache_of, choice_of, conf_asked, end_because, end_delivered, tell_unasked,
-};
+use forward_conf::{Cause, conf_asked, end_because, end_delivered, settings_of, tell_unasked};
 use forward_run::{Front, Watch, answered_line, begin_front, stopped_by};
 use forward_words::{Asked, Options, command_of};
 use front_steps::Forwarder;
@@ -81,14 +79,13 @@ fn begin<F: Front, W: Words, K: Sink + Drop>(
         Err(cause) => return Err(Unserved::Ends(cause)),
     }
     let mut file = file;
-    let choice = choice_of(options.policy);
-    let cache = cache_of(options);
-    let begun = Recorder::begin(alloc, conf, choice, &cache, rng, Ahead::LARGE, &mut file);
+    let settings = settings_of(options, conf);
+    let begun = Recorder::with_settings(alloc, conf, &settings, rng, Ahead::LARGE, &mut file);
     let recorder = match begun {
         Ok(recorder) => recorder,
         Err(refused) => return Err(Unserved::NotRecorded(refused)),
     };
-    match Client::with_seed(alloc, conf, choice, cache, seed) {
+    match Client::with_settings(alloc, conf, settings, seed) {
         Ok(client) => {
             let core = RecordedCore::new(client, recorder, file);
             Ok(Forwarder::new(alloc, core))

@@ -4,7 +4,7 @@ use Rattle.std.specs.Prelude.{IfSome}
 use Rattle.client_steps.specs.Whole.{Whole}
 use Rattle.forward_conf.specs.Itself.{asks_itself}
 use Rattle.forward_conf.specs.Reading.{IsConfAsked}
-use Rattle.forward_conf.specs.Settings.{cache_of, choice_of}
+use Rattle.forward_conf.specs.Settings.{cache_of, choice_of, transports_of}
 use Rattle.forward_conf.proofs.Fits.{validity_fits}
 use Rattle.forward_words.specs.declared.options.Options.{Options}
 use Rattle.forward_words.specs.declared.words.Asked.{Asked}
@@ -44,7 +44,7 @@ served options asked conf answered first last old new deeds polls made told same
       last = last;
       turned = t;
       asks_others = others;
-      right = every (choice_of options.policy) (cache_of options) conf old.words (rows_of t.turns) t.trace last new.words t.forwards (validity_fits options) small;
+      right = every (transports_of options conf) (choice_of options.policy) (cache_of options) conf old.words (rows_of t.turns) t.trace last new.words t.forwards (validity_fits options) small;
     }
 
 -- with what is written then

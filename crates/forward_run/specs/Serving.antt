@@ -1,12 +1,12 @@
 -- What the program does, and how it ends.
 use Rattle.std.specs.Prelude.{◌≡◌, ℕ, false, List, ◌∷◌, ◌++◌, map, Option, IfSome, codes}
 use Rattle.std.specs.Fmt.{decimal}
-use Rattle.client_steps.specs.Whole.{Whole, started}
+use Rattle.client_steps.specs.Whole.{Whole, started_with}
 use Rattle.command_parts.specs.Ends.{IsBegun}
 use Rattle.dns_values.specs.Sink.{with_octets}
 use Rattle.forward_conf.specs.Itself.{asks_itself}
 use Rattle.forward_conf.specs.Reading.{IsConfAsked}
-use Rattle.forward_conf.specs.Settings.{cache_of, choice_of}
+use Rattle.forward_conf.specs.Settings.{cache_of, choice_of, transports_of}
 use Rattle.forward_run.specs.Ends.{IfAsked}
 use Rattle.forward_run.specs.Front.{after_deeds}
 use Rattle.forward_run.specs.Turns.{Turned, World, within}
@@ -26,7 +26,7 @@ begun_deeds port conf = Listens port ∷ map (λ server. Learned server) conf.se
 
 -- the forwarder that is made of a configuration as the options say
 abbrev pub first_of : Options → ResolvConf → Forwarding Whole
-first_of options conf = beginning (started (choice_of options.policy) (cache_of options) conf)
+first_of options conf = beginning (started_with (transports_of options conf) (choice_of options.policy) (cache_of options) conf)
 
 -- The configuration was served, in which no server is the forwarder itself: it was listened, once, the servers were learned, and so many turns were made, which put out so many
 -- answers. What the client within did is right.
@@ -37,7 +37,7 @@ pub record IsServed (options : Options) (asked : Asked) (conf : ResolvConf) (ans
       (within (first_of options conf) (record old { deeds = after_deeds (begun_deeds asked.port conf) old.deeds }))
       (within last new)
   pub asks_others : asks_itself options.listened asked.port conf ≡ false
-  pub right : IsRightTrace (choice_of options.policy) (cache_of options) conf old.words turned.trace
+  pub right : IsRightTrace (transports_of options conf) (choice_of options.policy) (cache_of options) conf old.words turned.trace
 
 -- the line that is written at the end
 abbrev pub answered_line : ℕ → List ℕ

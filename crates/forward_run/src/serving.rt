@@ -27,8 +27,7 @@ use command_parts::statuses::{NO_MEMORY, USAGE};
 use dns_base::{IpAddr, NoMemory, Status};
 use dns_values::{Sink, Source};
 use forward_conf::{
-    Cause, Unheard, asked_itself, cache_of, choice_of, conf_asked, end_because, end_delivered,
-    tell_unasked,
+    Cause, Unheard, asked_itself, conf_asked, end_because, end_delivered, settings_of, tell_unasked,
 };
 use forward_words::{Asked, Options, asked_by, command_of};
 use front_core::Forwarder;
@@ -107,8 +106,7 @@ fn forwarder_of(
 ) -> Result<Forwarder, NoMemory>
     ensures { IfOk result (λ forwarder. forwarder ≡ first_of options.now conf.now) }
 {
-    let choice = choice_of(options.policy);
-    match Forwarder::with_seed(alloc, conf, choice, cache_of(options), seed) {
+    match Forwarder::with_settings(alloc, conf, settings_of(options, conf), seed) {
         Ok(forwarder) => Ok(forwarder),
         Err(_) => Err(NoMemory),
     }

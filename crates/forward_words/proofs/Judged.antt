@@ -1,5 +1,5 @@
 -- Options are one thing.
-use Rattle.std.proofs.Common.{◌≡◌, ◌⊎◌, ◌+◌, inl, inr, ℕ, List, [], ◌∷◌, refl, ap, sym, subst, ◌∙◌, Option, None, Some, Result, Ok, Err, String, Global}
+use Rattle.std.proofs.Common.{◌≡◌, ◌⊎◌, ◌+◌, inl, inr, ℕ, List, [], ◌∷◌, refl, ap, sym, subst, ◌∙◌, Option, None, Some, Result, Ok, Err, String, Global, Bool, true, false}
 use Rattle.std.specs.String.{string_bytes}
 use Rattle.dns_values.proofs.Addresses.{one_address}
 use Rattle.dns_values.specs.Address.{IsAddressText}
@@ -9,7 +9,7 @@ use Rattle.forward_words.specs.declared.kind.Kind.TheVariants as kinds
 use Rattle.forward_words.specs.declared.options.Options.{Options}
 use Rattle.forward_words.specs.declared.wrong.Refusal.{Refusal}
 use Rattle.forward_words.specs.declared.wrong.Wrong.{Wrong}
-use Rattle.forward_words.specs.Options.{ListenGives, OptionsGive, Said, ValueGives, Words, bad_value, good_value, kind_of, no_option, option_at, why_not_listened, with_address}
+use Rattle.forward_words.specs.Options.{ListenGives, OptionsGive, Said, ValueGives, Words, bad_value, good_value, is_silent, kind_of, no_option, option_at, silent, silent_said, why_not_listened, with_address}
 
 abbrev Read : Type 0
 Read = Result (Options × Words) Refusal
@@ -67,6 +67,9 @@ same_said a b is = cc
 same_wrong : (a b : Wrong) → bad a ≡ bad b → a ≡ b
 same_wrong a b is = cc
 
+never_both : (b : Bool) → b ≡ true → b ≡ false → ⊥
+never_both b is so = cc
+
 abbrev refused : ℕ → Wrong → Read
 refused at wrong = Err (record { at = at; wrong = wrong })
 
@@ -81,17 +84,24 @@ one_said : (i j : Kind) (name value : String Global) (said : Options) (a b : Sai
 one_said i j name value said a b is so h k = one_value i (string_bytes value) said a b h (at_kind i j name value said b is so k)
 
 pub one_answer : (at : ℕ) (words : Words) (said : Options) (a b : Read) → OptionsGive at words said a → OptionsGive at words said b → a ≡ b
-one_answer at words said a b (no_option n ws s none) (no_option m vs t nothing) = refl
-one_answer at words said a b (no_option n ws s none) (bad_value m name value rest kind t wrong is h) = absurd (no_kind kind (string_bytes name) none is)
-one_answer at words said a b (no_option n ws s none) (good_value m name value rest kind t mid d is h more) = absurd (no_kind kind (string_bytes name) none is)
-one_answer at words said a b (bad_value n name value rest kind s wrong is h) (no_option m vs t nothing) = absurd (no_kind kind (string_bytes name) nothing is)
-one_answer at words said a b (bad_value n name value rest kind s wrong is h) (bad_value m name' value' rest' kind' t wrong' so k) =
+one_answer at words said a b (no_option n ws s loud none) (no_option m vs t other nothing) = refl
+one_answer at words said a b (no_option n ws s loud none) (bad_value m name value rest kind t wrong other is h) = absurd (no_kind kind (string_bytes name) none is)
+one_answer at words said a b (no_option n ws s loud none) (good_value m name value rest kind t mid d other is h more) = absurd (no_kind kind (string_bytes name) none is)
+one_answer at words said a b (no_option n ws s loud none) (silent m name rest t d other more) = absurd (never_both (is_silent (string_bytes name)) other loud)
+one_answer at words said a b (bad_value n name value rest kind s wrong loud is h) (no_option m vs t other nothing) = absurd (no_kind kind (string_bytes name) nothing is)
+one_answer at words said a b (bad_value n name value rest kind s wrong loud is h) (bad_value m name' value' rest' kind' t wrong' other so k) =
     ap (refused n) (same_wrong wrong wrong' (one_said kind kind' name value said (bad wrong) (bad wrong') is so h k))
-one_answer at words said a b (bad_value n name value rest kind s wrong is h) (good_value m name' value' rest' kind' t mid d so k more) =
+one_answer at words said a b (bad_value n name value rest kind s wrong loud is h) (good_value m name' value' rest' kind' t mid d other so k more) =
     absurd (not_both mid wrong (one_said kind' kind name value said (good mid) (bad wrong) so is k h))
-one_answer at words said a b (good_value n name value rest kind s mid d is h more) (no_option m vs t nothing) = absurd (no_kind kind (string_bytes name) nothing is)
-one_answer at words said a b (good_value n name value rest kind s mid d is h more) (bad_value m name' value' rest' kind' t wrong so k) =
+one_answer at words said a b (bad_value n name value rest kind s wrong loud is h) (silent m name' rest' t d other more) = absurd (never_both (is_silent (string_bytes name)) other loud)
+one_answer at words said a b (good_value n name value rest kind s mid d loud is h more) (no_option m vs t other nothing) = absurd (no_kind kind (string_bytes name) nothing is)
+one_answer at words said a b (good_value n name value rest kind s mid d loud is h more) (bad_value m name' value' rest' kind' t wrong other so k) =
     absurd (not_both mid wrong (one_said kind kind' name value said (good mid) (bad wrong) is so h k))
-one_answer at words said a b (good_value n name value rest kind s mid d is h more) (good_value m name' value' rest' kind' t mid' d' so k more') =
+one_answer at words said a b (good_value n name value rest kind s mid d loud is h more) (good_value m name' value' rest' kind' t mid' d' other so k more') =
     let same = same_said mid' mid (one_said kind' kind name value said (good mid') (good mid) so is k h) in
     one_answer (at + 2) rest mid a b more (subst (λ (s : Options). OptionsGive (at + 2) rest s b) same more')
+one_answer at words said a b (good_value n name value rest kind s mid d loud is h more) (silent m name' rest' t d' other more') = absurd (never_both (is_silent (string_bytes name)) other loud)
+one_answer at words said a b (silent n name rest s d loud more) (no_option m vs t other nothing) = absurd (never_both (is_silent (string_bytes name)) loud other)
+one_answer at words said a b (silent n name rest s d loud more) (bad_value m name' value' rest' kind' t wrong other so k) = absurd (never_both (is_silent (string_bytes name)) loud other)
+one_answer at words said a b (silent n name rest s d loud more) (good_value m name' value' rest' kind' t mid d' other so k more') = absurd (never_both (is_silent (string_bytes name)) loud other)
+one_answer at words said a b (silent n name rest s d loud more) (silent m name' rest' t d' other more') = one_answer (at + 1) rest (silent_said said) a b more more'

@@ -1,5 +1,5 @@
--- The options of the forwarder's command line, each a word with its value behind it.
-use Rattle.std.specs.Prelude.{◌≡◌, ◌⊎◌, ℕ, ◌+◌, ◌==◌, if◌then◌else◌, List, [], ◌∷◌, ◌++◌, take, codes, Option, None, Some, option_map, ok_or, String, Result, Ok, Err}
+-- The options of the forwarder's command line, each but one a word with its value behind it.
+use Rattle.std.specs.Prelude.{◌≡◌, ◌⊎◌, ℕ, ◌+◌, ◌==◌, Bool, true, false, if◌then◌else◌, List, [], ◌∷◌, ◌++◌, take, codes, Option, None, Some, option_map, ok_or, String, Result, Ok, Err}
 use Rattle.std.specs.Borrow.{Bor}
 use Rattle.std.specs.Cmp.Lexicographic.{pointwise}
 use Rattle.std.specs.Str.{bytes_eq}
@@ -16,6 +16,7 @@ use Rattle.forward_words.specs.declared.kind.Kind.TheVariants as kinds
 use Rattle.forward_words.specs.declared.kind.Number.{Number}
 use Rattle.forward_words.specs.declared.kind.Number.TheVariants as numbers
 use Rattle.forward_words.specs.declared.kind.NumberRange.{NumberRange}
+use Rattle.forward_words.specs.declared.options.Announced.TheVariants as announcements
 use Rattle.forward_words.specs.declared.options.Options.{Options}
 use Rattle.forward_words.specs.declared.options.Policy.{Policy}
 use Rattle.forward_words.specs.declared.options.Policy.TheVariants as policies
@@ -40,6 +41,8 @@ nothing_said policy = record {
   policy = policy;
   status = None;
   workers = 1;
+  sockets = None;
+  announced = announcements.ByPolicy;
 }
 
 -- where no address is said, it is listened at 127.0.0.1
@@ -63,6 +66,8 @@ option_rows =
     ∷ (codes "--max-negative-ttl", Whole, kinds.Number numbers.MaxNegativeTtl)
     ∷ (codes "--status", Whole, kinds.Number numbers.Status)
     ∷ (codes "--workers", Whole, kinds.Number numbers.Workers)
+    ∷ (codes "--sockets", Whole, kinds.Number numbers.Sockets)
+    ∷ (codes "--bufsize", Whole, kinds.Number numbers.PayloadSize)
     ∷ []
 
 abbrev pub kind_of : List ℕ → Option Kind
@@ -81,6 +86,8 @@ range_of numbers.MaxTtl = range 60 6048000
 range_of numbers.MaxNegativeTtl = range 60 86400
 range_of numbers.Status = range 1 86400
 range_of numbers.Workers = range 1 64
+range_of numbers.Sockets = range 1 1000
+range_of numbers.PayloadSize = range 512 65535
 
 -- and what each says
 abbrev pub number_said : Number → ℕ → Options → Options
@@ -92,6 +99,15 @@ number_said numbers.MaxTtl n o = record o { max_ttl = n }
 number_said numbers.MaxNegativeTtl n o = record o { max_negative_ttl = n }
 number_said numbers.Status n o = record o { status = Some n }
 number_said numbers.Workers n o = record o { workers = n }
+number_said numbers.Sockets n o = record o { sockets = Some n }
+number_said numbers.PayloadSize n o = record o { announced = announcements.Size n }
+
+-- `--noedns`, which takes no value: no payload size is announced
+unfoldable pub is_silent : List ℕ → Bool
+is_silent word = bytes_eq word (codes "--noedns")
+
+abbrev pub silent_said : Options → Options
+silent_said o = record o { announced = announcements.Nothing }
 
 -- It can be listened at an address of one interface, which is not one of IPv4 that is written as one of IPv6.
 abbrev pub why_not_listened : IpAddr → Option Wrong
@@ -147,6 +163,11 @@ fault_at at value_faults.NoMemory = faults.NoMemory
 abbrev pub Words : Type 0
 Words = List (String Global)
 
+-- the word that stands first is an option that takes no value
+abbrev pub begins_silent : Words → Bool
+begins_silent [] = false
+begins_silent (name ∷ rest) = is_silent (string_bytes name)
+
 -- the option that stands first, if one does with its value
 abbrev pub option_at : Words → Option Kind
 option_at [] = None
@@ -156,13 +177,15 @@ option_at (name ∷ value ∷ rest) = kind_of (string_bytes name)
 -- The options in order, up to the first word that is none; the first that is refused ends them. What is said, and the words behind; or the value that is refused, where the
 -- value of the first option has this number.
 pub data OptionsGive : ℕ → Words → Options → Result (Options × Words) Refusal → Type 0 where
-  no_option : (at : ℕ) (words : Words) (said : Options) → option_at words ≡ None → OptionsGive at words said (Ok (said, words))
+  no_option : (at : ℕ) (words : Words) (said : Options) → begins_silent words ≡ false → option_at words ≡ None → OptionsGive at words said (Ok (said, words))
   bad_value : (at : ℕ) (name value : String Global) (rest : Words) (kind : Kind) (said : Options) (wrong : Wrong)
-      → kind_of (string_bytes name) ≡ Some kind → ValueGives kind (string_bytes value) said (Err wrong)
+      → is_silent (string_bytes name) ≡ false → kind_of (string_bytes name) ≡ Some kind → ValueGives kind (string_bytes value) said (Err wrong)
       → OptionsGive at (name ∷ value ∷ rest) said (Err (record { at = at; wrong = wrong }))
   good_value : (at : ℕ) (name value : String Global) (rest : Words) (kind : Kind) (said mid : Options) (answer : Result (Options × Words) Refusal)
-      → kind_of (string_bytes name) ≡ Some kind → ValueGives kind (string_bytes value) said (Ok mid) → OptionsGive (at + 2) rest mid answer
+      → is_silent (string_bytes name) ≡ false → kind_of (string_bytes name) ≡ Some kind → ValueGives kind (string_bytes value) said (Ok mid) → OptionsGive (at + 2) rest mid answer
       → OptionsGive at (name ∷ value ∷ rest) said answer
+  silent : (at : ℕ) (name : String Global) (rest : Words) (said : Options) (answer : Result (Options × Words) Refusal)
+      → is_silent (string_bytes name) ≡ true → OptionsGive (at + 1) rest (silent_said said) answer → OptionsGive at (name ∷ rest) said answer
 
 -- What a call answers that takes options, with what is said then: the words behind.
 abbrev pub AllAnswer : Words → Options → Result (Bor Words) Fault → Options → Type 0

@@ -4,7 +4,7 @@ ghost use Rattle.std.specs.Prelude.{◌≡◌, ◌≤◌};
 ghost use Rattle.program_words.specs.Rows.{said_in};
 ghost use Rattle.forward_words.specs.Options.{number_said, option_rows, range_of};
 
-use crate::options::Options;
+use crate::options::{Announced, Options};
 use program_words::{Letters, Row, said_in};
 
 /// The most answers that are kept.
@@ -30,6 +30,15 @@ const MOST_STATUS: u64 = 86_400;
 
 /// The most threads that answer datagrams at one address.
 const MOST_WORKERS: u64 = 64;
+
+/// The most sockets at which one server is asked at a time.
+const MOST_SOCKETS: u64 = 1000;
+
+/// The least payload size that is announced, in octets (RFC 6891 6.2.3).
+const LEAST_PAYLOAD: u64 = 512;
+
+/// The greatest payload size that is announced, in octets.
+const MOST_PAYLOAD: u64 = 65_535;
 
 /// What an option says.
 #[derive(Clone, Copy)]
@@ -61,6 +70,10 @@ pub(crate) enum Number {
     Status,
     /// How many threads answer datagrams.
     Workers,
+    /// At how many sockets one server is asked at a time.
+    Sockets,
+    /// The payload size that is announced to servers.
+    PayloadSize,
 }
 
 /// The numbers from the least to the greatest.
@@ -71,7 +84,7 @@ pub(crate) struct NumberRange {
 }
 
 /// The options, each by its whole name.
-const OPTIONS: [Row<Kind>; 10] = [
+const OPTIONS: [Row<Kind>; 12] = [
     ("--listen", Letters::Whole, Kind::Listen),
     ("--policy", Letters::Whole, Kind::Policy),
     ("--port", Letters::Whole, Kind::Number(Number::Port)),
@@ -86,6 +99,12 @@ const OPTIONS: [Row<Kind>; 10] = [
     ),
     ("--status", Letters::Whole, Kind::Number(Number::Status)),
     ("--workers", Letters::Whole, Kind::Number(Number::Workers)),
+    ("--sockets", Letters::Whole, Kind::Number(Number::Sockets)),
+    (
+        "--bufsize",
+        Letters::Whole,
+        Kind::Number(Number::PayloadSize),
+    ),
 ];
 
 /// What the option of this name says.
@@ -109,6 +128,8 @@ pub(crate) fn range_of(number: Number) -> NumberRange
         Number::MaxNegativeTtl => (LEAST_TTL, MOST_NEGATIVE_TTL),
         Number::Status => (1, MOST_STATUS),
         Number::Workers => (1, MOST_WORKERS),
+        Number::Sockets => (1, MOST_SOCKETS),
+        Number::PayloadSize => (LEAST_PAYLOAD, MOST_PAYLOAD),
     };
     NumberRange { least, greatest }
 }
@@ -128,6 +149,8 @@ impl Options {
             Number::MaxNegativeTtl => self.max_negative_ttl = n,
             Number::Status => self.status = Some(n),
             Number::Workers => self.workers = n,
+            Number::Sockets => self.sockets = Some(n),
+            Number::PayloadSize => self.announced = Announced::Size(n as u16),
         }
     }
 }

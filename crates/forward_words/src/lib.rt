@@ -25,7 +25,7 @@ mod words;
 mod wrong;
 
 pub use laws::option_laws;
-pub use options::{Options, Policy, options_of};
+pub use options::{Announced, Options, Policy, options_of};
 pub use telling::{refusal_sentence, unasked_sentence};
 pub use words::{Asked, asked_by, command_of};
 pub use wrong::{Fault, Refusal, Unasked, Wrong};

@@ -18,6 +18,17 @@ pub enum Policy {
     Practice,
 }
 
+/// The payload size that requests announce to servers (RFC 6891 6.2.3).
+#[derive(Clone, Copy, Debug, PartialEq, Eq)]
+pub enum Announced {
+    /// As the policy has it.
+    ByPolicy,
+    /// This many octets.
+    Size(u16),
+    /// None: requests by datagrams have no OPT record of their own.
+    Nothing,
+}
+
 /// What the options say.
 #[derive(Drop)]
 pub struct Options {
@@ -41,6 +52,10 @@ pub struct Options {
     pub status: Option<u64>,
     /// How many threads answer datagrams at each address.
     pub workers: u64,
+    /// At how many sockets one server is asked at a time; as the policy has it where it isn't said.
+    pub sockets: Option<u64>,
+    /// The payload size that is announced to servers.
+    pub announced: Announced,
 }
 
 impl Options {
@@ -60,6 +75,8 @@ impl Options {
             policy,
             status: None,
             workers: 1,
+            sockets: None,
+            announced: Announced::ByPolicy,
         }
     }
 
@@ -86,7 +103,7 @@ impl Options {
 
 /// What the options among the words say, which do not hold the program's own name, and the words behind them.
 ///
-/// Each option is a word with its value behind it, of which the last counts but where several are said:
+/// Each option but one is a word with its value behind it, of which the last counts but where several are said:
 ///
 /// | Option | Value |
 /// |---|---|
@@ -100,9 +117,12 @@ impl Options {
 /// | `--policy` | `practice`, as where it isn't said, or `crate` |
 /// | `--status` | after how many seconds it is told again how much was done, from 1 to 86400 |
 /// | `--workers` | how many threads answer datagrams at each address, from 1 to 64; 1 where it isn't said |
+/// | `--sockets` | at how many sockets one server is asked at a time, from 1 to 1000 |
+/// | `--bufsize` | the payload size that is announced to servers, from 512 to 65535 octets (RFC 6891) |
+/// | `--noedns` | no value: no payload size is announced to servers |
 ///
-/// Where `--stale` and `--failure` aren't said, they are as the policy has them. The options end before the first word that is none
-/// of these, or has no value behind it. An address that stands for all of the host's, as
+/// Where `--stale`, `--failure`, `--sockets`, `--bufsize` and `--noedns` aren't said, it is as the policy has it; of the last two the
+/// last counts. The options end before the first word that is none of these, or has no value behind it and needs one. An address that stands for all of the host's, as
 /// 0.0.0.0, is refused, since an answer would not always come from the address that was asked; and so is one of IPv4 that is written as
 /// one of IPv6.
 pub fn options_of(alloc: Global, words: &[String]) -> Result<(Options, &[String]), Fault>

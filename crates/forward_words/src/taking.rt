@@ -2,10 +2,10 @@
 
 ghost use Rattle.std.specs.Prelude.{◌≡◌, ◌++◌, ◌∷◌, [], option_map, Some, None, Ok, Err, false, true};
 ghost use Rattle.command_parts.specs.Numbers.{number_in};
-ghost use Rattle.forward_words.specs.Options.{AllAnswer, Answers, ListenGives, ValueGives, fault_at, policy_of, policy_said, value_said, why_not_listened};
+ghost use Rattle.forward_words.specs.Options.{AllAnswer, Answers, ListenGives, ValueGives, fault_at, is_silent, policy_of, policy_said, value_said, why_not_listened};
 
 use crate::kind::{Kind, Number, kind_of, range_of};
-use crate::options::{Options, Policy};
+use crate::options::{Announced, Options, Policy};
 use crate::wrong::{Fault, Refusal, ValueFault, Wrong};
 use command_parts::number_in;
 use dns_values::IpAddr;
@@ -20,6 +20,14 @@ fn policy_of(text: &str) -> Option<Policy>
         "practice" => Some(Policy::Practice),
         _ => None,
     }
+}
+
+/// Whether a word is an option that takes no value.
+#[tactic(auto, unfolding(crate::specs::Options::is_silent))]
+fn is_silent(word: &str) -> bool
+    ensures { result ≡ is_silent word.now }
+{
+    matches!(word, "--noedns")
 }
 
 /// Why it can't be listened at this address alone, if it can't.
@@ -120,17 +128,23 @@ pub(crate) fn take_all<'a>(
     let mut rest = words;
     let mut at = 1;
     while let Some((name, more)) = rest.split_first() {
-        let Some((value, behind)) = more.split_first() else {
-            return Ok(rest);
-        };
-        let Some(kind) = kind_of(name.as_str()) else {
-            return Ok(rest);
-        };
-        match options.take(kind, value.as_str()) {
-            Ok(()) => rest = behind,
-            Err(fault) => return Err(fault_at(at, fault)),
+        if is_silent(name.as_str()) {
+            options.announced = Announced::Nothing;
+            rest = more;
+            at += 1;
+        } else {
+            let Some((value, behind)) = more.split_first() else {
+                return Ok(rest);
+            };
+            let Some(kind) = kind_of(name.as_str()) else {
+                return Ok(rest);
+            };
+            match options.take(kind, value.as_str()) {
+                Ok(()) => rest = behind,
+                Err(fault) => return Err(fault_at(at, fault)),
+            }
+            at += 2;
         }
-        at += 2;
     }
     Ok(rest)
 }

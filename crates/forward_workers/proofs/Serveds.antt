@@ -6,7 +6,7 @@ use Rattle.command_parts.specs.Ends.{IsBegun}
 use Rattle.dns_values.specs.Sink.{with_octets}
 use Rattle.forward_conf.specs.Itself.{asks_itself}
 use Rattle.forward_conf.specs.Reading.{IsConfAsked}
-use Rattle.forward_conf.specs.Settings.{cache_of, choice_of}
+use Rattle.forward_conf.specs.Settings.{cache_of, choice_of, transports_of}
 use Rattle.forward_conf.proofs.Fits.{validity_fits}
 use Rattle.forward_run.specs.Front.{after_deeds}
 use Rattle.forward_run.specs.Ends.{IfAsked}
@@ -34,7 +34,7 @@ served options asked conf answered words first front old new made told every sma
     subst (λ (f : Forwarding Whole). P f (after_deeds (begun_deeds asked.port conf) old.front)) made (subst (λ (ds : Option (List FrontDeed)). P first ds) told shared) in
     record {
       shared = t;
-      right = every (choice_of options.policy) (cache_of options) conf words (rows_of t.legal.entries) t.legal.trace t.legal.last t.legal.left t.legal.made.forwards (validity_fits options) small;
+      right = every (transports_of options conf) (choice_of options.policy) (cache_of options) conf words (rows_of t.legal.entries) t.legal.trace t.legal.last t.legal.left t.legal.made.forwards (validity_fits options) small;
       asks_others = others;
     }
 

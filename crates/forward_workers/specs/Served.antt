@@ -4,7 +4,7 @@ use Rattle.command_parts.specs.Ends.{IsBegun}
 use Rattle.dns_values.specs.Sink.{with_octets}
 use Rattle.forward_conf.specs.Itself.{asks_itself}
 use Rattle.forward_conf.specs.Reading.{IsConfAsked}
-use Rattle.forward_conf.specs.Settings.{cache_of, choice_of}
+use Rattle.forward_conf.specs.Settings.{cache_of, choice_of, transports_of}
 use Rattle.forward_run.specs.Front.{after_deeds}
 use Rattle.forward_run.specs.Ends.{IfAsked}
 use Rattle.forward_run.specs.Serving.{answered_line, begun_deeds, first_of}
@@ -17,7 +17,7 @@ use Rattle.forward_workers.specs.Sharing.{IsShared, World}
 -- The configuration was served, in which no server is the forwarder itself: it was listened, once, the servers were learned, and threads shared the forwarder, of which the client within did what is right.
 pub record IsServed (options : Options) (asked : Asked) (conf : ResolvConf) (answered : ℕ) (words : ℕ → ℕ) (old new : World) : Type 0 where
   pub shared : IsShared asked.turns (first_of options conf) words (record old { front = after_deeds (begun_deeds asked.port conf) old.front }) new answered
-  pub right : IsRightTrace (choice_of options.policy) (cache_of options) conf words shared.legal.trace
+  pub right : IsRightTrace (transports_of options conf) (choice_of options.policy) (cache_of options) conf words shared.legal.trace
   pub asks_others : asks_itself options.listened asked.port conf ≡ false
 
 -- The text is a configuration that was served as the options say, and the line says how many answers were put out.

@@ -3,13 +3,13 @@
 ghost use Rattle.std.specs.Prelude.{◌≡◌, length, true, false, Err, OnOk, OnErr, IfOk, IfErr, IsErrOf};
 ghost use Rattle.client_request.specs.Response.{IsRefusal};
 ghost use Rattle.client_core.specs.Waiting.{wait_of};
-ghost use Rattle.client_steps.specs.Whole.{started};
+ghost use Rattle.client_steps.specs.Whole.{started, started_with};
 ghost use Rattle.front_core.specs.Forwarded.{Makes};
 ghost use Rattle.front_steps.specs.Steps.{beginning};
 ghost use Rattle.front_steps.specs.Waits.{count_waiting};
 
 use crate::within::Core;
-use client_core::{Client, cache, redundant};
+use client_core::{Client, Settings, Transports, cache, redundant};
 use client_request::{Error, Words};
 use front_peers::{FrontEvent, FrontRow};
 use resolv_conf::ResolvConf;
@@ -59,7 +59,25 @@ impl Forwarder {
         ensures made { IfOk result (λ f. f ≡ beginning (started redundant cache conf.now)) }
         ensures refused { IfErr result (λ e. e ≡ Error.NoMemory) }
     {
-        let client = Client::with_seed(alloc, conf, redundant, cache, seed)?;
+        let settings = Settings {
+            redundant,
+            cache,
+            transports: Transports::new(),
+        };
+        Forwarder::with_settings(alloc, conf, settings, seed)
+    }
+
+    /// The same with settings of transports, which hold for every server alike.
+    pub fn with_settings(
+        alloc: Global,
+        conf: &ResolvConf,
+        settings: Settings,
+        seed: u64,
+    ) -> Result<Forwarder, Error>
+        ensures made { IfOk result (λ f. f ≡ beginning (started_with settings.transports settings.redundant settings.cache conf.now)) }
+        ensures refused { IfErr result (λ e. e ≡ Error.NoMemory) }
+    {
+        let client = Client::with_settings(alloc, conf, settings, seed)?;
         let over = front_steps::Forwarder::new(alloc, Core::new(client));
         Ok(Forwarder { over })
     }

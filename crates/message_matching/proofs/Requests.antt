@@ -13,18 +13,19 @@ use Rattle.dns_base.specs.Answering.{same_items, question_items}
 use Rattle.dns_base.specs.OptRecord.{OptFields}
 use Rattle.dns_base.specs.Holding.{Contents, ReadsAs, AskedReadsAs}
 use Rattle.dns_base.specs.ReadingLaws.{ReadingLaws, ItemsAre}
-use Rattle.client_request.specs.Request.{Request, with_id, with_payload_size, with_option}
+use Rattle.client_request.specs.Request.{Request, with_id, with_option}
 use Rattle.client_request.specs.Composed.{section_items}
 use Rattle.client_request.specs.Carries.{contents_of, records_of, sent_from, opt_records, SaysRequest, Carries}
 use Rattle.client_request.specs.declared.event.Via.{Via}
 use Rattle.client_request.specs.declared.event.Via.TheVariants.{Dgram, Stream}
-use Rattle.right_trace.specs.Messages.{id_in, CarriesBy, CarriesInFrame}
+use Rattle.right_trace.specs.Messages.{announcing, id_in, CarriesBy, CarriesInFrame}
 use Rattle.message_matching.specs.Shapes.{same_octets}
 use Rattle.message_matching.specs.Matching.{carries_items, carries_found, carries_section, says_request, is_request, is_datagram_of, is_framed, is_either, is_frame_of, carries_by}
 use Rattle.message_matching.proofs.Names.{both, all, same_number, number_same, octets_same, same_octets_are}
 use Rattle.message_matching.proofs.Copies.{AreSent, items_sent, sent_items, AreAsked, items_asked, asked_items}
 use Rattle.dns_names.proofs.Heads.{then_ok}
 use Rattle.dns_base.proofs.Readings.{reading_laws}
+use Rattle.right_trace.specs.Trace.{Conf}
 
 -- the items of a section, where those before it are read
 pub record SectionSent (s : Section) (opt : Option OptFields) (octets base : List ℕ) : Type 0 where
@@ -148,12 +149,12 @@ or_true : (a : Bool) → (a || true) ≡ true
 or_true true = refl
 or_true false = refl
 
-pub carries_so : (v : Via) (o : List ℕ) (r : Request) (id : ℕ) → carries_by v o r id ≡ true → CarriesBy v o r id
+pub carries_so : (c : Conf) (v : Via) (o : List ℕ) (r : Request) (id : ℕ) → carries_by c.transports.dgram_udp_payload_size v o r id ≡ true → CarriesBy c v o r id
 unfolding id_in
-carries_so Dgram o r id e =
-    let p = both (is_request o (with_payload_size 1232 (with_id id r))) (id_of o == id) e in
+carries_so c Dgram o r id e =
+    let p = both (is_request o (announcing c.transports.dgram_udp_payload_size (with_id id r))) (id_of o == id) e in
     (asks_so o _ p.0, number_same (id_of o) id p.1)
-carries_so Stream o r id e =
+carries_so c Stream o r id e =
     let p = both (is_framed o) _ e in
     let f = both (nat_le 2 (length o)) _ p.0 in
     let g = both (nat_lt (length (drop 2 o)) 65536) _ f.1 in
@@ -182,10 +183,10 @@ two_or_more n = grind (arith, nat_tests)
 two_at_least : (n : ℕ) (rest : List ℕ) → nat_le 2 (length (to_be_bytes w16 n ++ rest)) ≡ true
 two_at_least n rest = two_or_more (length rest)
 
-pub so_carries : (v : Via) (o : List ℕ) (r : Request) (id : ℕ) → CarriesBy v o r id → carries_by v o r id ≡ true
+pub so_carries : (c : Conf) (v : Via) (o : List ℕ) (r : Request) (id : ℕ) → CarriesBy c v o r id → carries_by c.transports.dgram_udp_payload_size v o r id ≡ true
 unfolding id_in
-so_carries Dgram o r id x = all (is_request o (with_payload_size 1232 (with_id id r))) (id_of o == id) (said o _ x.0) (same_number (id_of o) id x.1)
-so_carries Stream o r id x =
+so_carries c Dgram o r id x = all (is_request o (announcing c.transports.dgram_udp_payload_size (with_id id r))) (id_of o == id) (said o _ x.0) (same_number (id_of o) id x.1)
+so_carries c Stream o r id x =
     let back : drop 2 o ≡ x.rest = ap (drop 2) x.framed ∙ behind_two (length x.rest) x.rest in
     let front : take 2 o ≡ to_be_bytes w16 (length (drop 2 o)) = ap (take 2) x.framed ∙ (first_two (length x.rest) x.rest ∙ ap (λ n. to_be_bytes w16 (length n)) (sym back)) in
     let long : nat_le 2 (length o) ≡ true = ap (λ o. nat_le 2 (length o)) x.framed ∙ two_at_least (length x.rest) x.rest in

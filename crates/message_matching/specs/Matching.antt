@@ -9,11 +9,12 @@ use Rattle.dns_base.specs.Data.{Data}
 use Rattle.dns_base.specs.Message.{Known, Written, header_of}
 use Rattle.dns_base.specs.Answering.{same_items, question_items}
 use Rattle.dns_base.specs.OptRecord.{OptFields}
-use Rattle.client_request.specs.Request.{Request, opt_written, with_id, with_option, with_payload_size}
+use Rattle.client_request.specs.Request.{Request, opt_written, with_id, with_option}
 use Rattle.client_request.specs.declared.event.Via.{Via}
 use Rattle.client_request.specs.declared.event.Via.TheVariants.{Dgram, Stream}
 use Rattle.dns_base.specs.Header.{id_of}
 use Rattle.client_request.specs.Composed.{section_items, written_from, is_replaced}
+use Rattle.right_trace.specs.Messages.{announcing}
 use Rattle.message_matching.specs.Shapes.{same_octets, same_shape, shape_of, plain_octets}
 
 -- data that is read says what other data says
@@ -81,8 +82,9 @@ says_request octets r =
 abbrev pub is_request : List ℕ → Request → Bool
 is_request octets r = nat_le 12 (length octets) && says_request octets r
 
-abbrev pub is_datagram_of : List ℕ → Request → (id : ℕ) → Bool
-is_datagram_of octets r id = is_request octets (with_payload_size 1232 (with_id id r)) && (id_of octets == id)
+-- a datagram that announces this payload size
+abbrev pub is_datagram_of : (size : Option ℕ) → List ℕ → Request → (id : ℕ) → Bool
+is_datagram_of size octets r id = is_request octets (announcing size (with_id id r)) && (id_of octets == id)
 
 -- two octets give the length of the rest
 abbrev pub is_framed : List ℕ → Bool
@@ -95,6 +97,6 @@ is_either octets r id = is_request octets (with_id id r) || is_request octets (w
 abbrev pub is_frame_of : List ℕ → Request → (id : ℕ) → Bool
 is_frame_of octets r id = is_framed octets && (is_either (drop 2 octets) r id && (id_of (drop 2 octets) == id))
 
-abbrev pub carries_by : Via → List ℕ → Request → (id : ℕ) → Bool
-carries_by Dgram octets r id = is_datagram_of octets r id
-carries_by Stream octets r id = is_frame_of octets r id
+abbrev pub carries_by : (size : Option ℕ) → Via → List ℕ → Request → (id : ℕ) → Bool
+carries_by size Dgram octets r id = is_datagram_of size octets r id
+carries_by size Stream octets r id = is_frame_of octets r id

@@ -4,6 +4,7 @@ ghost use Rattle.std.specs.Prelude.{◌≡◌, ◌&&◌, ◌==◌, [], IfOk, IfS
 ghost use Rattle.dns_base.specs.Header.{with_id, id_of};
 ghost use Rattle.client_request.specs.Request as requests;
 ghost use Rattle.dns_base.specs.Answering.{is_answer};
+ghost use Rattle.right_trace.specs.Messages.{announcing};
 ghost use Rattle.message_matching.specs.Matching as spec;
 
 use crate::opt::SentOpt;
@@ -65,12 +66,20 @@ fn message_of(octets: Octets) -> Option<Message>
     Message::from_octets(octets).ok()
 }
 
-/// Whether a message is a datagram of a request under an id, as it is sent to a server that answers by at most 1232 octets.
-fn is_datagram_of(message: &Message, request: &RequestMessage, id: u16) -> bool
-    ensures { result ≡ (spec.says_request message.now (requests.with_payload_size 1232 (requests.with_id id request.now)) && (id_of message.now == id)) }
+/// Whether a message is a datagram of a request under an id, as it is sent where this payload size is announced.
+fn is_datagram_of(
+    message: &Message,
+    request: &RequestMessage,
+    id: u16,
+    payload_size: Option<u16>,
+) -> bool
+    ensures { result ≡ (spec.says_request message.now (announcing payload_size (requests.with_id id request.now)) && (id_of message.now == id)) }
 {
     let recorded = request.recorded_opt();
-    let opt = Some(SentOpt::or_empty(&recorded).with_payload_size(1232));
+    let opt = match payload_size {
+        None => SentOpt::recorded(&recorded),
+        Some(size) => Some(SentOpt::or_empty(&recorded).with_payload_size(size)),
+    };
     says_request(message, request.base(), header_under(request, id), &opt)
         && message.header().id() == id
 }
@@ -148,20 +157,22 @@ fn is_frame_of(
     }
 }
 
-/// Whether octets carry a request under an id, as it is sent or written so (RFC 1035 4.2.1, RFC 6891 6.2.3, RFC 7766 8).
+/// Whether octets carry a request under an id, as it is sent or written so (RFC 1035 4.2.1, RFC 6891 6.2.3, RFC 7766 8). A datagram
+/// announces this payload size, or what is recorded where there is none.
 pub fn carries(
     alloc: Global,
+    payload_size: Option<u16>,
     via: Via,
     octets: &Octets,
     request: &RequestMessage,
     id: u16,
 ) -> Result<bool, NoMemory>
-    ensures { IfOk result (λ b. b ≡ spec.carries_by via octets.now request.now id) }
+    ensures { IfOk result (λ b. b ≡ spec.carries_by payload_size via octets.now request.now id) }
 {
     match via {
         Via::Dgram => match message_of(octets.try_clone()?) {
             None => Ok(false),
-            Some(message) => Ok(is_datagram_of(&message, request, id)),
+            Some(message) => Ok(is_datagram_of(&message, request, id, payload_size)),
         },
         Via::Stream => is_frame_of(alloc, octets, request, id),
     }

@@ -1,10 +1,11 @@
 //! What the tests of octets decide.
 
+ghost use Rattle.right_trace.specs.Trace.{Conf};
 ghost use Rattle.message_matching.specs.Laws.{CarryingIsDecided, AnswersAreDecided};
 
 /// Octets carry a request exactly where the test says so.
 pub fn carrying_is_decided()
-    ensures { CarryingIsDecided }
+    ensures { (c : Conf) → CarryingIsDecided c }
 {}
 
 /// A message is an answer exactly where the test says so.

@@ -3,6 +3,9 @@ use Rattle.std.proofs.Common.{◌≡◌, ◌||◌, Bool, true, false, ℕ, zero,
 use Rattle.client_request.specs.Composed.{composed}
 use Rattle.client_request.specs.declared.event.Row.{Row}
 use Rattle.client_settings.specs.Settings.{CacheSettings, RedundantSettings}
+use Rattle.client_settings.specs.declared.settings.Transports.{Transports}
+use Rattle.right_settings.proofs.Told.{settings_given}
+use Rattle.right_settings.specs.Given.{AreGiven, told}
 use Rattle.client_steps.specs.Whole.{asks_by_streams, is_tcp}
 use Rattle.client_steps.specs.Headline as headline
 use Rattle.resolv_conf.specs.declared.conf.ResolvConf.{ResolvConf}
@@ -43,8 +46,8 @@ same_uses o (s ∷ ss) =
     let more = same_uses o ss in
     cc
 
-same_conf : (conf : ResolvConf) → headline.conf_of conf ≡ conf_of conf
-same_conf conf = ap (λ (us : List Use). record { servers = us; timeout = conf.options.timeout }) (sym (same_uses conf.options conf.servers))
+same_conf : (t : Transports) (conf : ResolvConf) → headline.conf_with (told t) conf ≡ conf_of conf t
+same_conf t conf = ap (λ (us : List Use). record { servers = us; timeout = conf.options.timeout; transports = told t }) (sym (same_uses conf.options conf.servers))
 
 -- what holds of all rows fails at none
 hits_fail : (cache : CacheSettings) (n : ℕ) (c : Conf) (s : Settings) (x : History) (rows : List Row) → FailsAt (Hit cache) n c s x rows → AllHit c s composed (room_of cache) x rows → ⊥
@@ -68,19 +71,20 @@ none_unserved cache c s rows None i t = refl
 none_unserved cache c s rows (Some n) i t = absurd (stale_fails cache n c s [] rows i t)
 
 pub replays : ReplaysAreRight
-replays redundant cache conf words events rows r =
-    let is : right.Right (conf_of conf) (settings_of redundant cache) rows = subst (λ (c : Conf). right.Right c (settings_of redundant cache) rows) (same_conf conf) r.right in
-    let said : IsSaid Right redundant cache conf events rows = kept_is_right.right_kept (conf_of conf) (settings_of redundant cache) events rows r.each is in
-    let hits : AllHit (conf_of conf) (settings_of redundant cache) composed (room_of cache) [] rows = subst (λ (c : Conf). AllHit c (settings_of redundant cache) composed (room_of cache) [] rows) (same_conf conf) r.hits in
-    let stale : AllServeStale (conf_of conf) (settings_of redundant cache) (room_of cache) [] rows = subst (λ (c : Conf). AllServeStale c (settings_of redundant cache) (room_of cache) [] rows) (same_conf conf) r.stale in
-    let timely : Timely (conf_of conf) rows = subst (λ (c : Conf). Timely c rows) (same_conf conf) r.timely in
+replays t limited redundant cache conf words events rows r =
+    let given : AreGiven (headline.conf_with (told t) conf) t = settings_given (headline.conf_with (told t) conf) t limited in
+    let is : right.Right (conf_of conf t) (settings_of redundant cache) rows = subst (λ (c : Conf). right.Right c (settings_of redundant cache) rows) (same_conf t conf) (r.right (told t) given) in
+    let said : IsSaid Right t redundant cache conf events rows = kept_is_right.right_kept (conf_of conf t) (settings_of redundant cache) events rows r.each is in
+    let hits : AllHit (conf_of conf t) (settings_of redundant cache) composed (room_of cache) [] rows = subst (λ (c : Conf). AllHit c (settings_of redundant cache) composed (room_of cache) [] rows) (same_conf t conf) (r.hits (told t) given) in
+    let stale : AllServeStale (conf_of conf t) (settings_of redundant cache) (room_of cache) [] rows = subst (λ (c : Conf). AllServeStale c (settings_of redundant cache) (room_of cache) [] rows) (same_conf t conf) (r.stale (told t) given) in
+    let timely : Timely (conf_of conf t) rows = subst (λ (c : Conf). Timely c rows) (same_conf t conf) (r.timely (told t) given) in
     record {
       right = said;
-      alone = λ v i. one_verdict (conf_of conf) (settings_of redundant cache) events rows v Right i said;
+      alone = λ v i. one_verdict (conf_of conf t) (settings_of redundant cache) events rows v Right i said;
       timely = timely;
-      never_late = λ o i. (none_is_timely (conf_of conf) rows o i).1 timely;
+      never_late = λ o i. (none_is_timely (conf_of conf t) rows o i).1 timely;
       hits = hits;
-      never_missed = λ o i. none_missed cache (conf_of conf) (settings_of redundant cache) rows o i hits;
+      never_missed = λ o i. none_missed cache (conf_of conf t) (settings_of redundant cache) rows o i hits;
       stale = stale;
-      always_served = λ o i. none_unserved cache (conf_of conf) (settings_of redundant cache) rows o i stale;
+      always_served = λ o i. none_unserved cache (conf_of conf t) (settings_of redundant cache) rows o i stale;
     }

@@ -2,7 +2,7 @@
 use Rattle.std.proofs.Common.{ℕ, ◌<◌, List, ◌++◌, refl, arith}
 use Rattle.client_cache.specs.Plain.{room_of}
 use Rattle.client_request.specs.declared.event.Row.{Row}
-use Rattle.client_steps.specs.Whole.{Layer, Whole, choice, client_with, machine, reading, started}
+use Rattle.client_steps.specs.Whole.{Layer, Whole, choice, client_with, machine, reading, started_with}
 use Rattle.front_core.specs.Core.{IsCoreStep}
 use Rattle.front_core.specs.Forwarded.{Forwards, begins, goes_on}
 use Rattle.front_peers.specs.declared.event.FrontRow.{FrontRow}
@@ -33,5 +33,5 @@ module _ (room : ℕ) (some : 0 < room) where
       runs_keep a.within f (made.rows ++ made.now) b.within g (rows_keep first words before whole a f within forwards) made.runs
 
 pub entries_are_few : EntriesAreFew
-entries_are_few redundant cache conf words rows trace last left forwards =
-    (rows_keep (room_of cache) (omega arith) (beginning (started redundant cache conf)) words rows trace last left (refl, omega arith) forwards).1
+entries_are_few given redundant cache conf words rows trace last left forwards =
+    (rows_keep (room_of cache) (omega arith) (beginning (started_with given redundant cache conf)) words rows trace last left (refl, omega arith) forwards).1

@@ -3,7 +3,7 @@ use Rattle.std.proofs.Common.{◌≡◌, ℕ, ◌+◌, ◌*◌, ◌≤◌, List,
 use Rattle.std.specs.Prelude.{◌==◌, nat_lt, if◌then◌else◌}
 use Rattle.number_table.specs.Entries.{entry_at, frees, puts}
 use Rattle.client_request.specs.declared.event.Row.{Row}
-use Rattle.client_steps.specs.Whole.{Whole, started}
+use Rattle.client_steps.specs.Whole.{Whole, started_with}
 use Rattle.front_core.specs.Core.{IsCoreStep, core_serves}
 use Rattle.front_core.specs.Forwarded.{Forwards, begins, goes_on}
 use Rattle.front_peers.specs.Items.{Streams, at_moment, brings, drops, is_new, is_stream, makes_room, of_datagram, of_frames, opens, quietest, takes, takes_now}
@@ -217,7 +217,7 @@ module _ (peer : ℕ) where
         subst (λ (rs : List FrontRow). ByStream rs b) (sym rows_are) (omega arith)
 
 pub every_answer_is_earned : EveryAnswerIsEarned
-every_answer_is_earned redundant cache conf words rows trace last left forwards peer = record {
-  by_datagrams = λ is. (let all = all_earned peer (beginning (started redundant cache conf)) words is (omega arith, omega arith) rows trace last left forwards in omega (arith, all.0));
-  by_stream = λ is. (let all = all_paid peer (beginning (started redundant cache conf)) words is (omega arith) rows trace last left forwards in omega arith);
+every_answer_is_earned given redundant cache conf words rows trace last left forwards peer = record {
+  by_datagrams = λ is. (let all = all_earned peer (beginning (started_with given redundant cache conf)) words is (omega arith, omega arith) rows trace last left forwards in omega (arith, all.0));
+  by_stream = λ is. (let all = all_paid peer (beginning (started_with given redundant cache conf)) words is (omega arith) rows trace last left forwards in omega arith);
 }

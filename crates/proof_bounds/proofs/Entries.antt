@@ -7,7 +7,7 @@ use Rattle.std.proofs.lemmas.List.{length-take}
 use Rattle.client_cache.specs.Keeping as keeping
 use Rattle.client_cache.specs.Keeping.{Entry, Outcome, Spare, Table, clears_rd, derived, entry_under, first_kept, is_own, keeps_derived, keeps_for, same_class, stores, stores_with_rd, takes_other, takes_own, uses, with_flags}
 use Rattle.client_cache.specs.Plain as plain
-use Rattle.client_cache.specs.Plain.{Cached, Job, Kept, Reading, Response, drops_below, gives, gives_error, gives_instead, gives_outcome, gives_part, goes, settled, settled_after, settles, settles_all, settles_for, transport, way_asked, way_for, way_looked, way_of, with_table}
+use Rattle.client_cache.specs.Plain.{Cached, Job, Kept, Reading, Response, drops_below, gives, gives_result, gives_instead, gives_outcome, gives_part, goes, settled, settled_after, settles, settles_all, settles_for, transport, way_asked, way_for, way_looked, way_of, with_table}
 use Rattle.client_cache.specs.declared.steps.Way.{Way}
 use Rattle.client_cache.specs.declared.steps.Way.TheVariants.{Asks, Given}
 use Rattle.client_cache.specs.declared.table.Flags.{Flags}
@@ -20,7 +20,7 @@ use Rattle.client_request.specs.declared.board.Posted.{Posted}
 use Rattle.client_request.specs.declared.error.Error.{Error}
 use Rattle.client_settings.specs.Settings.{CacheSettings}
 use Rattle.lru.specs.LruCache.{promoted}
-use Rattle.right_trace.specs.Errors.{is_failure}
+use Rattle.right_trace.specs.Errors.{is_failing}
 use Rattle.right_trace.specs.Keys.{Key}
 use Rattle.proof_bounds.proofs.Stepping.{map_some, some_same, then_some}
 
@@ -118,21 +118,21 @@ module _ (room : ℕ) (some : 0 < room) where
   outcome_fits : (ticket : ℕ) (key : Key) (k : Kept) (v : View) (outcome : Outcome) → Fits k.table → Fits (gives_outcome ticket key k v outcome).0.table
   outcome_fits ticket key k v outcome fits = for_fits key v.now outcome k.table (kept_for k.settings outcome) fits
 
-  instead_fits : (ticket : ℕ) (key : Key) (k : Kept) (v : View) (error : Error) (o : Option (List ℕ)) → Fits k.table → Fits (gives_instead ticket key k v error o).0.table
-  instead_fits ticket key k v error None fits = outcome_fits ticket key k v (Err error) fits
-  instead_fits ticket key k v error (Some message) fits = fits
+  instead_fits : (ticket : ℕ) (key : Key) (k : Kept) (v : View) (outcome : Outcome) (o : Option (List ℕ)) → Fits k.table → Fits (gives_instead ticket key k v outcome o).0.table
+  instead_fits ticket key k v outcome None fits = outcome_fits ticket key k v outcome fits
+  instead_fits ticket key k v outcome (Some message) fits = fits
 
-  error_fits : (ticket : ℕ) (key : Key) (spare : Option Spare) (k : Kept) (v : View) (error : Error) → Fits k.table → Fits (gives_error ticket key spare k v error).0.table
-  error_fits ticket key spare k v error fits = go (is_failure error)
+  result_fits : (ticket : ℕ) (key : Key) (spare : Option Spare) (k : Kept) (v : View) (outcome : Outcome) → Fits k.table → Fits (gives_result ticket key spare k v outcome).0.table
+  result_fits ticket key spare k v outcome fits = go (is_failing outcome)
     where
-      go : (b : Bool) → Fits (if◌then◌else◌ {A = Kept × View} b (gives_instead ticket key k v error (keeping.spare_stands_in k.settings v.now spare)) (gives_outcome ticket key k v (Err error))).0.table
-      go true = instead_fits ticket key k v error (keeping.spare_stands_in k.settings v.now spare) fits
-      go false = outcome_fits ticket key k v (Err error) fits
+      go : (b : Bool) → Fits (if◌then◌else◌ {A = Kept × View} b (gives_instead ticket key k v outcome (keeping.spare_stands_in k.settings v.now spare)) (gives_outcome ticket key k v outcome)).0.table
+      go true = instead_fits ticket key k v outcome (keeping.spare_stands_in k.settings v.now spare) fits
+      go false = outcome_fits ticket key k v outcome fits
 
   part_fits : (ticket : ℕ) (key : Key) (spare : Option Spare) (k : Kept) (v : View) (part : Part) → Fits k.table → Fits (gives_part ticket key spare k v part).0.table
   part_fits ticket key spare k v (Ok None) fits = fits
-  part_fits ticket key spare k v (Ok (Some message)) fits = outcome_fits ticket key k v (Ok message) fits
-  part_fits ticket key spare k v (Err error) fits = error_fits ticket key spare k v error fits
+  part_fits ticket key spare k v (Ok (Some message)) fits = result_fits ticket key spare k v (Ok message) fits
+  part_fits ticket key spare k v (Err error) fits = result_fits ticket key spare k v (Err error) fits
 
   gives_fits : (ticket : ℕ) (key : Option Key) (spare : Option Spare) (k : Kept) (v : View) (part : Part) → Fits k.table → Fits (gives ticket key spare k v part).0.table
   gives_fits ticket None spare k v part fits = fits

@@ -10,7 +10,7 @@ use Rattle.client_request.specs.declared.event.Moment.{Moment}
 use Rattle.client_request.specs.declared.event.Row.{Row}
 use Rattle.client_stream.specs.Frames.{body_size, has_frame}
 use Rattle.client_stream.proofs.Frames.{behind, body}
-use Rattle.client_steps.specs.Whole.{Whole, started}
+use Rattle.client_steps.specs.Whole.{Whole, started_with}
 use Rattle.front_core.specs.Core.{IsCoreStep, core_serves}
 use Rattle.front_core.specs.Forwarded.{Forwards, begins, goes_on}
 use Rattle.front_peers.specs.Items.{Brought, Streams, at_moment, brings, closes, is_new, is_stream, makes_room, of_datagram, of_frame, of_frames, opens, takes, takes_now}
@@ -378,6 +378,6 @@ all_rows first words rows trace last left none all (goes_on some whole row befor
     row_keeps IsCoreStep core_serves row.event a.within f a.desk (scene b.within g b.desk row.outs) both.1 (all_rows first words some before a f none both.0 forwards) made
 
 pub streams_keep_little : StreamsKeepLittle
-streams_keep_little redundant cache conf words rows trace last left forwards all =
-    let none : NoneWhole last.desk.streams = all_rows (beginning (started redundant cache conf)) words rows trace last left (tt, omega arith, omega arith) all forwards in
+streams_keep_little given redundant cache conf words rows trace last left forwards all =
+    let none : NoneWhole last.desk.streams = all_rows (beginning (started_with given redundant cache conf)) words rows trace last left (tt, omega arith, omega arith) all forwards in
     all_short last.desk.streams.streams none.1 none.2

@@ -5,7 +5,7 @@ use Rattle.std.specs.Ordering.{match_ordering, is_eq}
 use Rattle.std.proofs.lemmas.Cmp.{nat_cmp_total, tied_itself}
 use Rattle.number_table.specs.Entries.{puts, frees, entry_at}
 use Rattle.client_stream.specs.Frames.{has_frame}
-use Rattle.client_steps.specs.Whole.{started}
+use Rattle.client_steps.specs.Whole.{started_with}
 use Rattle.front_peers.specs.Items.{Brought, Streams, at_moment, brings, of_frames}
 use Rattle.front_peers.specs.declared.items.Item.{Item}
 use Rattle.front_peers.specs.declared.peers.Stream.{Stream}
@@ -160,5 +160,5 @@ module _ (moment : ℕ) (peer : ℕ) (first second : List ℕ) (before : Streams
   cut_in_two = record { goes_on = goes_on (entry_at peer s.streams) refl; ends = ends (entry_at peer s.streams) refl }
 
 pub every_event_may_be_cut : EveryEventMayBeCut
-every_event_may_be_cut redundant cache conf words rows trace last left forwards all moment peer first second =
-    cut_in_two moment peer first second last.desk.streams (all_rows (beginning (started redundant cache conf)) words rows trace last left (tt, omega arith, omega arith) all forwards)
+every_event_may_be_cut given redundant cache conf words rows trace last left forwards all moment peer first second =
+    cut_in_two moment peer first second last.desk.streams (all_rows (beginning (started_with given redundant cache conf)) words rows trace last left (tt, omega arith, omega arith) all forwards)

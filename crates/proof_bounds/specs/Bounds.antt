@@ -4,7 +4,8 @@ use Rattle.std.specs.List.{AllByRecursion}
 use Rattle.client_cache.specs.Plain.{room_of}
 use Rattle.client_request.specs.declared.event.Row.{Row}
 use Rattle.client_settings.specs.Settings.{CacheSettings, RedundantSettings}
-use Rattle.client_steps.specs.Whole.{Whole, started}
+use Rattle.client_settings.specs.declared.settings.Transports.{Transports}
+use Rattle.client_steps.specs.Whole.{Whole, started_with}
 use Rattle.front_core.specs.Forwarded.{Forwards, Makes}
 use Rattle.front_peers.specs.Items.{is_stream, takes}
 use Rattle.front_peers.specs.declared.event.FrontRow.{FrontRow}
@@ -22,8 +23,8 @@ pub record AnswersAreEarned (peer : ℕ) (rows : List FrontRow) : Type 0 where
 
 -- Whatever comes of peers and of servers.
 abbrev pub EveryAnswerIsEarned : Type 0
-EveryAnswerIsEarned = (redundant : RedundantSettings) (cache : CacheSettings) (conf : ResolvConf) (words : ℕ → ℕ) (rows : List FrontRow) (trace : List Row) (last : Forwarding Whole) (left : ℕ → ℕ)
-    → Forwards (beginning (started redundant cache conf)) words rows trace last left → (peer : ℕ) → AnswersAreEarned peer rows
+EveryAnswerIsEarned = (given : Transports) (redundant : RedundantSettings) (cache : CacheSettings) (conf : ResolvConf) (words : ℕ → ℕ) (rows : List FrontRow) (trace : List Row) (last : Forwarding Whole) (left : ℕ → ℕ)
+    → Forwards (beginning (started_with given redundant cache conf)) words rows trace last left → (peer : ℕ) → AnswersAreEarned peer rows
 
 -- A row has at most as many answers as queries waited before it, and things come of its event; what waits behind it is as much less.
 abbrev pub AnswersInARowAreFew : Type 0
@@ -40,11 +41,11 @@ IsOfOctets (Core what) = Unit {0}
 
 -- Behind each event at most 65,536 octets are kept of a stream: a message of 65,535 and its length, but for one.
 abbrev pub StreamsKeepLittle : Type 0
-StreamsKeepLittle = (redundant : RedundantSettings) (cache : CacheSettings) (conf : ResolvConf) (words : ℕ → ℕ) (rows : List FrontRow) (trace : List Row) (last : Forwarding Whole) (left : ℕ → ℕ)
-    → Forwards (beginning (started redundant cache conf)) words rows trace last left → AllByRecursion (λ row. IsOfOctets row.event.what) rows
+StreamsKeepLittle = (given : Transports) (redundant : RedundantSettings) (cache : CacheSettings) (conf : ResolvConf) (words : ℕ → ℕ) (rows : List FrontRow) (trace : List Row) (last : Forwarding Whole) (left : ℕ → ℕ)
+    → Forwards (beginning (started_with given redundant cache conf)) words rows trace last left → AllByRecursion (λ row. IsOfOctets row.event.what) rows
     → AllByRecursion (λ stream. length (stream.1).framer ≤ 65536) last.desk.streams.streams
 
 -- The client within keeps at most as many results as it may, and one where it may keep none.
 abbrev pub EntriesAreFew : Type 0
-EntriesAreFew = (redundant : RedundantSettings) (cache : CacheSettings) (conf : ResolvConf) (words : ℕ → ℕ) (rows : List FrontRow) (trace : List Row) (last : Forwarding Whole) (left : ℕ → ℕ)
-    → Forwards (beginning (started redundant cache conf)) words rows trace last left → length last.within.layer.kept.table.entries ≤ room_of cache
+EntriesAreFew = (given : Transports) (redundant : RedundantSettings) (cache : CacheSettings) (conf : ResolvConf) (words : ℕ → ℕ) (rows : List FrontRow) (trace : List Row) (last : Forwarding Whole) (left : ℕ → ℕ)
+    → Forwards (beginning (started_with given redundant cache conf)) words rows trace last left → length last.within.layer.kept.table.entries ≤ room_of cache

@@ -3,7 +3,8 @@ use Rattle.std.specs.Prelude.{◌≡◌, ℕ, ◌||◌, false, Bool, true, List,
 use Rattle.std.specs.List.{AllByRecursion}
 use Rattle.client_request.specs.declared.event.Row.{Row}
 use Rattle.client_settings.specs.Settings.{CacheSettings, RedundantSettings}
-use Rattle.client_steps.specs.Whole.{Whole, started}
+use Rattle.client_settings.specs.declared.settings.Transports.{Transports}
+use Rattle.client_steps.specs.Whole.{Whole, started_with}
 use Rattle.client_stream.specs.Frames.{has_frame}
 use Rattle.front_core.specs.Forwarded.{Forwards}
 use Rattle.front_peers.specs.Items.{Brought, Streams, of_frames, takes}
@@ -64,6 +65,6 @@ pub record EventIsCut (moment peer : ℕ) (first second : List ℕ) (s : Streams
 
 -- So it is behind whatever came, if it is made of octets.
 abbrev pub EveryEventMayBeCut : Type 0
-EveryEventMayBeCut = (redundant : RedundantSettings) (cache : CacheSettings) (conf : ResolvConf) (words : ℕ → ℕ) (rows : List FrontRow) (trace : List Row) (last : Forwarding Whole) (left : ℕ → ℕ)
-    → Forwards (beginning (started redundant cache conf)) words rows trace last left → AllByRecursion (λ row. IsOfOctets row.event.what) rows
+EveryEventMayBeCut = (given : Transports) (redundant : RedundantSettings) (cache : CacheSettings) (conf : ResolvConf) (words : ℕ → ℕ) (rows : List FrontRow) (trace : List Row) (last : Forwarding Whole) (left : ℕ → ℕ)
+    → Forwards (beginning (started_with given redundant cache conf)) words rows trace last left → AllByRecursion (λ row. IsOfOctets row.event.what) rows
     → (moment peer : ℕ) (first second : List ℕ) → EventIsCut moment peer first second last.desk.streams

@@ -13,15 +13,16 @@ use Rattle.client_request.specs.declared.error.Error.TheVariants.{NoTransportAva
 use Rattle.client_request.specs.declared.event.What.TheVariants.{Ask}
 use Rattle.client_request.proofs.Carrying.{composed_says}
 use Rattle.client_request.specs.declared.error.Error.{Error}
-use Rattle.right_trace.specs.Errors.{is_failure}
+use Rattle.right_trace.specs.Errors.{is_failing, is_failure}
 use Rattle.right_trace.specs.Keys.{Key, is_cacheable}
 use Rattle.right_trace.specs.Messages.{IsComposingFault}
 use Rattle.right_trace.specs.Settings.{Settings}
 use Rattle.right_trace.specs.Parts.{IsIn}
-use Rattle.proof_right.specs.machine.Client.{Waiting, Leaving, Entry, is_failing, Answers, Takes_on, Derives, newcomer, answer, take_on, unmade, outcome_of, validity_of, Nowhere}
+use Rattle.proof_right.specs.machine.Client.{Waiting, Leaving, Entry, is_failure_of, Caches, Answers, Takes_on, Derives, newcomer, answer, take_on, unmade, outcome_of, validity_of, Nowhere}
 use Rattle.proof_right.specs.machine.Cache.{Op, after_ops}
 use Rattle.proof_right.specs.machine.Exact.{Value, MayRevive, ServedBy, Looks, Looked, LeftAlone, OwnServes, OwnMessage}
-use Rattle.proof_right.proofs.Composing.{composed_composes}
+use Rattle.proof_right.proofs.Composing.{composed_refused}
+use Rattle.proof_right.proofs.client.Outcomes.{given_so}
 use Rattle.right_trace.specs.Updates.{with_at}
 use Rattle.proof_parts.specs.ClientTie as client
 use Rattle.proof_parts.specs.ClientTie.{LeadsBeside, StandsIn, IsTold, WereTried}
@@ -58,7 +59,7 @@ use Rattle.proof_cache.proofs.Settling.{at_next, IsAskedFor, IsRevived, AllTold,
 use Rattle.proof_cache.proofs.Ways.{Ways, Finds, Goes_on, ways}
 
 -- why a request is refused fails by no server
-mild_fault : (r : Request) (e : Error) → IsComposingFault r e → is_failing (Err e) ≡ false
+mild_fault : (r : Request) (e : Error) → IsComposingFault r e → is_failure_of (Err e) ≡ false
 mild_fault r e (inl p) = ap is_failure p.0
 mild_fault r e (inr p) = ap is_failure p.0
 
@@ -74,7 +75,7 @@ stands_among s now xs ys f t h = each_more (StandsForStored s now xs) (StandsFor
 
 module _ (g : Caching) where
   -- nothing stands in for a result that does not fail
-  not_revived : (now : ℕ) (expired : ℕ → Option Entry) (z : Leaving) (ys : List Leaving) → IsRevived g now expired (z ∷ []) ys → is_failing z.result ≡ false → ys ≡ z ∷ []
+  not_revived : (now : ℕ) (expired : ℕ → Option Entry) (z : Leaving) (ys : List Leaving) → IsRevived g now expired (z ∷ []) ys → is_failing z.given ≡ false → ys ≡ z ∷ []
   not_revived now expired z _ (Stays _ _ _ AllTold) mild = refl
   not_revived now expired z _ (Changes _ old m _ _ fails there may h) mild = absurd (let p = fails in let q = mild in cc)
 
@@ -203,9 +204,9 @@ module _ (g : Caching) where
           subst (ServedBy v r a.now) one f.2
 
       -- where a message is listed under the own key, it does not fail
-      mild : (made : Outcome) → composed r ≡ made → OwnMessage g.c (its g) composed g.P same_key (room g) r es (λ v. is_failing o ≡ false)
+      mild : (made : Outcome) → composed r ≡ made → OwnMessage g.c (its g) composed g.P same_key (room g) r es (λ v. is_failure_of o ≡ false)
       mild (Ok m) made cacheable v n own message = lists.mild m made cacheable v n own message o answer_is
-      mild (Err e) made cacheable v n own message = subst (λ o. is_failing o ≡ false) error (mild_fault r e (composed_composes.refused r e octets made))
+      mild (Err e) made cacheable v n own message = subst (λ o. is_failure_of o ≡ false) error (mild_fault r e (composed_refused r e octets made))
         where
           some_same : (x y : Outcome) → Some x ≡ Some y → x ≡ y
           some_same x y p = cc
@@ -464,8 +465,11 @@ module _ (g : Caching) where
         abbrev said_below : View
         said_below = answers (ticked v).ticket (Err NoTransportAvailable) lower
 
-        fault_mild : is_failing fault.result ≡ false
-        fault_mild = ap is_failing (error_outcome (is_cacheable r) (its g).transport_failure_duration a.asked r NoTransportAvailable)
+        fault_mild : is_failing fault.given ≡ false
+        fault_mild = ap is_failing (given_so (its g) a.asked r (Err NoTransportAvailable) fault Caches)
+
+        fault_error : is_failure_of fault.result ≡ false
+        fault_error = ap is_failure_of (error_outcome (is_cacheable r) (its g).transport_failure_duration a.asked r NoTransportAvailable)
 
         is_error : (b : Bool) (n : Option ℕ) → IsResult (outcome_of b n a.asked r (Err NoTransportAvailable)).result
         is_error false n = tt
@@ -535,7 +539,7 @@ module _ (g : Caching) where
             end = refused;
             kept = left;
             leads = led_on (its g) g.P (listed g) a es [] derived es [] refused left leads_there
-                (one_led (its g) g.P (listed g) derived es (unmade refused) left (Answers r fault pending (Nowhere (m, composes) empty)) (looks, λ o made cacheable v is serves. absurd (none_serves o made unanswered cacheable v is serves), λ cacheable v m own message. fault_mild));
+                (one_led (its g) g.P (listed g) derived es (unmade refused) left (Answers r fault pending (Nowhere (m, composes) empty)) (looks, λ o made cacheable v is serves. absurd (none_serves o made unanswered cacheable v is serves), λ cacheable v m own message. fault_error));
             put = sym (append-nil v.outs);
             board = s.board;
             posted = refl;

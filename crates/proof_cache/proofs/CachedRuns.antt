@@ -43,7 +43,7 @@ hits_of : (c : Conf) (s : Settings) (cap : ℕ) (rows : List Row) (P : ServerPar
     → RunCached c s composed P same_key cap (begun c s composed P) rows run [] → AllHit c s composed cap [] rows
 hits_of c s cap rows P is octets =
     subst (λ (P : ServerPart c). (run : IsRun c s composed P (begun c s composed P) rows) → RunCached c s composed P same_key cap (begun c s composed P) rows run [] → AllHit c s composed cap [] rows) (sym is)
-    (every_hit c s composed same_key cap rows composed_composes keys_are_told octets)
+    (every_hit c s composed same_key cap rows (composed_composes c) keys_are_told octets)
 
 pub cached_runs_hit : CachedRunsHit
 cached_runs_hit g rows is octets run h = hits_of g.c (its g) (room g) rows g.P is octets run (run_cached g (begun g.c (its g) composed g.P) rows run [] h)
@@ -52,7 +52,7 @@ stale_of : (c : Conf) (s : Settings) (cap : ℕ) (rows : List Row) (P : ServerPa
     → RunCached c s composed P same_key cap (begun c s composed P) rows run [] → AllServeStale c s cap [] rows
 stale_of c s cap rows P is octets =
     subst (λ (P : ServerPart c). (run : IsRun c s composed P (begun c s composed P) rows) → RunCached c s composed P same_key cap (begun c s composed P) rows run [] → AllServeStale c s cap [] rows) (sym is)
-    (every_stale c s composed same_key cap rows composed_composes keys_are_told octets)
+    (every_stale c s composed same_key cap rows (composed_composes c) keys_are_told octets)
 
 pub cached_runs_serve_stale : CachedRunsServeStale
 cached_runs_serve_stale g rows is octets run h = stale_of g.c (its g) (room g) rows g.P is octets run (run_cached g (begun g.c (its g) composed g.P) rows run [] h)

@@ -58,14 +58,14 @@ module _ (s : Settings) (now number : ℕ) (r : Request) (outcome : Outcome) (st
   abbrev entry_for : ℕ → Entry
   entry_for n = record { moment = now; validity = n; outcome = kept_of outcome }
 
-  first_stands : (n : ℕ) → KeepsResult s (key_of r) (key_of r) n outcome (kept_of outcome) → TableStands s now (machine.entry_of now (record { request = number; asked = r; result = outcome; is_stored = true; stale = None }) ∷ stored) (stores (key_of r) (entry_for n) t)
+  first_stands : (n : ℕ) → KeepsResult s (key_of r) (key_of r) n outcome (kept_of outcome) → TableStands s now (machine.entry_of now (record { request = number; asked = r; result = outcome; given = outcome; is_stored = true; stale = None }) ∷ stored) (stores (key_of r) (entry_for n) t)
   first_stands n kept =
       let first : machine.Entry = record { under = key_of r; first = r; number = number; result = outcome; moment = now } in
       after_store (StandsForStored s now (first ∷ stored)) (key_of r) (entry_for n) t (stands_more s now first stored t stands)
       (first, inl refl, record { under = refl; covers = covers_itself (key_of r); moment = refl; past = omega arith; result = kept })
 
   first_listed : (n : ℕ) → KeepsResult s (key_of r) (key_of r) n outcome (kept_of outcome) → (es : List (Key × Value)) → AreAlike s now es t.entries
-      → AreAlike s now (lists t.cap now (record { request = number; asked = r; result = outcome; is_stored = true; stale = None }) es) (stores (key_of r) (entry_for n) t).entries
+      → AreAlike s now (lists t.cap now (record { request = number; asked = r; result = outcome; given = outcome; is_stored = true; stale = None }) es) (stores (key_of r) (entry_for n) t).entries
   first_listed n kept es alike =
       stored_alike (StandsFor s now) t.cap (key_of r) (record { first = r; number = number; result = outcome; moment = now }) (entry_for n) es t.entries
       (record { under = refl; covers = covers_itself (key_of r); moment = refl; past = omega arith; result = kept }) alike
@@ -78,7 +78,7 @@ module _ (s : Settings) (now number : ℕ) (r : Request) (outcome : Outcome) (st
       let some : (suc n == 0) ≡ false = ne_eqb (suc n) 0 (λ z. omega arith) in
       let above : nat_lt 0 (suc n) ≡ true = lt-ltb 0 (suc n) (omega arith) in
       subst (λ b. KeepsAs s now stored (machine.outcome_of true (Some (suc n)) number r outcome) t (if b then (outcome, t) else (outcome, stores (key_of r) (entry_for (suc n)) t))) (sym some)
-      (subst (λ b. KeepsAs s now stored (record { request = number; asked = r; result = outcome; is_stored = b; stale = None }) t (outcome, stores (key_of r) (entry_for (suc n)) t)) (sym above)
+      (subst (λ b. KeepsAs s now stored (record { request = number; asked = r; result = outcome; given = outcome; is_stored = b; stale = None }) t (outcome, stores (key_of r) (entry_for (suc n)) t)) (sym above)
       (record { given = refl; unstored = λ e. absurd (cc); stands = first_stands (suc n) (f (suc n) refl (omega arith)); room = refl; alike = first_listed (suc n) (f (suc n) refl (omega arith)) }))
 
 pub what_is_kept_is_stored : WhatIsKeptIsStored

@@ -207,22 +207,22 @@ module _ (cache : CacheSettings) (s : Settings) (now : ℕ) (r : Request) (a : A
 
 module _ (cache : CacheSettings) (s : Settings) (now : ℕ) (r : Request) (a : Asked) (asked : IsAskedBy r a) (limited : cache.max_validity ≤ seconds 4294967295) (t : Table) (v : Value) (e : Entry) (is : entry_under a.key t ≡ Some e)
     (st : StandsFor (with_cache cache s) now a.key v e) (m : Octets) (message : v.result ≡ Ok m) where
-  mild_own : (y : Outcome) → (looks_up cache a now t).answer ≡ Some y → machine.is_failing y ≡ false
+  mild_own : (y : Outcome) → (looks_up cache a now t).answer ≡ Some y → machine.is_failure_of y ≡ false
   mild_own y given = by v.result e.outcome refl refl st.result
     where
-      by : (f : Outcome) (o : Result Stored Error) → v.result ≡ f → e.outcome ≡ o → KeepsResult (with_cache cache s) (key_of v.first) a.key e.validity f o → machine.is_failing y ≡ false
+      by : (f : Outcome) (o : Result Stored Error) → v.result ≡ f → e.outcome ≡ o → KeepsResult (with_cache cache s) (key_of v.first) a.key e.validity f o → machine.is_failure_of y ≡ false
       by _ _ its_result outcome (Message n x keeps) = tested (nat_le (now - e.moment) e.validity) refl (sym (own_answers cache a now t e is) ∙ given)
         where
-          shown_so : now - e.moment ≤ e.validity → (o : Outcome) → shown a (now - e.moment) (Ok x) ≡ o → machine.is_failing o ≡ false
+          shown_so : now - e.moment ≤ e.validity → (o : Outcome) → shown a (now - e.moment) (Ok x) ≡ o → machine.is_failure_of o ≡ false
           shown_so in_time (Ok z) made = refl
           shown_so in_time (Err f) made = absurd (known_now (with_cache cache s) (key_of v.first) a.key n e.validity x keeps st.covers
               (unshown (with_cache cache s) r a asked limited v.first n (now - e.moment) e.validity x in_time st.covers keeps f made).1)
 
-          tested : (b : Bool) → nat_le (now - e.moment) e.validity ≡ b → (if b then Some (shown a (now - e.moment) e.outcome) else None) ≡ Some y → machine.is_failing y ≡ false
+          tested : (b : Bool) → nat_le (now - e.moment) e.validity ≡ b → (if b then Some (shown a (now - e.moment) e.outcome) else None) ≡ Some y → machine.is_failure_of y ≡ false
           tested false late f = absurd (cc)
           tested true early f =
               let same : shown a (now - e.moment) e.outcome ≡ y = cc in
-              subst (λ o. machine.is_failing o ≡ false) (ap (shown a (now - e.moment)) (sym outcome) ∙ same) (shown_so (leb-true (now - e.moment) e.validity early) (shown a (now - e.moment) (Ok x)) refl)
+              subst (λ o. machine.is_failure_of o ≡ false) (ap (shown a (now - e.moment)) (sym outcome) ∙ same) (shown_so (leb-true (now - e.moment) e.validity early) (shown a (now - e.moment) (Ok x)) refl)
       by _ _ its_result outcome (Fault f valid) = absurd (let p = message in cc)
 
 -- ---- what a request has to spare

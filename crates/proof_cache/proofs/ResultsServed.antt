@@ -109,20 +109,20 @@ answered m is = go (truncated m)
     go true = λ y e. absurd cc
     go false = ending (Ok m) is
 
-tries_ends : (s n next : ℕ) (d : Dgrams) (x : multi.Act) (e : Dgrams) → Ends d.held → dgrams.Tries s n next d x e → Ends e.held × AllResults (posts_of x)
-tries_ends s n next d _ _ ends (dgrams.Opens k a held stage few) = (ends_at k _ d.held (ends_some _ (λ y e. absurd cc)) ends, tt)
-tries_ends s n next d _ _ ends (dgrams.Retries k a p id t held stage late few) = (ends_at k _ d.held (ends_some _ (λ y e. absurd cc)) ends, tt)
-tries_ends s n next d _ _ ends (dgrams.StopsTrying k a p id t held stage late many) = (ends_at k _ d.held (ends_some _ (ending _ tt)) ends, tt)
-tries_ends s n next d _ _ ends (dgrams.Ends k a x held stage) = (ends_at k None d.held ends_none ends, (ends k a x held stage, tt))
+tries_ends : (conf : Conf) (s n next : ℕ) (d : Dgrams) (x : multi.Act) (e : Dgrams) → Ends d.held → dgrams.Tries conf s n next d x e → Ends e.held × AllResults (posts_of x)
+tries_ends conf s n next d _ _ ends (dgrams.Opens k a held stage few) = (ends_at k _ d.held (ends_some _ (λ y e. absurd cc)) ends, tt)
+tries_ends conf s n next d _ _ ends (dgrams.Retries k a p id t held stage late few) = (ends_at k _ d.held (ends_some _ (λ y e. absurd cc)) ends, tt)
+tries_ends conf s n next d _ _ ends (dgrams.StopsTrying k a p id t held stage late many) = (ends_at k _ d.held (ends_some _ (ending _ tt)) ends, tt)
+tries_ends conf s n next d _ _ ends (dgrams.Ends k a x held stage) = (ends_at k None d.held ends_none ends, (ends k a x held stage, tt))
 
-meets_ends : (n : ℕ) (d : Dgrams) (w : What) (x : multi.Act) (e : Dgrams) → IsInOctets w → Ends d.held → dgrams.Meets n d w x e → Ends e.held × AllResults (posts_of x)
-meets_ends n d _ _ _ octets ends (dgrams.IsSent k a p id o at held stage carries) = (ends_at k _ d.held (ends_some _ (λ y e. absurd cc)) ends, tt)
-meets_ends n d _ _ _ octets ends (dgrams.CannotBeSent k a p e at held stage fault) = (ends_at k _ d.held (ends_some _ (ending _ tt)) ends, tt)
-meets_ends n d _ _ _ octets ends (dgrams.DoesNotOpen k a p f at held stage) = (ends_at k _ d.held (ends_some _ (ending _ tt)) ends, tt)
-meets_ends n d _ _ _ octets ends (dgrams.NotSent k a p id t f at held stage) = (ends_at k _ d.held (ends_some _ (ending _ tt)) ends, tt)
-meets_ends n d _ _ _ octets ends (dgrams.SentShort k a p id t at held stage) = (ends_at k _ d.held (ends_some _ (ending _ tt)) ends, tt)
-meets_ends n d _ _ _ octets ends (dgrams.NotReceived k a p id t f at held stage) = (ends_at k _ d.held (ends_some _ (ending _ tt)) ends, tt)
-meets_ends n d _ _ _ octets ends (dgrams.IsAnswered k a p id t o at held stage long answers) =
+meets_ends : (conf : Conf) (n : ℕ) (d : Dgrams) (w : What) (x : multi.Act) (e : Dgrams) → IsInOctets w → Ends d.held → dgrams.Meets conf n d w x e → Ends e.held × AllResults (posts_of x)
+meets_ends conf n d _ _ _ octets ends (dgrams.IsSent k a p id o at held stage carries) = (ends_at k _ d.held (ends_some _ (λ y e. absurd cc)) ends, tt)
+meets_ends conf n d _ _ _ octets ends (dgrams.CannotBeSent k a p e at held stage fault) = (ends_at k _ d.held (ends_some _ (ending _ tt)) ends, tt)
+meets_ends conf n d _ _ _ octets ends (dgrams.DoesNotOpen k a p f at held stage) = (ends_at k _ d.held (ends_some _ (ending _ tt)) ends, tt)
+meets_ends conf n d _ _ _ octets ends (dgrams.NotSent k a p id t f at held stage) = (ends_at k _ d.held (ends_some _ (ending _ tt)) ends, tt)
+meets_ends conf n d _ _ _ octets ends (dgrams.SentShort k a p id t at held stage) = (ends_at k _ d.held (ends_some _ (ending _ tt)) ends, tt)
+meets_ends conf n d _ _ _ octets ends (dgrams.NotReceived k a p id t f at held stage) = (ends_at k _ d.held (ends_some _ (ending _ tt)) ends, tt)
+meets_ends conf n d _ _ _ octets ends (dgrams.IsAnswered k a p id t o at held stage long answers) =
     (ends_at k _ d.held (ends_some _ (answered (take 2000 o) (record { octets = taken 2000 o octets; long = long }))) ends, tt)
 
 -- ---- streams
@@ -147,28 +147,28 @@ reads_none x e = absurd cc
 reads_some : (x : Conn) → IsReadInOctets x.got → ReadsAs (Some x)
 reads_some x read y e = (let same : x.got ≡ y.got = cc in subst IsReadInOctets same read)
 
-moves_reads : (s n next : ℕ) (m : Multi) (x : multi.Act) (e : Multi) → AllRead m.conns → multi.Moves s n next m x e → AllRead e.conns × AllResults (posts_of x)
-moves_reads s n next m _ _ reads (multi.Joins k a p x asks phase conn) = (reads, tt)
-moves_reads s n next m _ _ reads (multi.Expects k a p asks phase opening) = (reads, tt)
-moves_reads s n next m _ _ reads (multi.Opens k a asks phase opening full) = (reads, tt)
-moves_reads s n next m _ _ reads (multi.Meets k a until asks phase calm late soon) = (reads, tt)
-moves_reads s n next m _ _ reads (multi.BacksOff k a until asks phase late soon) = (reads, tt)
-moves_reads s n next m _ _ reads (multi.Writes k a p x id o asks phase conn left heard free carries some) = (reads_at p _ m.conns (reads_some _ (reads p x conn)) reads, tt)
-moves_reads s n next m _ _ reads (multi.CannotWrite k a p x asks phase conn left invalid) = (reads_at p _ m.conns (reads_some _ (reads p x conn)) reads, tt)
-moves_reads s n next m _ _ reads (multi.FindsNoId k a p x asks phase conn left full) = (reads, tt)
-moves_reads s n next m _ _ reads (multi.GoesOn k a until asks phase late) = (reads, tt)
-moves_reads s n next m _ _ reads (multi.TimesOut k a asks late) = (reads, (tt, tt))
-moves_reads s n next m _ _ reads (multi.ReadsNothing p x since conn mode late) = (reads_at p None m.conns reads_none reads, tt)
-moves_reads s n next m _ _ reads (multi.RestsTooLong p x since conn mode late lined) = (reads_at p None m.conns reads_none reads, tt)
+moves_reads : (conf : Conf) (s n next : ℕ) (m : Multi) (x : multi.Act) (e : Multi) → AllRead m.conns → multi.Moves conf s n next m x e → AllRead e.conns × AllResults (posts_of x)
+moves_reads conf s n next m _ _ reads (multi.Joins k a p x asks phase conn) = (reads, tt)
+moves_reads conf s n next m _ _ reads (multi.Expects k a p asks phase opening) = (reads, tt)
+moves_reads conf s n next m _ _ reads (multi.Opens k a asks phase opening full) = (reads, tt)
+moves_reads conf s n next m _ _ reads (multi.Meets k a until asks phase calm late soon) = (reads, tt)
+moves_reads conf s n next m _ _ reads (multi.BacksOff k a until asks phase late soon) = (reads, tt)
+moves_reads conf s n next m _ _ reads (multi.Writes k a p x id o asks phase conn left heard free carries some) = (reads_at p _ m.conns (reads_some _ (reads p x conn)) reads, tt)
+moves_reads conf s n next m _ _ reads (multi.CannotWrite k a p x asks phase conn left invalid) = (reads_at p _ m.conns (reads_some _ (reads p x conn)) reads, tt)
+moves_reads conf s n next m _ _ reads (multi.FindsNoId k a p x asks phase conn left full) = (reads, tt)
+moves_reads conf s n next m _ _ reads (multi.GoesOn k a until asks phase late) = (reads, tt)
+moves_reads conf s n next m _ _ reads (multi.TimesOut k a asks late) = (reads, (tt, tt))
+moves_reads conf s n next m _ _ reads (multi.ReadsNothing p x since conn mode late) = (reads_at p None m.conns reads_none reads, tt)
+moves_reads conf s n next m _ _ reads (multi.RestsTooLong p x since conn mode late lined) = (reads_at p None m.conns reads_none reads, tt)
 
-takes_reads : (n : ℕ) (m : Multi) (w : What) (x : multi.Act) (e : Multi) → IsInOctets w → AllRead m.conns → multi.Takes n m w x e → AllRead e.conns × AllResults (posts_of x)
-takes_reads n m _ _ _ octets reads (multi.ItOpens p opening) = (reads_at p _ m.conns (reads_some _ tt) reads, tt)
-takes_reads n m _ _ _ octets reads (multi.ItDoesNotOpen p f calm opening soon) = (reads, tt)
-takes_reads n m _ _ _ octets reads (multi.ItFails w p x conn told) = (reads_at p None m.conns reads_none reads, tt)
-takes_reads n m _ _ _ octets reads (multi.SomeWritten p c x o conn some) = (reads_at p _ m.conns (reads_some _ (reads p x conn)) reads, tt)
-takes_reads n m _ _ _ octets reads (multi.AllWritten p c x conn some all) = (reads_at p _ m.conns (reads_some _ (reads p x conn)) reads, tt)
-takes_reads n m _ _ _ octets reads (multi.NothingToWrite p c x conn none) = (reads_at p _ m.conns (reads_some _ (reads p x conn)) reads, tt)
-takes_reads n m _ _ _ octets reads (multi.OctetsCome p o x conn) = (reads_at p _ m.conns (reads_some _ (fed_octets x.got o (reads p x conn) octets).left) reads, tt)
+takes_reads : (conf : Conf) (n : ℕ) (m : Multi) (w : What) (x : multi.Act) (e : Multi) → IsInOctets w → AllRead m.conns → multi.Takes conf n m w x e → AllRead e.conns × AllResults (posts_of x)
+takes_reads conf n m _ _ _ octets reads (multi.ItOpens p opening) = (reads_at p _ m.conns (reads_some _ tt) reads, tt)
+takes_reads conf n m _ _ _ octets reads (multi.ItDoesNotOpen p f calm opening soon) = (reads, tt)
+takes_reads conf n m _ _ _ octets reads (multi.ItFails w p x conn told) = (reads_at p None m.conns reads_none reads, tt)
+takes_reads conf n m _ _ _ octets reads (multi.SomeWritten p c x o conn some) = (reads_at p _ m.conns (reads_some _ (reads p x conn)) reads, tt)
+takes_reads conf n m _ _ _ octets reads (multi.AllWritten p c x conn some all) = (reads_at p _ m.conns (reads_some _ (reads p x conn)) reads, tt)
+takes_reads conf n m _ _ _ octets reads (multi.NothingToWrite p c x conn none) = (reads_at p _ m.conns (reads_some _ (reads p x conn)) reads, tt)
+takes_reads conf n m _ _ _ octets reads (multi.OctetsCome p o x conn) = (reads_at p _ m.conns (reads_some _ (fed_octets x.got o (reads p x conn) octets).left) reads, tt)
 
 long_enough : (f : Octets) → is_bad f ≡ false → 12 ≤ length f
 unfolding is_bad
@@ -203,30 +203,30 @@ settles s n next u x _ sane posts (AsItIs settled) = (sane, posts)
 settles s n next u x _ sane posts (WithResult k a y held stage) =
     (record { pending = sane.pending; frames = sane.frames; reads = sane.reads; ends = ends_at k None u.server.by_dgram.held ends_none sane.ends }, (sane.ends k a y held stage, tt))
 
-acts : (s next : ℕ) (u : Served) (d : Act Served) → SaneServed u → Acts s next u d → SaneServed d.state × AllResults d.posts
-acts s next u _ sane (ByDgram x d a tries after) =
-    let t = tries_ends s u.clock next u.server.by_dgram x d sane.ends tries in
+acts : (conf : Conf) (s next : ℕ) (u : Served) (d : Act Served) → SaneServed u → Acts conf s next u d → SaneServed d.state × AllResults d.posts
+acts conf s next u _ sane (ByDgram x d a tries after) =
+    let t = tries_ends conf s u.clock next u.server.by_dgram x d sane.ends tries in
     settles s u.clock next _ x a (record { pending = sane.pending; frames = sane.frames; reads = sane.reads; ends = t.0 }) t.1 after
-acts s next u _ sane (ByStream x m moves) =
-    let t = moves_reads s u.clock next u.server.by_stream x m sane.reads moves in
+acts conf s next u _ sane (ByStream x m moves) =
+    let t = moves_reads conf s u.clock next u.server.by_stream x m sane.reads moves in
     (record { pending = sane.pending; frames = sane.frames; reads = t.0; ends = sane.ends }, t.1)
-acts s next u _ sane (FallsBack k a held stage) =
+acts conf s next u _ sane (FallsBack k a held stage) =
     (record { pending = sane.pending; frames = sane.frames; reads = sane.reads; ends = ends_at k None u.server.by_dgram.held ends_none sane.ends }, tt)
-acts s next u _ sane (TellsDgrams x d a untold early meets foreign after) =
-    let t = meets_ends u.clock u.server.by_dgram u.pending x d sane.pending sane.ends meets in
+acts conf s next u _ sane (TellsDgrams x d a untold early meets foreign after) =
+    let t = meets_ends conf u.clock u.server.by_dgram u.pending x d sane.pending sane.ends meets in
     settles s u.clock next _ x a (record { pending = tt; frames = tt; reads = sane.reads; ends = t.0 }) t.1 after
-acts s next u _ sane (TellsStreams x m untold other takes ignored) =
-    let t = takes_reads u.clock u.server.by_stream u.pending x m sane.pending sane.reads takes in
+acts conf s next u _ sane (TellsStreams x m untold other takes ignored) =
+    let t = takes_reads conf u.clock u.server.by_stream u.pending x m sane.pending sane.reads takes in
     (record { pending = tt; frames = tt; reads = t.0; ends = sane.ends }, t.1)
-acts s next u _ sane (Reads p o x untold pending conn) =
+acts conf s next u _ sane (Reads p o x untold pending conn) =
     let octets : AreOctets o = subst IsInOctets pending sane.pending in
     let came = fed_octets x.got o (sane.reads p x conn) octets in
     (record { pending = tt; frames = came.frames; reads = reads_at p _ u.server.by_stream.conns (reads_some _ came.left) sane.reads; ends = sane.ends }, tt)
-acts s next u _ sane (TakesOne f fs x m frames early takes) =
+acts conf s next u _ sane (TakesOne f fs x m frames early takes) =
     let all : AllByRecursion AreOctets (f ∷ fs) = subst (AllByRecursion AreOctets) frames sane.frames in
     let t = frame_reads u.clock u.place f u.server.by_stream x m all.0 sane.reads takes in
     (record { pending = sane.pending; frames = all.1; reads = t.0; ends = sane.ends }, t.1)
-acts s next u _ sane (ClosesFirst f fs k y m x since frames early takes conn mode late lined) =
+acts conf s next u _ sane (ClosesFirst f fs k y m x since frames early takes conn mode late lined) =
     let all : AllByRecursion AreOctets (f ∷ fs) = subst (AllByRecursion AreOctets) frames sane.frames in
     let t = frame_reads u.clock u.place f u.server.by_stream (multi.Gives k y) m all.0 sane.reads takes in
     (record { pending = sane.pending; frames = tt; reads = reads_at u.place None m.conns reads_none t.0; ends = sane.ends }, t.1)
@@ -250,7 +250,7 @@ pub served_gives_messages : (c : Conf) → GivesMessages (served c) SaneServed
 served_gives_messages c = record {
   fresh = record { pending = tt; frames = tt; reads = λ p. reads_none; ends = λ k. ends_none };
   begins = λ e u octets sane. record { pending = octets; frames = tt; reads = begin_reads u.server.by_stream sane.reads; ends = sane.ends };
-  acts = acts;
+  acts = acts c;
   starts = starts c;
   cancels = cancels;
 }

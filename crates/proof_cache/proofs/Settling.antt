@@ -10,13 +10,14 @@ use Rattle.client_request.specs.Request.{Request}
 use Rattle.client_request.specs.View.{View, answers}
 use Rattle.client_request.specs.declared.board.Posted.{Posted}
 use Rattle.client_request.specs.declared.error.Error.{Error}
-use Rattle.right_trace.specs.Errors.{is_failure}
+use Rattle.right_trace.specs.Errors.{is_failing}
 use Rattle.right_trace.specs.Keys.{Key, is_cacheable}
 use Rattle.right_trace.specs.Messages.{Octets}
 use Rattle.right_trace.specs.Settings.{Settings}
-use Rattle.proof_right.specs.machine.Client.{Waiting, Leaving, Entry, outcome, outcome_of, store}
+use Rattle.proof_right.specs.machine.Client.{Waiting, Leaving, Entry, Caches, outcome, outcome_of, store}
 use Rattle.proof_right.specs.machine.Client as machine
 use Rattle.proof_right.specs.machine.Part.{Post}
+use Rattle.proof_right.proofs.client.Outcomes.{given_so}
 use Rattle.right_trace.specs.Updates.{with_at}
 use Rattle.proof_parts.specs.Chains.{Gives, part_of}
 use Rattle.proof_parts.specs.ClientTie.{AreMarked, StandsIn, reply_of, told_with}
@@ -26,7 +27,7 @@ use Rattle.proof_parts.proofs.Tables.{at_frees, sorted_frees}
 use Rattle.cache_rules.specs.Laws.{kept_key}
 use Rattle.client_cache.specs.Keeping.{Outcome, Table, keeps, spare_stands_in}
 use Rattle.client_cache.specs.Plain as plain
-use Rattle.client_cache.specs.Plain.{Job, Kept, onto, gives, gives_instead, gives_outcome, settles, settles_for, settles_all, with_table}
+use Rattle.client_cache.specs.Plain.{Job, Kept, onto, gives, gives_instead, gives_outcome, gives_result, settles, settles_for, settles_all, with_table}
 use Rattle.proof_cache.specs.Caching.{Caching, its, Listed, room, all_stored, IsJob, AreJobs}
 use Rattle.proof_cache.specs.Laws.{KeepsAs, keeps_if}
 use Rattle.proof_cache.specs.Listing.{AreAlike, lists, all_listed}
@@ -53,12 +54,7 @@ outcome_is true None k r x = (refl, refl)
 pub leaving_is : (s : Settings) (x : Gave) → ((leaving_of s x).request ≡ x.request) × ((leaving_of s x).asked ≡ x.asked)
 leaving_is s x = outcome_is (is_cacheable x.asked) (machine.validity_of s x.result) x.request x.asked x.result
 
--- what comes of a message does not fail, and what comes of an error is that
-mild_outcome : (b : Bool) (n : Option ℕ) (k : ℕ) (r : Request) (m : Octets) → machine.is_failing (outcome_of b n k r (Ok m)).result ≡ false
-mild_outcome false n k r m = refl
-mild_outcome true (Some n) k r m = refl
-mild_outcome true None k r m = refl
-
+-- what comes of an error is that
 pub error_outcome : (b : Bool) (n k : ℕ) (r : Request) (e : Error) → (outcome_of b (Some n) k r (Err e)).result ≡ Err e
 error_outcome false n k r e = refl
 error_outcome true n k r e = refl
@@ -85,12 +81,12 @@ module _ (g : Caching) where
   pub data IsRevived (now : ℕ) (expired : ℕ → Option Entry) : List Leaving → List Leaving → Type 0 where
     AllTold : IsRevived now expired [] []
     Stays : (z : Leaving) (zs ys : List Leaving) → IsRevived now expired zs ys → IsRevived now expired (z ∷ zs) (z ∷ ys)
-    Changes : (z : Leaving) (old : Entry) (m : Octets) (zs ys : List Leaving) → machine.is_failing z.result ≡ true → expired z.request ≡ Some old → machine.Revived (its g) now old z.asked m → IsRevived now expired zs ys
+    Changes : (z : Leaving) (old : Entry) (m : Octets) (zs ys : List Leaving) → is_failing z.given ≡ true → expired z.request ≡ Some old → machine.Revived (its g) now old z.asked m → IsRevived now expired zs ys
         → IsRevived now expired (z ∷ zs) (machine.revive m z ∷ ys)
 
   -- nothing else may stand in
   abbrev pub IsToldAt : (now : ℕ) (expired : ℕ → Option Entry) → Leaving → Type 0
-  IsToldAt now expired z = z.stale ≡ None → machine.is_failing z.result ≡ true → StandsIn (its g) now z.asked (expired z.request) None
+  IsToldAt now expired z = z.stale ≡ None → is_failing z.given ≡ true → StandsIn (its g) now z.asked (expired z.request) None
 
   -- what is posted for a result that leaves
   abbrev pub post_for : (ticket : ℕ) → Leaving → Posted
@@ -209,22 +205,16 @@ module _ (g : Caching) where
     same_kept : (q : Option Key) (r : Outcome) → job.key ≡ q → x.result ≡ r → kept_and_given job.ticket without v (keeps_if k.settings q v.now r k.table) ≡ kept_and_given job.ticket without v result
     same_kept q r isq isr = ap₂ (λ q r. kept_and_given job.ticket without v (keeps_if k.settings q v.now r k.table)) (sym isq) (sym isr)
 
-    by : (q : Option Key) → job.key ≡ q → (r : Outcome) → x.result ≡ r → Ones (gives job.ticket q job.spare without v (part_of r))
-    by None isq r isr = as_kept _ (same_kept None r isq isr) none (λ n fails. subst (λ o. StandsIn (its g) now z.asked (expired z.request) (spare_stands_in k.settings v.now o)) (is.keyless isq) stands_in)
-    by (Some q) isq (Ok m) isr = as_kept _ (gives_it job.ticket q without v (Ok m) ∙ same_kept (Some q) (Ok m) isq isr) none (λ n fails. absurd (not_both (mild x.result isr) fails))
-      where
-        not_both : {b : Bool} → b ≡ false → b ≡ true → ⊥
-        not_both p q = cc
+    -- what was given
+    was : z.given ≡ x.result
+    was = given_so (its g) x.request x.asked x.result z Caches
 
-        mild : (y : Outcome) → y ≡ Ok m → machine.is_failing (outcome_of (is_cacheable x.asked) (machine.validity_of (its g) y) x.request x.asked y).result ≡ false
-        mild y e = subst (λ y. machine.is_failing (outcome_of (is_cacheable x.asked) (machine.validity_of (its g) y) x.request x.asked y).result ≡ false) (sym e) (mild_outcome (is_cacheable x.asked) (machine.validity_of (its g) (Ok m)) x.request x.asked m)
-    by (Some q) isq (Err e) isr = failing (is_failure e) refl
+    -- a result of a request whose results are kept
+    keyed : (q : Key) → job.key ≡ Some q → (r : Outcome) → x.result ≡ r → Ones (gives_result job.ticket q job.spare without v r)
+    keyed q isq r isr = failing (is_failing r) refl
       where
-        given : gives_outcome job.ticket q without v (Err e) ≡ kept_and_given job.ticket without v result
-        given = gives_it job.ticket q without v (Err e) ∙ same_kept (Some q) (Err e) isq isr
-
-        error : z.result ≡ Err e
-        error = subst (λ y. (outcome_of (is_cacheable x.asked) (machine.validity_of (its g) y) x.request x.asked y).result ≡ Err e) (sym isr) (error_outcome (is_cacheable x.asked) (its g).transport_failure_duration x.request x.asked e)
+        made : gives_outcome job.ticket q without v r ≡ kept_and_given job.ticket without v result
+        made = gives_it job.ticket q without v r ∙ same_kept (Some q) r isq isr
 
         not_both : {b : Bool} → b ≡ false → b ≡ true → ⊥
         not_both p q = cc
@@ -232,13 +222,13 @@ module _ (g : Caching) where
         not_none : (m : Octets) → Some m ≡ None → ⊥
         not_none m e = cc
 
-        instead : is_failure e ≡ true → (o : Option Octets) → spare_stands_in k.settings v.now job.spare ≡ o → Ones (gives_instead job.ticket q without v e o)
-        instead fails None nothing = as_kept _ given none (λ n f. subst (StandsIn (its g) now z.asked (expired z.request)) nothing stands_in)
+        instead : is_failing r ≡ true → (o : Option Octets) → spare_stands_in k.settings v.now job.spare ≡ o → Ones (gives_instead job.ticket q without v r o)
+        instead fails None nothing = as_kept _ made none (λ n f. subst (StandsIn (its g) now z.asked (expired z.request)) nothing stands_in)
         instead fails (Some m) spared =
             let old = subst (StandsIn (its g) now z.asked (expired z.request)) spared stands_in in
             record {
               leaving = machine.revive m z;
-              revived = λ zs ys h. Changes z old.0 m zs ys (ap machine.is_failing error ∙ fails) old.1 old.2 h;
+              revived = λ zs ys h. Changes z old.0 m zs ys (ap is_failing (was ∙ isr) ∙ fails) old.1 old.2 h;
               request = (leaving_is (its g) x).0;
               told = λ n. absurd (not_none m n);
               ticket = job.ticket;
@@ -251,9 +241,14 @@ module _ (g : Caching) where
               jobs = one_less now expired p.ticket named held k.waiting jobs;
             }
 
-        failing : (b : Bool) → is_failure e ≡ b → Ones (if b then gives_instead job.ticket q without v e (spare_stands_in k.settings v.now job.spare) else gives_outcome job.ticket q without v (Err e))
-        failing false mild = as_kept _ given none (λ n fails. absurd (not_both mild (sym (ap machine.is_failing error) ∙ fails)))
+        failing : (b : Bool) → is_failing r ≡ b → Ones (if b then gives_instead job.ticket q without v r (spare_stands_in k.settings v.now job.spare) else gives_outcome job.ticket q without v r)
+        failing false mild = as_kept _ made none (λ n fails. absurd (not_both mild (sym (ap is_failing (was ∙ isr)) ∙ fails)))
         failing true fails = instead fails (spare_stands_in k.settings v.now job.spare) refl
+
+    by : (q : Option Key) → job.key ≡ q → (r : Outcome) → x.result ≡ r → Ones (gives job.ticket q job.spare without v (part_of r))
+    by None isq r isr = as_kept _ (same_kept None r isq isr) none (λ n fails. subst (λ o. StandsIn (its g) now z.asked (expired z.request) (spare_stands_in k.settings v.now o)) (is.keyless isq) stands_in)
+    by (Some q) isq (Ok m) isr = keyed q isq (Ok m) isr
+    by (Some q) isq (Err e) isr = keyed q isq (Err e) isr
 
     one_settles : p.part ≡ part_of x.result → Ones (settles p k v)
     one_settles part =

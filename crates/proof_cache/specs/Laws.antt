@@ -38,7 +38,7 @@ AnswersAtOnce gives x = (o : Outcome) → x.answer ≡ Some o → gives o
 
 -- a reply that is not stored
 abbrev pub unstored : (number : ℕ) → Request → Outcome → machine.Leaving
-unstored number r o = record { request = number; asked = r; result = o; is_stored = false; stale = None }
+unstored number r o = record { request = number; asked = r; result = o; given = o; is_stored = false; stale = None }
 
 -- What a request finds: the machine derives, the table stands to what is then stored, and the answer is one of what is then stored.
 pub record FindsAs (c : Conf) (s : Settings) (compose : Request → Outcome) (now number : ℕ) (r : Request) (stored : List machine.Entry) (x : Found) : Type 0 where
@@ -101,7 +101,7 @@ pub record ListsAs (s : Settings) (cache : CacheSettings) (compose : Request →
   pub spares : (o : Octets) → compose r ≡ Ok o → SparesAs s cache now r es after spare
   pub room : x.table.cap ≡ cap
   pub serves : (o : Octets) → compose r ≡ Ok o → is_cacheable r ≡ true → (v : Value) → lookup (same_key (key_of r)) es ≡ Some v → Serves s v r now → (y : Outcome) × (x.answer ≡ Some y) × ServedBy v r now y
-  pub mild : (o : Octets) → compose r ≡ Ok o → is_cacheable r ≡ true → (v : Value) (m : Octets) → lookup (same_key (key_of r)) es ≡ Some v → v.result ≡ Ok m → (y : Outcome) → x.answer ≡ Some y → machine.is_failing y ≡ false
+  pub mild : (o : Octets) → compose r ≡ Ok o → is_cacheable r ≡ true → (v : Value) (m : Octets) → lookup (same_key (key_of r)) es ≡ Some v → v.result ≡ Ok m → (y : Outcome) → x.answer ≡ Some y → machine.is_failure_of y ≡ false
 
 -- A request that looks the table up; a TTL has 32 bits, and so has what the settings allow in seconds.
 abbrev pub LookUpsAreListed : Type 0

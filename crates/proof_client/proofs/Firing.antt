@@ -144,7 +144,7 @@ module _ (g : Tying) where
     reply = record after { outs = v.outs ++ late_outs w.number instead }
 
     abbrev late : Leaving
-    late = record { request = w.number; asked = (asking.0).request; result = Err TimedOut; is_stored = false; stale = None }
+    late = record { request = w.number; asked = (asking.0).request; result = Err TimedOut; given = Err TimedOut; is_stored = false; stale = None }
 
     abbrev left : State g
     left = record x { held = with_held w.number None x.held; leaving = [] }

@@ -11,7 +11,7 @@ use Rattle.client_multi.specs.DgramStream as dgram_stream
 use Rattle.client_multi.specs.DgramStream.{DgramStream}
 use Rattle.client_multi.specs.Fallback as fallback
 use Rattle.client_multi.specs.MultiStream as multi_stream
-use Rattle.client_settings.specs.MultiStream as stream_settings
+use Rattle.right_settings.specs.Given.{streams_of}
 use Rattle.right_trace.specs.Orderly.{use_at}
 use Rattle.right_trace.specs.Trace.{Conf, Use, ByDatagrams, ByStreams}
 use Rattle.proof_right.specs.machine.Served.{Served, served}
@@ -32,7 +32,7 @@ use Rattle.client_steps.specs.declared.upstream.Handed.{Handed}
 use Rattle.client_steps.specs.declared.upstream.Handed.TheVariants as handed
 use Rattle.client_steps.specs.declared.upstream.Upstream.{Upstream}
 use Rattle.client_steps.specs.declared.upstream.Upstream.TheVariants as server
-use Rattle.proof_client.specs.Fallbacks.{FallsBack, named_by, OwnsOne}
+use Rattle.proof_client.specs.Fallbacks.{both_of, FallsBack, named_by, OwnsOne}
 use Rattle.proof_client.specs.Upstreams.{bare, via_by, first_by, IsPlacedBy, FitsBy, names_at, OwnsAt, TiedBy, via_at, first_at, IsPlaced, Fits, TiedAt}
 use Rattle.proof_client.proofs.Datagrams.{fallbacks_are_tied, fallbacks_are_shared}
 use Rattle.proof_client.proofs.Lifting.{IsRaised, raised_is_tied, raised_is_shared}
@@ -44,16 +44,16 @@ stream_asked q = record { ticket = upstream.ticket_of q; given = upstream.has_gi
 abbrev both_asked : Handed → fallback.Asked
 both_asked q = record { ticket = upstream.ticket_of q; given = upstream.has_given q }
 
-knows_at : (c : Conf) (u : Upstream Request) (i : ℕ) → OwnsAt u i ⊎ (OwnsAt u i → ⊥)
+knows_at : (c : Conf) (u : Upstream Request) (i : ℕ) → OwnsAt c u i ⊎ (OwnsAt c u i → ⊥)
 knows_at c (server.Dgram d) i = inr (λ own. own)
 knows_at c (server.Stream m) i = (streams_are_shared c 0).knows m i
 knows_at c (server.DgramStream f) i = knows_both f i
   where
     -- a server by datagrams
     one : Conf
-    one = record { servers = ByDatagrams ∷ []; timeout = 0 }
+    one = record { servers = ByDatagrams ∷ []; timeout = 0; transports = c.transports }
 
-    knows_both : (f : DgramStream Request) (i : ℕ) → OwnsOne 0 f i ⊎ (OwnsOne 0 f i → ⊥)
+    knows_both : (f : DgramStream Request) (i : ℕ) → OwnsOne c 0 f i ⊎ (OwnsOne c 0 f i → ⊥)
     knows_both = (fallbacks_are_shared one 0 refl).knows
 
 answered : (r : Request) (u : Upstream Request) (v : View) → upstream.ticket_of (bare.response r u v) ≡ v.ticket
@@ -62,17 +62,17 @@ answered r (server.Stream m) v = refl
 answered r (server.DgramStream f) v = refl
 
 module _ (c : Conf) (s : ℕ) where
-  out_of_streams : (phase : Phase) (u : Upstream Request) (x : Sight) (a : Served) → TiedBy (Some ByStreams) s phase u x a → (m : Streams) × (u ≡ server.Stream m) × TiedAs s phase m x a
+  out_of_streams : (phase : Phase) (u : Upstream Request) (x : Sight) (a : Served) → TiedBy c (Some ByStreams) s phase u x a → (m : Streams) × (u ≡ server.Stream m) × TiedAs c s phase m x a
   out_of_streams phase (server.Dgram d) x a l = absurd l
   out_of_streams phase (server.Stream m) x a l = (m, refl, l)
   out_of_streams phase (server.DgramStream f) x a l = absurd l
 
-  out_of_both : (phase : Phase) (u : Upstream Request) (x : Sight) (a : Served) → TiedBy (Some ByDatagrams) s phase u x a → (f : DgramStream Request) × (u ≡ server.DgramStream f) × FallsBack s phase f x a
+  out_of_both : (phase : Phase) (u : Upstream Request) (x : Sight) (a : Served) → TiedBy c (Some ByDatagrams) s phase u x a → (f : DgramStream Request) × (u ≡ server.DgramStream f) × FallsBack c s phase f x a
   out_of_both phase (server.Dgram d) x a l = absurd l
   out_of_both phase (server.Stream m) x a l = absurd l
   out_of_both phase (server.DgramStream f) x a l = (f, refl, l)
 
-  streams_raised : IsRaised (served c) (by_streams for_one) (λ (r : stream.Asked). r.ticket) (TiedAs s) names_of owns bare upstream.ticket_of (TiedBy (Some ByStreams) s) names_at OwnsAt server.Stream stream_asked
+  streams_raised : IsRaised (served c) (by_streams for_one) (λ (r : stream.Asked). r.ticket) (TiedAs c s) names_of owns bare upstream.ticket_of (TiedBy c (Some ByStreams) s) (names_at c) (OwnsAt c) server.Stream stream_asked
   streams_raised = record {
     out = out_of_streams;
     into = λ phase m x a l. l;
@@ -87,7 +87,7 @@ module _ (c : Conf) (s : ℕ) where
     response = answered;
   }
 
-  both_raised : IsRaised (served c) (by_both for_one) (λ (r : fallback.Asked). r.ticket) (FallsBack s) (named_by s) (OwnsOne s) bare upstream.ticket_of (TiedBy (Some ByDatagrams) s) names_at OwnsAt server.DgramStream both_asked
+  both_raised : IsRaised (served c) (by_both for_one) (λ (r : fallback.Asked). r.ticket) (FallsBack c s) (named_by c s) (OwnsOne c s) bare upstream.ticket_of (TiedBy c (Some ByDatagrams) s) (names_at c) (OwnsAt c) server.DgramStream both_asked
   both_raised = record {
     out = out_of_both;
     into = λ phase f x a l. l;
@@ -102,29 +102,29 @@ module _ (c : Conf) (s : ℕ) where
     response = answered;
   }
 
-  pub tied_by : (o : Option Use) → use_at s c.servers ≡ o → (o ≡ None → ⊥) → IsTie (served c) s (via_by o) bare upstream.ticket_of (first_by s o) (TiedBy o s) names_at OwnsAt
-  tied_by None e some = absurd (some refl)
-  tied_by (Some ByStreams) e some =
-      raised_is_tied (served c) (by_streams for_one) (λ (r : stream.Asked). r.ticket) (TiedAs s) names_of owns bare upstream.ticket_of (TiedBy (Some ByStreams) s) names_at OwnsAt server.Stream stream_asked streams_raised
-      s via.Stream (multi_stream.started s stream_settings.default_settings) (streams_are_tied c s e)
-  tied_by (Some ByDatagrams) e some =
-      raised_is_tied (served c) (by_both for_one) (λ (r : fallback.Asked). r.ticket) (FallsBack s) (named_by s) (OwnsOne s) bare upstream.ticket_of (TiedBy (Some ByDatagrams) s) names_at OwnsAt server.DgramStream both_asked both_raised
-      s via.Dgram (dgram_stream.started s dgram_stream.default_settings) (fallbacks_are_tied c s e)
+  pub tied_by : (several : ℕ) (o : Option Use) → use_at s c.servers ≡ o → (o ≡ None → ⊥) → IsTie (served c) s (via_by o) bare upstream.ticket_of (first_by several c s o) (TiedBy c o s) (names_at c) (OwnsAt c)
+  tied_by several None e some = absurd (some refl)
+  tied_by several (Some ByStreams) e some =
+      raised_is_tied (served c) (by_streams for_one) (λ (r : stream.Asked). r.ticket) (TiedAs c s) names_of owns bare upstream.ticket_of (TiedBy c (Some ByStreams) s) (names_at c) (OwnsAt c) server.Stream stream_asked streams_raised
+      s via.Stream (multi_stream.started s (streams_of several c)) (streams_are_tied c s several e)
+  tied_by several (Some ByDatagrams) e some =
+      raised_is_tied (served c) (by_both for_one) (λ (r : fallback.Asked). r.ticket) (FallsBack c s) (named_by c s) (OwnsOne c s) bare upstream.ticket_of (TiedBy c (Some ByDatagrams) s) (names_at c) (OwnsAt c) server.DgramStream both_asked both_raised
+      s via.Dgram (dgram_stream.started s (both_of several c)) (fallbacks_are_tied c s several e)
 
-  pub shared_by : (o : Option Use) → use_at s c.servers ≡ o → (o ≡ None → ⊥) → IsShared (served c) has_place bare (TiedBy o s) OwnsAt
+  pub shared_by : (o : Option Use) → use_at s c.servers ≡ o → (o ≡ None → ⊥) → IsShared (served c) has_place bare (TiedBy c o s) (OwnsAt c)
   shared_by None e some = absurd (some refl)
   shared_by (Some ByStreams) e some =
-      raised_is_shared (served c) (by_streams for_one) (λ (r : stream.Asked). r.ticket) (TiedAs s) names_of owns bare upstream.ticket_of (TiedBy (Some ByStreams) s) names_at OwnsAt server.Stream stream_asked streams_raised has_place (streams_are_shared c s)
+      raised_is_shared (served c) (by_streams for_one) (λ (r : stream.Asked). r.ticket) (TiedAs c s) names_of owns bare upstream.ticket_of (TiedBy c (Some ByStreams) s) (names_at c) (OwnsAt c) server.Stream stream_asked streams_raised has_place (streams_are_shared c s)
   shared_by (Some ByDatagrams) e some =
-      raised_is_shared (served c) (by_both for_one) (λ (r : fallback.Asked). r.ticket) (FallsBack s) (named_by s) (OwnsOne s) bare upstream.ticket_of (TiedBy (Some ByDatagrams) s) names_at OwnsAt server.DgramStream both_asked both_raised has_place (fallbacks_are_shared c s e)
+      raised_is_shared (served c) (by_both for_one) (λ (r : fallback.Asked). r.ticket) (FallsBack c s) (named_by c s) (OwnsOne c s) bare upstream.ticket_of (TiedBy c (Some ByDatagrams) s) (names_at c) (OwnsAt c) server.DgramStream both_asked both_raised has_place (fallbacks_are_shared c s e)
 
-  pub placed_by : (o : Option Use) (phase : Phase) (u : Upstream Request) (x : Sight) (a : Served) → TiedBy o s phase u x a → IsPlacedBy s o u
+  pub placed_by : (o : Option Use) (phase : Phase) (u : Upstream Request) (x : Sight) (a : Served) → TiedBy c o s phase u x a → IsPlacedBy s o u
   placed_by None phase u x a l = absurd l
   placed_by (Some ByStreams) phase (server.Dgram d) x a l = absurd l
   placed_by (Some ByStreams) phase (server.Stream m) x a l = server_at phase m x a l
     where
-      server_at : (phase : Phase) (m : Streams) (x : Sight) (a : Served) → TiedAs s phase m x a → m.server ≡ s
-      server_at phase m x a l = (stream_of s phase m x a l).server
+      server_at : (phase : Phase) (m : Streams) (x : Sight) (a : Served) → TiedAs c s phase m x a → m.server ≡ s
+      server_at phase m x a l = (stream_of c s phase m x a l).server
   placed_by (Some ByStreams) phase (server.DgramStream f) x a l = absurd l
   placed_by (Some ByDatagrams) phase (server.Dgram d) x a l = absurd l
   placed_by (Some ByDatagrams) phase (server.Stream m) x a l = absurd l
@@ -171,8 +171,8 @@ is_used zero (u ∷ us) lt e = absurd (let z : Some u ≡ None = e in cc)
 is_used (suc s) (u ∷ us) lt e = is_used s us (omega arith) e
 
 -- the choice among the servers of a configuration
-abbrev pub choosing : (c : Conf) → RedundantSettings → CacheSettings → Choosing
-choosing c redundant cache = record {
+abbrev pub choosing : (several : ℕ) → (c : Conf) → RedundantSettings → CacheSettings → Choosing
+choosing several c redundant cache = record {
   c = c;
   st = settings_of redundant cache;
   settings = redundant;
@@ -184,16 +184,16 @@ choosing c redundant cache = record {
   ticket = upstream.ticket_of;
   bare = λ s. bare;
   via = via_at c;
-  first = first_at c;
+  first = first_at c several;
   Tied = TiedAt c;
-  names = names_at;
-  Owns = OwnsAt;
+  names = names_at c;
+  Owns = OwnsAt c;
   has = has_place;
   opens = servers_open_next c;
   IsPlaced = IsPlaced c;
   Fits = Fits c;
   placed = λ s. placed_by c s (use_at s c.servers);
-  tie = λ s lt. tied_by c s (use_at s c.servers) refl (is_used s c.servers lt);
+  tie = λ s lt. tied_by c s several (use_at s c.servers) refl (is_used s c.servers lt);
   layer = λ s lt. starts_by c s (use_at s c.servers);
   shared = λ s lt. shared_by c s (use_at s c.servers) refl (is_used s c.servers lt);
 }

@@ -8,14 +8,14 @@ use Rattle.client_request.specs.declared.event.Via.TheVariants as via
 use Rattle.client_dgram.specs.Plain as dgram
 use Rattle.client_multi.specs.DgramStream as dgram_stream
 use Rattle.client_multi.specs.MultiStream as multi_stream
-use Rattle.client_settings.specs.MultiStream as stream_settings
+use Rattle.right_settings.specs.Given.{streams_of}
 use Rattle.right_trace.specs.Orderly.{use_at}
 use Rattle.right_trace.specs.Trace.{Conf, Use, ByDatagrams, ByStreams}
 use Rattle.proof_right.specs.machine.Served.{Served}
 use Rattle.proof_parts.specs.PartTie.{Phase}
 use Rattle.proof_parts.specs.Sights.{Sight}
 use Rattle.proof_multi.specs.Tied.{TiedAs, names_of, owns}
-use Rattle.proof_client.specs.Fallbacks.{FallsBack, named_by, OwnsOne}
+use Rattle.proof_client.specs.Fallbacks.{both_of, FallsBack, named_by, OwnsOne}
 use Rattle.client_steps.specs.Upstream as upstream
 use Rattle.client_steps.specs.Upstream.{by_both, by_streams, leaves}
 use Rattle.client_steps.specs.declared.upstream.Handed.{Handed}
@@ -43,9 +43,9 @@ abbrev pub via_by : Option Use → Via
 via_by (Some ByStreams) = via.Stream
 via_by _ = via.Dgram
 
-abbrev pub first_by : (s : ℕ) → Option Use → Upstream Request
-first_by s (Some ByStreams) = server.Stream (multi_stream.started s stream_settings.default_settings)
-first_by s _ = server.DgramStream (dgram_stream.started s dgram_stream.default_settings)
+abbrev pub first_by : (several : ℕ) → Conf → (s : ℕ) → Option Use → Upstream Request
+first_by several c s (Some ByStreams) = server.Stream (multi_stream.started s (streams_of several c))
+first_by several c s _ = server.DgramStream (dgram_stream.started s (both_of several c))
 
 -- it is server s, by the transports that it is used by; and so is what stands for a result of it
 abbrev pub IsPlacedBy : (s : ℕ) → Option Use → Upstream Request → Type 0
@@ -59,28 +59,28 @@ FitsBy (Some ByDatagrams) (handed.DgramStream r) = Unit {0}
 FitsBy _ _ = ⊥
 
 -- the number of the request of each ticket, and the timers that it has
-abbrev pub names_at : Upstream Request → ℕ → Option ℕ
-names_at (server.Dgram d) = λ t. None
-names_at (server.Stream m) = names_of m
-names_at (server.DgramStream f) = named_by 0 f
+abbrev pub names_at : (c : Conf) → Upstream Request → ℕ → Option ℕ
+names_at c (server.Dgram d) = λ t. None
+names_at c (server.Stream m) = names_of m
+names_at c (server.DgramStream f) = named_by c 0 f
 
-abbrev pub OwnsAt : Upstream Request → ℕ → Type 0
-OwnsAt (server.Dgram d) i = ⊥
-OwnsAt (server.Stream m) i = owns m i
-OwnsAt (server.DgramStream f) i = OwnsOne 0 f i
+abbrev pub OwnsAt : (c : Conf) → Upstream Request → ℕ → Type 0
+OwnsAt c (server.Dgram d) i = ⊥
+OwnsAt c (server.Stream m) i = owns m i
+OwnsAt c (server.DgramStream f) i = OwnsOne c 0 f i
 
 -- Server s is tied to its part by the transports that it is used by.
-abbrev pub TiedBy : (how : Option Use) → (s : ℕ) → Phase → Upstream Request → Sight → Served → Type 0
-TiedBy (Some ByStreams) s phase (server.Stream m) x a = TiedAs s phase m x a
-TiedBy (Some ByDatagrams) s phase (server.DgramStream f) x a = FallsBack s phase f x a
-TiedBy _ s phase u x a = ⊥
+abbrev pub TiedBy : (c : Conf) (how : Option Use) → (s : ℕ) → Phase → Upstream Request → Sight → Served → Type 0
+TiedBy c (Some ByStreams) s phase (server.Stream m) x a = TiedAs c s phase m x a
+TiedBy c (Some ByDatagrams) s phase (server.DgramStream f) x a = FallsBack c s phase f x a
+TiedBy c _ s phase u x a = ⊥
 
 module _ (c : Conf) where
   abbrev pub via_at : ℕ → Via
   via_at s = via_by (use_at s c.servers)
 
-  abbrev pub first_at : ℕ → Upstream Request
-  first_at s = first_by s (use_at s c.servers)
+  abbrev pub first_at : (several s : ℕ) → Upstream Request
+  first_at several s = first_by several c s (use_at s c.servers)
 
   abbrev pub IsPlaced : ℕ → Upstream Request → Type 0
   IsPlaced s u = IsPlacedBy s (use_at s c.servers) u
@@ -89,4 +89,4 @@ module _ (c : Conf) where
   Fits s r = FitsBy (use_at s c.servers) r
 
   abbrev pub TiedAt : ℕ → Phase → Upstream Request → Sight → Served → Type 0
-  TiedAt s phase u x a = TiedBy (use_at s c.servers) s phase u x a
+  TiedAt s phase u x a = TiedBy c (use_at s c.servers) s phase u x a

@@ -1,7 +1,9 @@
 //! What holds of clients above tied transports.
 
 ghost use Rattle.proof_client.specs.Fallbacks.{FallbacksAreShared, FallbacksAreTied};
-ghost use Rattle.proof_client.specs.Ties.{EveryPlainTraceHits, EveryPlainTraceIsRight, EveryPlainTraceRuns, EveryPlainTraceServesStale, PlainTracesKeepTheirEvents};
+ghost use Rattle.client_settings.specs.declared.settings.Transports.{Transports};
+ghost use Rattle.proof_client.specs.Ties.{EveryPlainTraceHits, EveryPlainTraceIsRight, EveryPlainTraceRuns, EveryPlainTraceServesStale, PlainTracesKeepTheirEvents, TracesAreRight, TracesHit, TracesRun, TracesServeStale};
+ghost use Rattle.right_trace.specs.Trace as trace;
 
 /// The transport of each server that is asked by datagrams, and by stream where an answer was cut, is tied to its part.
 #[tactic(auto, using(crate::proofs::Datagrams::fallbacks_are_tied))]
@@ -41,4 +43,13 @@ pub fn every_plain_trace_hits()
 #[tactic(auto, using(crate::proofs::Traces::every_plain_trace_serves_stale))]
 pub fn every_plain_trace_serves_stale()
     ensures { EveryPlainTraceServesStale }
+{}
+
+/// All of this with any settings of transports: those that a client is given are the configuration's.
+#[tactic(auto, using(crate::proofs::Traces::traces_run, crate::proofs::Traces::traces_are_right, crate::proofs::Traces::traces_hit, crate::proofs::Traces::traces_serve_stale))]
+pub fn traces_with_settings()
+    ensures runs { (t : trace.Transports) (given : Transports) → TracesRun t given }
+    ensures right { (t : trace.Transports) (given : Transports) → TracesAreRight t given }
+    ensures hit { (t : trace.Transports) (given : Transports) → TracesHit t given }
+    ensures stale { (t : trace.Transports) (given : Transports) → TracesServeStale t given }
 {}

@@ -9,11 +9,11 @@ use Rattle.client_request.specs.declared.board.Posted.{Posted}
 use Rattle.client_request.specs.declared.error.Error.{Error}
 use Rattle.client_request.specs.declared.event.Out.{Out}
 use Rattle.client_cache.specs.Plain as caching
-use Rattle.client_cache.specs.Keeping.{Spare, spare_stands_in}
-use Rattle.client_cache.specs.Plain.{Cached, Kept, Job, Reading, Response, onto, gives, gives_part, gives_instead, gives_outcome, gives_error, settles_for, settles, settles_all, settled, settled_after, with_parts, with_table, with_upstream, way_for, goes, hands_on, drops_job, drops_below, response_below, send, takes, hears, ticked, response_of}
+use Rattle.client_cache.specs.Keeping.{Outcome, Spare, spare_stands_in}
+use Rattle.client_cache.specs.Plain.{Cached, Kept, Job, Reading, Response, onto, gives, gives_part, gives_instead, gives_outcome, gives_result, settles_for, settles, settles_all, settled, settled_after, with_parts, with_table, with_upstream, way_for, goes, hands_on, drops_job, drops_below, response_below, send, takes, hears, ticked, response_of}
 use Rattle.client_cache.specs.declared.steps.Way.{Way}
 use Rattle.client_cache.specs.declared.steps.Way.TheVariants.{Given, Asks}
-use Rattle.right_trace.specs.Errors.{is_failure}
+use Rattle.right_trace.specs.Errors.{is_failing}
 use Rattle.right_trace.specs.Keys.{Key}
 use Rattle.proof_cutting.specs.Pieces.{like, IsReady, Both, Neither, Each, Stays, MayClose, Takes, IsCuttable, CancelsQuietly, StandsInAlike}
 use Rattle.proof_cutting.specs.Choices.{cached_octets, longer_cached, IsFitCached}
@@ -24,25 +24,25 @@ use Rattle.proof_cutting.proofs.Views.{map_both, weaker}
 
 -- it is settled alike in a view alike, and leaves a view as it is, but for its board
 module _ (before : List Out) (more : Bool) (request : ℕ) where
-  gives_instead_like : (ticket : ℕ) (key : Key) (k : Kept) (v : View) (error : Error) (o : Option (List ℕ))
-      → gives_instead ticket key k (like before more request v) error o ≡ ((gives_instead ticket key k v error o).0, like before more request (gives_instead ticket key k v error o).1)
-  gives_instead_like ticket key k v error None = refl
-  gives_instead_like ticket key k v error (Some message) = refl
+  gives_instead_like : (ticket : ℕ) (key : Key) (k : Kept) (v : View) (outcome : Outcome) (o : Option (List ℕ))
+      → gives_instead ticket key k (like before more request v) outcome o ≡ ((gives_instead ticket key k v outcome o).0, like before more request (gives_instead ticket key k v outcome o).1)
+  gives_instead_like ticket key k v outcome None = refl
+  gives_instead_like ticket key k v outcome (Some message) = refl
 
-  gives_error_like : (ticket : ℕ) (key : Key) (spare : Option Spare) (k : Kept) (v : View) (error : Error)
-      → gives_error ticket key spare k (like before more request v) error ≡ ((gives_error ticket key spare k v error).0, like before more request (gives_error ticket key spare k v error).1)
-  gives_error_like ticket key spare k v error = by (is_failure error)
+  gives_result_like : (ticket : ℕ) (key : Key) (spare : Option Spare) (k : Kept) (v : View) (outcome : Outcome)
+      → gives_result ticket key spare k (like before more request v) outcome ≡ ((gives_result ticket key spare k v outcome).0, like before more request (gives_result ticket key spare k v outcome).1)
+  gives_result_like ticket key spare k v outcome = by (is_failing outcome)
     where
-      by : (b : Bool) → (if b then gives_instead ticket key k (like before more request v) error (spare_stands_in k.settings v.now spare) else gives_outcome ticket key k (like before more request v) (Err error))
-          ≡ ((if b then gives_instead ticket key k v error (spare_stands_in k.settings v.now spare) else gives_outcome ticket key k v (Err error)).0, like before more request (if b then gives_instead ticket key k v error (spare_stands_in k.settings v.now spare) else gives_outcome ticket key k v (Err error)).1)
-      by true = gives_instead_like ticket key k v error (spare_stands_in k.settings v.now spare)
+      by : (b : Bool) → (if b then gives_instead ticket key k (like before more request v) outcome (spare_stands_in k.settings v.now spare) else gives_outcome ticket key k (like before more request v) outcome)
+          ≡ ((if b then gives_instead ticket key k v outcome (spare_stands_in k.settings v.now spare) else gives_outcome ticket key k v outcome).0, like before more request (if b then gives_instead ticket key k v outcome (spare_stands_in k.settings v.now spare) else gives_outcome ticket key k v outcome).1)
+      by true = gives_instead_like ticket key k v outcome (spare_stands_in k.settings v.now spare)
       by false = refl
 
   gives_part_like : (ticket : ℕ) (key : Key) (spare : Option Spare) (k : Kept) (v : View) (part : Part)
       → gives_part ticket key spare k (like before more request v) part ≡ ((gives_part ticket key spare k v part).0, like before more request (gives_part ticket key spare k v part).1)
   gives_part_like ticket key spare k v (Ok None) = refl
-  gives_part_like ticket key spare k v (Ok (Some message)) = refl
-  gives_part_like ticket key spare k v (Err error) = gives_error_like ticket key spare k v error
+  gives_part_like ticket key spare k v (Ok (Some message)) = gives_result_like ticket key spare k v (Ok message)
+  gives_part_like ticket key spare k v (Err error) = gives_result_like ticket key spare k v (Err error)
 
   settles_for_like : (p : Posted) (k : Kept) (v : View) (o : Option Job) → settles_for p k (like before more request v) o ≡ ((settles_for p k v o).0, like before more request (settles_for p k v o).1)
   settles_for_like p k v None = refl
@@ -58,24 +58,24 @@ module _ (before : List Out) (more : Bool) (request : ℕ) where
       ap (λ (x : Kept × View). settles_all ps x.0 x.1) (settles_for_like p (record k { waiting = frees p.ticket k.waiting }) v (entry_at p.ticket k.waiting))
       ∙ settles_all_like ps (settles p k v).0 (settles p k v).1
 
-gives_instead_onto : (ticket : ℕ) (key : Key) (k : Kept) (v : View) (error : Error) (o : Option (List ℕ)) → (gives_instead ticket key k v error o).1 ≡ onto (gives_instead ticket key k v error o).1.board v
-gives_instead_onto ticket key k v error None = refl
-gives_instead_onto ticket key k v error (Some message) = refl
+gives_instead_onto : (ticket : ℕ) (key : Key) (k : Kept) (v : View) (outcome : Outcome) (o : Option (List ℕ)) → (gives_instead ticket key k v outcome o).1 ≡ onto (gives_instead ticket key k v outcome o).1.board v
+gives_instead_onto ticket key k v outcome None = refl
+gives_instead_onto ticket key k v outcome (Some message) = refl
 
-gives_error_onto : (ticket : ℕ) (key : Key) (spare : Option Spare) (k : Kept) (v : View) (error : Error) → (gives_error ticket key spare k v error).1 ≡ onto (gives_error ticket key spare k v error).1.board v
-gives_error_onto ticket key spare k v error = by (is_failure error)
+gives_result_onto : (ticket : ℕ) (key : Key) (spare : Option Spare) (k : Kept) (v : View) (outcome : Outcome) → (gives_result ticket key spare k v outcome).1 ≡ onto (gives_result ticket key spare k v outcome).1.board v
+gives_result_onto ticket key spare k v outcome = by (is_failing outcome)
   where
     given : Bool → Kept × View
-    given b = if b then gives_instead ticket key k v error (spare_stands_in k.settings v.now spare) else gives_outcome ticket key k v (Err error)
+    given b = if b then gives_instead ticket key k v outcome (spare_stands_in k.settings v.now spare) else gives_outcome ticket key k v outcome
 
     by : (b : Bool) → (given b).1 ≡ onto (given b).1.board v
-    by true = gives_instead_onto ticket key k v error (spare_stands_in k.settings v.now spare)
+    by true = gives_instead_onto ticket key k v outcome (spare_stands_in k.settings v.now spare)
     by false = refl
 
 gives_part_onto : (ticket : ℕ) (key : Key) (spare : Option Spare) (k : Kept) (v : View) (part : Part) → (gives_part ticket key spare k v part).1 ≡ onto (gives_part ticket key spare k v part).1.board v
 gives_part_onto ticket key spare k v (Ok None) = refl
-gives_part_onto ticket key spare k v (Ok (Some message)) = refl
-gives_part_onto ticket key spare k v (Err error) = gives_error_onto ticket key spare k v error
+gives_part_onto ticket key spare k v (Ok (Some message)) = gives_result_onto ticket key spare k v (Ok message)
+gives_part_onto ticket key spare k v (Err error) = gives_result_onto ticket key spare k v (Err error)
 
 settles_for_onto : (p : Posted) (k : Kept) (v : View) (o : Option Job) → (settles_for p k v o).1 ≡ onto (settles_for p k v o).1.board v
 settles_for_onto p k v None = refl

@@ -4,7 +4,7 @@ use Rattle.client_request.specs.Request.{Request}
 use Rattle.client_multi.specs.DgramStream.{DgramStream}
 use Rattle.client_steps.specs.declared.upstream.Upstream.{Upstream}
 use Rattle.client_steps.specs.declared.upstream.Upstream.TheVariants as server
-use Rattle.right_trace.specs.Trace.{Use, ByDatagrams, ByStreams}
+use Rattle.right_trace.specs.Trace.{Use, ByDatagrams, ByStreams, Conf}
 use Rattle.proof_right.specs.machine.Dgrams.{no_datagram}
 use Rattle.proof_right.specs.machine.Served.{Served}
 use Rattle.proof_parts.specs.PartTie.{Phase, MayEnd}
@@ -29,14 +29,14 @@ has_conn a p is = by (is_some (a.server.by_dgram.at p)) (is_some (a.server.by_st
 at_places : {IsFit : Type 0} (octets : ℕ → Option (List ℕ)) (a : Served) → RestsFit IsFit octets (λ p. is_some (a.server.by_stream.conns p)) → RestsFit IsFit octets (has_place a)
 at_places octets a r = record { fit = r.fit; none = r.none; there = λ p some. has_conn a p (r.there p some) }
 
-module _ (s : ℕ) (phase : Phase) (x : Sight) (a : Served) (end : MayEnd phase) where
-  by_streams_fit : (m : Streams) → TiedAs s phase m x a → RestsFit (IsFitStream m x.timer) (λ p. stream_octets p m) (has_place a)
-  by_streams_fit m t = at_places (λ p. stream_octets p m) a (streams_rest_fit s phase m x a end t)
+module _ (c : Conf) (s : ℕ) (phase : Phase) (x : Sight) (a : Served) (end : MayEnd phase) where
+  by_streams_fit : (m : Streams) → TiedAs c s phase m x a → RestsFit (IsFitStream m x.timer) (λ p. stream_octets p m) (has_place a)
+  by_streams_fit m t = at_places (λ p. stream_octets p m) a (streams_rest_fit c s phase m x a end t)
 
-  by_both_fit : (f : DgramStream Request) → FallsBack s phase f x a → RestsFit (IsFitBoth f x.timer) (λ p. both_octets p f) (has_place a)
-  by_both_fit f t = at_places (λ p. both_octets p f) a (streams_rest_fit s phase f.parts.stream x (with_dgrams no_datagram a) end t.streams)
+  by_both_fit : (f : DgramStream Request) → FallsBack c s phase f x a → RestsFit (IsFitBoth f x.timer) (λ p. both_octets p f) (has_place a)
+  by_both_fit f t = at_places (λ p. both_octets p f) a (streams_rest_fit c s phase f.parts.stream x (with_dgrams no_datagram a) end t.streams)
 
-  pub server_rests_fit : (how : Option Use) (u : Upstream Request) → TiedBy how s phase u x a → RestsFit (IsFitServer u x.timer) (λ p. server_octets p u) (has_place a)
+  pub server_rests_fit : (how : Option Use) (u : Upstream Request) → TiedBy c how s phase u x a → RestsFit (IsFitServer u x.timer) (λ p. server_octets p u) (has_place a)
   server_rests_fit None u t = absurd t
   server_rests_fit (Some ByStreams) (server.Dgram d) t = absurd t
   server_rests_fit (Some ByStreams) (server.Stream m) t = by_streams_fit m t

@@ -24,6 +24,7 @@ use Rattle.proof_multi.specs.Tied.{IsStream, TiedAs, frames_at}
 use Rattle.proof_multi.proofs.Fields.{stream_of, frames_none}
 use Rattle.proof_cutting.specs.Pieces.{stands}
 use Rattle.proof_cutting.specs.Standing.{Streams, link_octets, stream_octets, AreFit, IsFitStream}
+use Rattle.right_trace.specs.Trace.{Conf}
 
 -- What holds of a transport where a row may end: it is fit to be called; at no place a whole frame stands; and a place where octets can stand is one that the machine has.
 pub record RestsFit (IsFit : Type 0) (octets : (place : ℕ) → Option (List ℕ)) (has : (place : ℕ) → Bool) : Type 0 where
@@ -41,10 +42,10 @@ no_frame octets frames got k none = by (has_frame octets) refl
         let f = kept_is_read.some octets (slice_range octets 2 (2 + body_size octets)) frames got k (ap (λ (b : Bool). if b then Some (slice_range octets 2 (2 + body_size octets)) else None) e) in
         absurd (let z : [] ≡ slice_range octets 2 (2 + body_size octets) ∷ f.0 = sym none ∙ f.1 in cc)
 
-not_ended : (dues : ℕ → Option ℕ) (idle : ℕ) (at : LineStage) (mode : Mode) → StageFits dues idle at mode → has_ended at ≡ false
-not_ended dues idle at mode (IsNew e m) = ap has_ended e
-not_ended dues idle at mode (IsActive timer since e m due) = ap has_ended e
-not_ended dues idle at mode (IsIdle timer since e m due) = ap has_ended e
+not_ended : (conf : Conf) (dues : ℕ → Option ℕ) (idle : ℕ) (at : LineStage) (mode : Mode) → StageFits conf dues idle at mode → has_ended at ≡ false
+not_ended conf dues idle at mode (IsNew e m) = ap has_ended e
+not_ended conf dues idle at mode (IsActive timer since e m due) = ap has_ended e
+not_ended conf dues idle at mode (IsIdle timer since e m due) = ap has_ended e
 
 same_timer : (at : LineStage) → timer_of at ≡ timer_at at
 same_timer stage.New = refl
@@ -56,14 +57,14 @@ none_of : (fs : List Octets) → length fs ≡ 0 → fs ≡ []
 none_of [] e = refl
 none_of (f ∷ fs) e = absurd (omega arith)
 
-module _ (s : ℕ) where
+module _ (conf : Conf) (s : ℕ) where
   -- no frame is left
-  none_left : (phase : Phase) (u : Streams) (x : Sight) (a : Served) → MayEnd phase → TiedAs s phase u x a → a.frames ≡ []
+  none_left : (phase : Phase) (u : Streams) (x : Sight) (a : Served) → MayEnd phase → TiedAs conf s phase u x a → a.frames ≡ []
   none_left (Untold w) u x a end t = t.frames
   none_left (Told p n) u x a end t = none_of a.frames (t.count ∙ end)
   none_left (Passed w) u x a end t = t.untold.frames
 
-  module _ (u : Streams) (x : Sight) (a : Served) (i : IsStream s u x a) (left : a.frames ≡ []) where
+  module _ (u : Streams) (x : Sight) (a : Served) (i : IsStream conf s u x a) (left : a.frames ≡ []) where
     abbrev d : Desk
     d = desk_of u.tables
 
@@ -71,18 +72,18 @@ module _ (s : ℕ) where
     m = a.server.by_stream
 
     none_at : (p : ℕ) → frames_at a.place a.frames p ≡ []
-    none_at p = ap (λ (fs : List Octets). frames_at a.place fs p) left ∙ frames_none s a.place p
+    none_at p = ap (λ (fs : List Octets). frames_at a.place fs p) left ∙ frames_none conf s a.place p
 
     -- the connection that is there for both
-    link_of : (p : ℕ) (l : Link Request) → entry_at p u.tables.connections ≡ Some l → LinkFits d m (frames_at a.place a.frames) x.dues x.ticket p → (y : Conn) × IsLinkAt p (names_at d) l m y (frames_at a.place a.frames p) x.dues x.ticket
+    link_of : (p : ℕ) (l : Link Request) → entry_at p u.tables.connections ≡ Some l → LinkFits conf d m (frames_at a.place a.frames) x.dues x.ticket p → (y : Conn) × IsLinkAt conf p (names_at d) l m y (frames_at a.place a.frames p) x.dues x.ticket
     link_of p l at (IsNone b c away) = absurd (let z : None ≡ Some l = sym b ∙ at in cc)
-    link_of p l at (IsSome k y b link) = (y, subst (λ (k : Link Request). IsLinkAt p (names_at d) k m y (frames_at a.place a.frames p) x.dues x.ticket) (let z : Some k ≡ Some l = sym b ∙ at in cc) link)
+    link_of p l at (IsSome k y b link) = (y, subst (λ (k : Link Request). IsLinkAt conf p (names_at d) k m y (frames_at a.place a.frames p) x.dues x.ticket) (let z : Some k ≡ Some l = sym b ∙ at in cc) link)
 
     are_fit : AreFit u.tables x.timer
     are_fit = record {
       connections = (x.place, i.order.connections);
       watches = i.order.watches;
-      placed = λ p l at. (let k = link_of p l at (i.ties.links p) in (k.1.place, not_ended x.dues l.line.idle_time l.line.stage (k.0).mode k.1.line.fits.stage));
+      placed = λ p l at. (let k = link_of p l at (i.ties.links p) in (k.1.place, not_ended conf x.dues l.line.idle_time l.line.stage (k.0).mode k.1.line.fits.stage));
       watched = λ p l timer at of. (i.ties.watched p l timer at (same_timer l.line.stage ∙ of)).0;
     }
 
@@ -112,5 +113,5 @@ module _ (s : ℕ) where
     rests_fit : RestsFit (IsFitStream u x.timer) (λ p. stream_octets p u) (λ p. is_some (m.conns p))
     rests_fit = record { fit = fit_stream; none = none_stands; there = is_there }
 
-  pub streams_rest_fit : (phase : Phase) (u : Streams) (x : Sight) (a : Served) → MayEnd phase → TiedAs s phase u x a → RestsFit (IsFitStream u x.timer) (λ p. stream_octets p u) (λ p. is_some (a.server.by_stream.conns p))
-  streams_rest_fit phase u x a end t = rests_fit u x a (stream_of s phase u x a t) (none_left phase u x a end t)
+  pub streams_rest_fit : (phase : Phase) (u : Streams) (x : Sight) (a : Served) → MayEnd phase → TiedAs conf s phase u x a → RestsFit (IsFitStream u x.timer) (λ p. stream_octets p u) (λ p. is_some (a.server.by_stream.conns p))
+  streams_rest_fit phase u x a end t = rests_fit u x a (stream_of conf s phase u x a t) (none_left phase u x a end t)

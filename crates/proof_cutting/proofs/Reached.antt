@@ -18,7 +18,7 @@ use Rattle.proof_parts.specs.Sights.{sight}
 use Rattle.proof_choice.specs.Choosing.{Choosing}
 use Rattle.proof_choice.specs.Whole.{with_all, Tied}
 use Rattle.client_steps.specs.Client.{rested, row_and_rest, client_step}
-use Rattle.client_steps.specs.Headline.{conf_of}
+use Rattle.client_steps.specs.Headline.{conf_with}
 use Rattle.client_steps.specs.Machines.{machine_of}
 use Rattle.client_steps.specs.Whole.{Servers, Client, machine, with_servers}
 use Rattle.proof_client.specs.Above.{Tying, begins_with, AreWords}
@@ -37,6 +37,9 @@ use Rattle.proof_cutting.specs.Pieces.{stands}
 use Rattle.proof_cutting.specs.Told.{then_told, told_all}
 use Rattle.proof_cutting.proofs.FitChoice.{ServersRestFit, choice_fits, none_in_choice}
 use Rattle.proof_cutting.proofs.FitServers.{server_rests_fit}
+use Rattle.client_settings.specs.declared.settings.Transports.{Transports}
+use Rattle.right_settings.specs.Given.{AreGiven}
+use Rattle.right_trace.specs.Trace as trace
 
 module _ (g : Tying) where
   -- A client between two rows: it is tied where a row may end, and has rested.
@@ -90,17 +93,20 @@ module _ (g : Tying) where
     more = refl;
   }
 
-module _ (redundant : RedundantSettings) (cache : CacheSettings) (conf : ResolvConf) (words : ℕ → ℕ) (events : List Event) (h : AreHandedIn cache words events) where
+module _ (t : trace.Transports) (given : Transports) (redundant : RedundantSettings) (cache : CacheSettings) (conf : ResolvConf) (are : AreGiven (conf_with t conf) given) (words : ℕ → ℕ) (events : List Event) (h : AreHandedIn cache words events) where
+  abbrev several : ℕ
+  several = given.multi_stream.stream.streaming_response_timeout
+
   -- the client of a configuration, with its tie
   abbrev pub client : Tying
-  client = tying (above_servers (conf_of conf) redundant cache h.limited)
+  client = tying (above_servers several (conf_with t conf) redundant cache h.limited)
 
   abbrev servers : Choosing
-  servers = choosing (conf_of conf) redundant cache
+  servers = choosing several (conf_with t conf) redundant cache
 
   -- each server of the configuration
   servers_rest_fit : ServersRestFit servers server_octets IsFitServer
-  servers_rest_fit s phase u x a may t = server_rests_fit s phase x a may (use_at s (conf_of conf).servers) u t
+  servers_rest_fit s phase u x a may t = server_rests_fit (conf_with t conf) s phase x a may (use_at s (conf_with t conf).servers) u t
 
   reached_is_fit : (d : PlainClient client) → IsReached client d → (place : ℕ) → IsFitLayer place d.layer d.view.timers.next × (stands (layer_octets place d.layer) ≡ false)
   reached_is_fit d r place =
@@ -110,18 +116,18 @@ module _ (redundant : RedundantSettings) (cache : CacheSettings) (conf : ResolvC
       )
 
   -- the servers are those that a choice among them begins with
-  begins_so : with_servers 0 conf.options conf.servers (choice.started redundant) ≡ with_all servers
-  begins_so = all_begin conf.options (conf_of conf) redundant cache conf.servers refl
+  begins_so : with_servers given 0 conf.options conf.servers (choice.started redundant) ≡ with_all servers
+  begins_so = all_begin given conf.options (conf_with t conf) are redundant cache conf.servers refl
 
-  is_reached : (outs : List Out) (d : PlainClient client) → all_told redundant cache conf words events ≡ Some (outs, d) → IsReached client d
+  is_reached : (outs : List Out) (d : PlainClient client) → all_told given redundant cache conf words events ≡ Some (outs, d) → IsReached client d
   is_reached outs d told =
       subst (IfTold client)
       (subst (λ (r : Servers). told_all machine conf.options.timeout events (begins_with words (caching.started cache r)) ≡ Some (outs, d)) begins_so told)
       (reached_by_events client events h.asked h.octets (begins_with words client.first) (reached_first client words h.small))
 
-pub reached : (redundant : RedundantSettings) (cache : CacheSettings) (conf : ResolvConf) (words : ℕ → ℕ) (before : List Event) (outs : List Out) (c : Client) (place : ℕ) → AreHandedIn cache words before → all_told redundant cache conf words before ≡ Some (outs, c)
+pub reached : (t : trace.Transports) (given : Transports) (redundant : RedundantSettings) (cache : CacheSettings) (conf : ResolvConf) → AreGiven (conf_with t conf) given → (words : ℕ → ℕ) (before : List Event) (outs : List Out) (c : Client) (place : ℕ) → AreHandedIn cache words before → all_told given redundant cache conf words before ≡ Some (outs, c)
     → IsFitLayer place c.layer c.view.timers.next × (stands (layer_octets place c.layer) ≡ false) × (c.view.outs ≡ []) × (c.view.request ≡ 0) × (c.view.more ≡ false) × (c.view.board ≡ [])
-reached redundant cache conf words before outs c place h told =
-    let r = is_reached redundant cache conf words before h outs c told in
-    let f = reached_is_fit redundant cache conf words before h c r place in
+reached t given redundant cache conf are words before outs c place h told =
+    let r = is_reached t given redundant cache conf are words before h outs c told in
+    let f = reached_is_fit t given redundant cache conf are words before h c r place in
     (f.0, f.1, r.outs, r.request, r.more, r.tied.board)

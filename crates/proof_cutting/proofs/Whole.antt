@@ -10,7 +10,7 @@ use Rattle.client_request.specs.declared.event.Out.{Out}
 use Rattle.proof_client.specs.Ties.{AreHandedIn}
 use Rattle.client_settings.specs.Settings.{CacheSettings, RedundantSettings}
 use Rattle.client_steps.specs.Upstream as upstream
-use Rattle.client_steps.specs.Whole.{Layer, Response, Client, choice, reading, machine, client_with, started}
+use Rattle.client_steps.specs.Whole.{Layer, Response, Client, choice, reading, machine, client_with, started_with}
 use Rattle.right_trace.specs.InOctets.{AllInOctets}
 use Rattle.right_trace.specs.Timely.{AllAskedInOctets}
 use Rattle.resolv_conf.specs.declared.conf.ResolvConf.{ResolvConf}
@@ -26,6 +26,10 @@ use Rattle.proof_cutting.proofs.Pieces.{pieces_do}
 use Rattle.proof_cutting.proofs.Reached.{reached}
 use Rattle.proof_cutting.proofs.Streams.{streams_are_cuttable, streams_post_nothing}
 use Rattle.proof_cutting.proofs.Telling.{cut_is}
+use Rattle.client_settings.specs.declared.settings.Transports.{Transports}
+use Rattle.right_settings.specs.Given.{AreGiven}
+use Rattle.right_trace.specs.Trace as trace
+use Rattle.client_steps.specs.Headline.{conf_with}
 
 -- the cache over the choice among the servers
 abbrev layer : Transport Request Layer Response
@@ -55,15 +59,15 @@ module _ (place : ℕ) where
     alike = caches_stand_in_alike (longer_choice (longer_server place)) (λ r. r.ticket);
   }
 
-module _ (redundant : RedundantSettings) (cache : CacheSettings) (conf : ResolvConf) (words : ℕ → ℕ) where
+module _ (t : trace.Transports) (given : Transports) (redundant : RedundantSettings) (cache : CacheSettings) (conf : ResolvConf) (are : AreGiven (conf_with t conf) given) (words : ℕ → ℕ) where
   abbrev told : List Event → Option (List Out × Client)
-  told events = all_told redundant cache conf words events
+  told events = all_told given redundant cache conf words events
 
   -- one of the events behind these is cut
   cut_among : (before events cut : List Event) → IsCut events cut → AreHandedIn cache words (before ++ events) → told (before ++ cut) ≡ told (before ++ events)
   cut_among before _ _ (Here moment place first more after) h =
-      cut_is machine conf.options.timeout before (map (bytes_at moment place) (first ∷ more)) after (bytes_at moment place (concat (first ∷ more))) (client_with words (started redundant cache conf))
-      (λ outs d is. (let r = reached redundant cache conf words before outs d place (handed_before cache words before (bytes_at moment place (concat (first ∷ more)) ∷ after) h) is in
+      cut_is machine conf.options.timeout before (map (bytes_at moment place) (first ∷ more)) after (bytes_at moment place (concat (first ∷ more))) (client_with words (started_with given redundant cache conf))
+      (λ outs d is. (let r = reached t given redundant cache conf are words before outs d place (handed_before cache words before (bytes_at moment place (concat (first ∷ more)) ∷ after) h) is in
       pieces_do place layer (λ r. r.ticket) (layer_octets place) (longer_layer place) (IsFitLayer place) (layers_cut place) (gives_up_quietly place) conf.options.timeout moment first more d
       (record { fit = r.0; none = r.1; rested = (r.2, r.3, r.4); board = r.5 })))
   cut_among before _ _ (Later e events cut is) h =
@@ -71,4 +75,4 @@ module _ (redundant : RedundantSettings) (cache : CacheSettings) (conf : ResolvC
       (cut_among (before ++ e ∷ []) events cut is (subst (AreHandedIn cache words) (sym (append_assoc before (e ∷ []) events)) h))
 
 pub pieces_do_the_same : PiecesDoTheSame
-pieces_do_the_same redundant cache conf words events cut h is = cut_among redundant cache conf words [] events cut is h
+pieces_do_the_same t given redundant cache conf words events cut are h is = cut_among t given redundant cache conf are words [] events cut is h

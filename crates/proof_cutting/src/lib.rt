@@ -20,4 +20,4 @@
 
 mod laws;
 
-pub use laws::{every_plain_trace_may_be_cut, worked_cut};
+pub use laws::{every_plain_trace_may_be_cut, traces_may_be_cut, worked_cut};

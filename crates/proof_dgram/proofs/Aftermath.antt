@@ -23,6 +23,7 @@ use Rattle.proof_dgram.proofs.Changing.{settled}
 use Rattle.proof_parts.proofs.Keys.{was_there, is_or_was}
 use Rattle.proof_parts.proofs.TimerLaws.{due_without, order_without}
 use Rattle.proof_dgram.proofs.GivingOn.{opened, GaveOn, Nobody, Somebody, gave_on}
+use Rattle.right_trace.specs.Trace.{Conf}
 
 -- views
 
@@ -77,22 +78,22 @@ after_dropped r v w fair timers now request more ticket place words = record {
     old i due e = (was_there r (λ j. due_of j v.timers.set) i due e).1
 
 -- What goes on behind a first act: the slot that it left is given on.
-pub record Goes_on (server : ℕ) (s : Tables Request) (d : Dgrams) (v : View) (first : Act Dgrams) (s1 : Tables Request) (v1 : View) (t : Tables Request) (w : View) : Type 0 where
+pub record Goes_on (c : Conf) (server : ℕ) (s : Tables Request) (d : Dgrams) (v : View) (first : Act Dgrams) (s1 : Tables Request) (v1 : View) (t : Tables Request) (w : View) : Type 0 where
   pub made : Act Dgrams
-  pub steps : Steps server v.now first.place first.state made
+  pub steps : Steps c server v.now first.place first.state made
   pub nothing : made.posts ≡ []
-  pub leaves : Leaves s d v (then_act first made) t w
+  pub leaves : Leaves c s d v (then_act first made) t w
   pub board : w.board ≡ v1.board
   pub names : (i : ℕ) → names_of t i ≡ names_of s1 i
 
-module _ (server : ℕ) (s : Tables Request) (d : Dgrams) (v : View) (state : Dgrams) (fo : List Out) (fp : List Post) (s1 : Tables Request) (v1 : View) (f : AreSlots 1 s1 state (sight v1)) (outs : v1.outs ≡ v.outs ++ fo) (after : IsAfter v v1) (apart : KeepsApart s d v s1 state v1) where
+module _ (c : Conf) (server : ℕ) (s : Tables Request) (d : Dgrams) (v : View) (state : Dgrams) (fo : List Out) (fp : List Post) (s1 : Tables Request) (v1 : View) (f : AreSlots c 1 s1 state (sight v1)) (outs : v1.outs ≡ v.outs ++ fo) (after : IsAfter v v1) (apart : KeepsApart s d v s1 state v1) where
   abbrev first : Act Dgrams
   first = record { state = state; place = v1.place; outs = fo; posts = fp }
 
   owned_as : (t : Tables Request) → t.timers ≡ s1.timers → (i : ℕ) → Owns t i → Owns s i ⊎ (v.timers.next ≤ i)
   owned_as t same i o = apart.owned i (subst (λ ts. (u : ℕ) × (entry_at i ts ≡ Some u)) same o)
 
-  behind : (t : Tables Request) (w : View) → GaveOn server s1 state v1 t w → Goes_on server s d v first s1 v1 t w
+  behind : (t : Tables Request) (w : View) → GaveOn c server s1 state v1 t w → Goes_on c server s d v first s1 v1 t w
   behind t w (Nobody jobs timers same slots) = record {
     made = still v1.place state;
     steps = Rests v1.place state;
@@ -100,7 +101,7 @@ module _ (server : ℕ) (s : Tables Request) (d : Dgrams) (v : View) (state : Dg
     leaves = record {
       outs = ap (λ (w : View). w.outs) same ∙ (outs ∙ ap (λ xs. v.outs ++ xs) (sym (append-nil fo)));
       place = ap (λ (w : View). w.place) same;
-      slots = subst (λ (w : View). AreSlots 0 t state (sight w)) (sym same) slots;
+      slots = subst (λ (w : View). AreSlots c 0 t state (sight w)) (sym same) slots;
       after = subst (IsAfter v) (sym same) after;
       apart = subst (KeepsApart s d v t state) (sym same) (record { owned = owned_as t timers; others = apart.others; places = apart.places });
     };
@@ -109,12 +110,12 @@ module _ (server : ℕ) (s : Tables Request) (d : Dgrams) (v : View) (state : Dg
   }
   behind t w (Somebody k b held stage few same timers names slots) = record {
     made = then_act (made_by v1.place (multi.Puts (OpenDgram v1.place server)) (try_at v1.place k b state)) (still (suc v1.place) (try_at v1.place k b state));
-    steps = Steps_on v1.place state (multi.Puts (OpenDgram v1.place server)) (try_at v1.place k b state) _ _ (dgrams.Opens k b held stage few) (AsItIs (settled 0 (slots_of t) (try_at v1.place k b state) _ slots.alike)) (Rests (suc v1.place) (try_at v1.place k b state));
+    steps = Steps_on v1.place state (multi.Puts (OpenDgram v1.place server)) (try_at v1.place k b state) _ _ (dgrams.Opens k b held stage few) (AsItIs (settled c 0 (slots_of t) (try_at v1.place k b state) _ slots.alike)) (Rests (suc v1.place) (try_at v1.place k b state));
     nothing = refl;
     leaves = record {
       outs = ap (λ (w : View). w.outs) same ∙ (ap (λ xs. xs ++ OpenDgram v1.place server ∷ []) outs ∙ append_assoc v.outs fo (OpenDgram v1.place server ∷ []));
       place = ap (λ (w : View). w.place) same ∙ one_more v1.place;
-      slots = subst (λ (w : View). AreSlots 0 t (try_at v1.place k b state) (sight w)) (sym same) slots;
+      slots = subst (λ (w : View). AreSlots c 0 t (try_at v1.place k b state) (sight w)) (sym same) slots;
       after = after_then v v1 w after (subst (IsAfter v1) (sym same) (after_opened server v1 after.fair));
       apart = subst (KeepsApart s d v t (try_at v1.place k b state)) (sym same) (record { owned = owned_as t timers; others = apart.others; places = λ q i e. elim (is_or_was v1.place (Some k) state.at q i e) [ inl x ↦ inr (subst (λ q. v.place ≤ q) x.0 after.place) | inr x ↦ apart.places q i x.1 ] });
     };
@@ -125,9 +126,9 @@ module _ (server : ℕ) (s : Tables Request) (d : Dgrams) (v : View) (state : Dg
       one_more : (a : ℕ) → a + 1 ≡ suc a
       one_more a = omega arith
 
-  pub goes_on : Leads (Goes_on server s d v first s1 v1) (gives_on server s1 v1)
-  goes_on = go (gives_on server s1 v1) (gave_on server s1 state v1 f after.fair)
+  pub goes_on : Leads (Goes_on c server s d v first s1 v1) (gives_on server s1 v1)
+  goes_on = go (gives_on server s1 v1) (gave_on c server s1 state v1 f after.fair)
     where
-      go : (o : Option (Tables Request × View)) → Leads (GaveOn server s1 state v1) o → Leads (Goes_on server s d v first s1 v1) o
+      go : (o : Option (Tables Request × View)) → Leads (GaveOn c server s1 state v1) o → Leads (Goes_on c server s d v first s1 v1) o
       go None g = tt
       go (Some x) g = behind x.0 x.1 g

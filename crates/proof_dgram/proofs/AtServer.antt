@@ -25,7 +25,7 @@ chain_then c s _ _ _ e (Goes place u a b first rest) more =
     (same_act (then_act a (then_act b e)) (then_act (then_act a b) e) refl refl (sym (append_assoc a.outs b.outs e.outs)) (sym (append_assoc a.posts b.posts e.posts)))
     (Goes place u a (then_act b e) first (chain_then c s a.place a.state b e rest more))
 
-steps_chain : (c : Conf) (s : ℕ) (u : Served) (place : ℕ) (d : Dgrams) (e : Act Dgrams) → Steps s u.clock place d e → Chain (served c) s place (with_dgrams d u) (at_server u with_dgrams e)
+steps_chain : (c : Conf) (s : ℕ) (u : Served) (place : ℕ) (d : Dgrams) (e : Act Dgrams) → Steps c s u.clock place d e → Chain (served c) s place (with_dgrams d u) (at_server u with_dgrams e)
 steps_chain c s u _ _ _ (Rests place d) = Stays place (with_dgrams d u)
 steps_chain c s u _ _ _ (Steps_on place d x k e g tries at rest) = Goes place (with_dgrams d u) (at_server u with_dgrams e) (at_server u with_dgrams g) (machine.ByDgram x k (at_server u with_dgrams e) tries (settles e at)) (steps_chain c s u e.place e.state g rest)
   where
@@ -33,21 +33,21 @@ steps_chain c s u _ _ _ (Steps_on place d x k e g tries at rest) = Goes place (w
     settles _ (AsItIs set) = machine.AsItIs set
     settles _ (WithResult j a y held stage) = machine.WithResult j a y held stage
 
-told : (s place : ℕ) (u : Served) (x : multi.Act) (d : Dgrams) (e : Act Dgrams) → u.taken ≡ false → IsInTime u.clock u.server → IsForeign u.pending u.server.by_stream → Meets u.clock u.server.by_dgram u.pending x d → AtOnce place x d e → Acts s place u (at_server u taken_by e)
-told s place u x d e untaken soon foreign meets at = machine.TellsDgrams x d (at_server u taken_by e) untaken soon meets foreign (settles e at)
+told : (conf : Conf) (s place : ℕ) (u : Served) (x : multi.Act) (d : Dgrams) (e : Act Dgrams) → u.taken ≡ false → IsInTime conf u.clock u.server → IsForeign u.pending u.server.by_stream → Meets conf u.clock u.server.by_dgram u.pending x d → AtOnce place x d e → Acts conf s place u (at_server u taken_by e)
+told conf s place u x d e untaken soon foreign meets at = machine.TellsDgrams x d (at_server u taken_by e) untaken soon meets foreign (settles e at)
   where
     settles : (e : Act Dgrams) → AtOnce place x d e → Settles s u.clock place (taken_by d u) x (at_server u taken_by e)
     settles _ (AsItIs set) = machine.AsItIs set
     settles _ (WithResult j a y held stage) = machine.WithResult j a y held stage
 
-cuts : (c : Conf) (s place p k : ℕ) (u : Served) (a : Tryer) (e : Act Dgrams) → u.taken ≡ false → IsInTime u.clock u.server → IsForeign u.pending u.server.by_stream → Meets u.clock u.server.by_dgram u.pending (multi.Puts (Close p)) (leave p k a Cut u.server.by_dgram) → IsSettled (leave p k a Cut u.server.by_dgram)
-    → Steps s u.clock place (leave p k a Cut u.server.by_dgram) e → e.state.held k ≡ Some (staged a Cut) → Chain (served c) s place u (goes_by_stream s k (staged a Cut) (at_server u taken_by (record e { outs = Close p ∷ e.outs })))
+cuts : (c : Conf) (s place p k : ℕ) (u : Served) (a : Tryer) (e : Act Dgrams) → u.taken ≡ false → IsInTime c u.clock u.server → IsForeign u.pending u.server.by_stream → Meets c u.clock u.server.by_dgram u.pending (multi.Puts (Close p)) (leave p k a Cut u.server.by_dgram) → IsSettled (leave p k a Cut u.server.by_dgram)
+    → Steps c s u.clock place (leave p k a Cut u.server.by_dgram) e → e.state.held k ≡ Some (staged a Cut) → Chain (served c) s place u (goes_by_stream s k (staged a Cut) (at_server u taken_by (record e { outs = Close p ∷ e.outs })))
 cuts c s place p k u a e untaken soon foreign meets set steps held =
     let d = leave p k a Cut u.server.by_dgram in
     let first : Act Served = at_server u taken_by (record { state = d; place = place; outs = Close p ∷ []; posts = [] }) in
     let mid : Act Served = at_server u taken_by e in
     let last : Act Served = record { state = machine.has_moved (server.falls_back k u.clock (staged a Cut) mid.state.server) mid.state; place = e.place; outs = Start k s Stream ∷ []; posts = [] } in
-    let one : Acts s place u first = machine.TellsDgrams (multi.Puts (Close p)) d first untaken soon meets foreign (machine.AsItIs set) in
+    let one : Acts c s place u first = machine.TellsDgrams (multi.Puts (Close p)) d first untaken soon meets foreign (machine.AsItIs set) in
     let more : Chain (served c) s place (taken_by d u) mid = steps_chain c s (taken_by d u) place d e steps in
     let three : Chain (served c) s e.place mid.state (then_act last (still e.place last.state)) = Goes e.place mid.state last (still e.place last.state) (machine.FallsBack k (staged a Cut) held refl) (Stays e.place last.state) in
     let both = chain_then c s place (taken_by d u) mid (then_act last (still e.place last.state)) more three in

@@ -4,7 +4,7 @@ use Rattle.std.specs.Prelude.{option_map}
 use Rattle.client_request.specs.Request.{Request}
 use Rattle.client_request.specs.View.{View, Transport}
 use Rattle.client_dgram.specs.Plain as dgram
-use Rattle.client_settings.specs.Dgram as dgram_settings
+use Rattle.right_settings.specs.Given.{dgrams_of}
 use Rattle.client_stream.specs.Plain as stream
 use Rattle.client_multi.specs.Fallback.{Parts, onto, with_tables, collects, gives_rest, with_parts}
 use Rattle.client_multi.specs.declared.dgram_stream.job.Job.{Job}
@@ -28,8 +28,8 @@ use Rattle.proof_dgram.proofs.Known.{slots_are_known}
 use Rattle.proof_dgram.proofs.Settling.{AllWhole, AreSettled, settled_so}
 
 -- none of the datagrams' timers is due after a call, where none was before
-pub none_due_now : (s z : dgram.Tables Request) (d : Dgrams) (v w : View) (made : Act Dgrams) → IsFair v → calls.Leaves s d (onto [] v) made z w → NoneDue (calls.Owns s) (sight v) → NoneDue (calls.Owns z) (sight w)
-none_due_now s z d v w made fair l early i due own e = subst (λ n. n < due) (sym l.after.now) (elim (l.after.later i due e) [
+pub none_due_now : (c : Conf) (s z : dgram.Tables Request) (d : Dgrams) (v w : View) (made : Act Dgrams) → IsFair v → calls.Leaves c s d (onto [] v) made z w → NoneDue (calls.Owns s) (sight v) → NoneDue (calls.Owns z) (sight w)
+none_due_now c s z d v w made fair l early i due own e = subst (λ n. n < due) (sym l.after.now) (elim (l.after.later i due e) [
   | inl was ↦ elim (l.apart.owned i own) [
     | inl old ↦ early i due old was
     | inr le ↦ absurd (let n : None ≡ Some due = sym (none_next v i fair le) ∙ was in cc)
@@ -37,8 +37,8 @@ none_due_now s z d v w made fair l early i due own e = subst (λ n. n < due) (sy
   | inr new ↦ new.0
 ])
 
-module _ (b c : Conf) (s : ℕ) {S : Type 0} (t : Transport Request S stream.Asked) (first : S) (Tied : Phase → S → Sight → Served → Type 0) (names : S → ℕ → Option ℕ) (Owns : S → (timer : ℕ) → Type 0) (y : AreStreams b s t first Tied names Owns) where
-  module _ (f : Both Tied names Owns s) (v : View) (d e : Dgrams) (fair : IsFair v) (server : f.server ≡ s) (dgram_server : f.parts.dgram.server ≡ s) (settings : f.parts.dgram.settings ≡ dgram_settings.default_settings) (made : Act Dgrams) (tables : dgram.Tables Request) (w : View) (l : calls.Leaves f.parts.dgram.tables d (onto [] v) made tables w)
+module _ (b c : Conf) (same_transports : b.transports ≡ c.transports) (s : ℕ) {S : Type 0} (t : Transport Request S stream.Asked) (first : S) (Tied : Phase → S → Sight → Served → Type 0) (names : S → ℕ → Option ℕ) (Owns : S → (timer : ℕ) → Type 0) (y : AreStreams b s t first Tied names Owns) where
+  module _ (f : Both c Tied names Owns s) (v : View) (d e : Dgrams) (fair : IsFair v) (server : f.server ≡ s) (dgram_server : f.parts.dgram.server ≡ s) (settings : f.parts.dgram.settings ≡ (dgrams_of c)) (made : Act Dgrams) (tables : dgram.Tables Request) (w : View) (l : calls.Leaves c f.parts.dgram.tables d (onto [] v) made tables w)
       (timers : (i : ℕ) → calls.Owns f.parts.dgram.tables i → Owns f.parts.stream i → ⊥) (asks : AsksTheSame e made.state) (before after : Phase) (z : Served) (tied : Tied after f.parts.stream (sight v) (with_dgrams no_datagram z)) (places : (p k : ℕ) → d.at p ≡ Some k → z.server.by_stream.opening ≡ Some p → ⊥)
       (apart : (k : ℕ) → is_some (e.held k) ≡ true → is_some (z.server.by_stream.asks k) ≡ true → ⊥) where
     -- what stays of both halves
@@ -73,23 +73,23 @@ module _ (b c : Conf) (s : ℕ) {S : Type 0} (t : Transport Request S stream.Ask
     abbrev pub its_dgram : dgram.Dgram Request
     its_dgram = record f.parts.dgram { tables = tables }
 
-    module _ (later : ℕ) (named : ℕ → Option ℕ) (waiting : AreWaiting ticket_at f.parts.tables e named (names f.parts.stream) later) (le : later ≤ w.ticket) (posts : calls.Posts named (onto [] v) made tables w) (whole : AllWhole made.posts) (over : IsOver after (with_dgrams made.state z)) (quiet : WasTold after → NoneDue (calls.Owns f.parts.dgram.tables) (sight v)) (Done : Act Served → Type 0) (done : Done (record { state = with_dgrams made.state z; place = made.place; outs = made.outs; posts = made.posts })) where
+    module _ (later : ℕ) (named : ℕ → Option ℕ) (waiting : AreWaiting ticket_at f.parts.tables e named (names f.parts.stream) later) (le : later ≤ w.ticket) (posts : calls.Posts named (onto [] v) made tables w) (whole : AllWhole made.posts) (over : IsOver c after (with_dgrams made.state z)) (quiet : WasTold after → NoneDue (calls.Owns f.parts.dgram.tables) (sight v)) (Done : Act Served → Type 0) (done : Done (record { state = with_dgrams made.state z; place = made.place; outs = made.outs; posts = made.posts })) where
       abbrev p : Parts Request (dgram.Dgram Request) S dgram.Asked stream.Asked
       p = record f.parts { dgram = its_dgram }
 
       given : AreSettled f.server t e (names f.parts.stream) (names_of tables) later w.board p [] (onto v.board w) made.posts
       given = settled_so f.server t e (names f.parts.stream) (names_of tables) later [] w.board made.posts p (onto v.board w) named waiting (subst (λ ps. Gives named ps made.posts (names_of tables)) (sym posts.put) posts.gives) whole
 
-      abbrev left : Both Tied names Owns s
+      abbrev left : Both c Tied names Owns s
       left = record f { parts = with_tables given.tables p }
 
       abbrev x : View
       x = onto (v.board ++ given.posted) w
 
       waiting_now : AreWaiting ticket_at given.tables made.state (names_of tables) (names f.parts.stream) later
-      waiting_now = tables_change.moves given.tables e made.state (names_of tables) (names f.parts.stream) later given.waiting asks (λ i k n. (slots_are_known.named tables made.state (sight w) i k l.slots n).1)
+      waiting_now = tables_change.moves given.tables e made.state (names_of tables) (names f.parts.stream) later given.waiting asks (λ i k n. ((slots_are_known c).named tables made.state (sight w) i k l.slots n).1)
 
-      falls : IsFallback Tied names Owns s after left (sight x) (with_dgrams made.state z)
+      falls : IsFallback c Tied names Owns s after left (sight x) (with_dgrams made.state z)
       falls = record {
         server = server;
         dgram_server = dgram_server;
@@ -101,11 +101,11 @@ module _ (b c : Conf) (s : ℕ) {S : Type 0} (t : Transport Request S stream.Ask
         places = places_now;
         apart = apart_now;
         over = over;
-        quiet = λ told. none_due_now f.parts.dgram.tables tables d v w made fair l (quiet told);
+        quiet = λ told. none_due_now c f.parts.dgram.tables tables d v w made fair l (quiet told);
       }
 
-      abbrev pub DgramsLeave : Both Tied names Owns s → View → Type 0
-      DgramsLeave = Leaves (served c) (IsFallback Tied names Owns s) (names_in Tied names Owns s) (OwnsEither Tied names Owns s) Done (numbers_of f.parts.tables (names f.parts.stream)) f v after
+      abbrev pub DgramsLeave : Both c Tied names Owns s → View → Type 0
+      DgramsLeave = Leaves (served c) (IsFallback c Tied names Owns s) (names_in c Tied names Owns s) (OwnsEither c Tied names Owns s) Done (numbers_of f.parts.tables (names f.parts.stream)) f v after
 
       leaves : DgramsLeave left x
       leaves = record {

@@ -6,7 +6,7 @@ use Rattle.client_request.specs.Requests.{for_one}
 use Rattle.client_request.specs.View.{View, Transport}
 use Rattle.client_request.specs.declared.board.Posted.{Posted}
 use Rattle.client_dgram.specs.Plain as dgram
-use Rattle.client_settings.specs.Dgram as dgram_settings
+use Rattle.right_settings.specs.Given.{dgrams_of}
 use Rattle.client_stream.specs.Plain as stream
 use Rattle.client_multi.specs.Fallback.{Parts, onto, gives_all, gives_rest, settles_stream, with_parts}
 use Rattle.client_multi.specs.declared.dgram_stream.job.Job.{Job}
@@ -36,20 +36,20 @@ gives_back m left [] (x ∷ xs) g i k e = absurd g
 gives_back m left (p ∷ ps) [] g i k e = absurd g
 gives_back m left (p ∷ ps) (x ∷ xs) g i k e = (was_there p.ticket m i k (gives_back (with_at p.ticket None m) left ps xs g.2 i k e)).1
 
-module _ (b c : Conf) (s : ℕ) {S : Type 0} (t : Transport Request S stream.Asked) (first : S) (Tied : Phase → S → Sight → Served → Type 0) (names : S → ℕ → Option ℕ) (Owns : S → (timer : ℕ) → Type 0) (y : AreStreams b s t first Tied names Owns) where
-  module _ (f : Both Tied names Owns s) (v : View) (d : Dgrams) (fair : IsFair v) (server : f.server ≡ s) (dgram_server : f.parts.dgram.server ≡ s) (settings : f.parts.dgram.settings ≡ dgram_settings.default_settings) (slots : AreSlots 0 f.parts.dgram.tables d (sight v)) (named : ℕ → Option ℕ)
+module _ (b c : Conf) (same_transports : b.transports ≡ c.transports) (s : ℕ) {S : Type 0} (t : Transport Request S stream.Asked) (first : S) (Tied : Phase → S → Sight → Served → Type 0) (names : S → ℕ → Option ℕ) (Owns : S → (timer : ℕ) → Type 0) (y : AreStreams b s t first Tied names Owns) where
+  module _ (f : Both c Tied names Owns s) (v : View) (d : Dgrams) (fair : IsFair v) (server : f.server ≡ s) (dgram_server : f.parts.dgram.server ≡ s) (settings : f.parts.dgram.settings ≡ (dgrams_of c)) (slots : AreSlots c 0 f.parts.dgram.tables d (sight v)) (named : ℕ → Option ℕ)
       (later : ℕ) (waiting : AreWaiting ticket_at f.parts.tables d (names_of f.parts.dgram.tables) named later) (timers : (i : ℕ) → calls.Owns f.parts.dgram.tables i → Owns f.parts.stream i → ⊥) (apart : (i k : ℕ) → is_some (d.held k) ≡ true → named i ≡ Some k → ⊥) where
     -- what is left once what the streams posted is given
     abbrev pub left_of : S → View → Parts Request (dgram.Dgram Request) S dgram.Asked stream.Asked × View
     left_of u w = gives_rest f.server t w.board (record f.parts { stream = u }) (onto v.board w)
 
-    module _ (May : Act Served → Type 0) (before : Phase) (u : S) (w : View) (l : Leaves (served b) Tied names Owns May named f.parts.stream (onto [] v) before u w) (le : later ≤ w.ticket) (after : Phase) (z : Served) (tied : Tied after u (sight w) (with_dgrams no_datagram z)) (new : (p k : ℕ) → d.at p ≡ Some k → z.server.by_stream.opening ≡ Some p → ⊥) (over : IsOver after (with_dgrams d z)) (quiet : WasTold after → NoneDue (calls.Owns f.parts.dgram.tables) (sight v))
+    module _ (May : Act Served → Type 0) (before : Phase) (u : S) (w : View) (l : Leaves (served b) Tied names Owns May named f.parts.stream (onto [] v) before u w) (le : later ≤ w.ticket) (after : Phase) (z : Served) (tied : Tied after u (sight w) (with_dgrams no_datagram z)) (new : (p k : ℕ) → d.at p ≡ Some k → z.server.by_stream.opening ≡ Some p → ⊥) (over : IsOver c after (with_dgrams d z)) (quiet : WasTold after → NoneDue (calls.Owns f.parts.dgram.tables) (sight v))
         (Done : Act Served → Type 0) (done : Done (record l.made { state = with_dgrams d z })) where
       given : AreGiven ticket_at f.parts.tables d (names_of f.parts.dgram.tables) named (names u) later v.board l.made.posts (gives_all w.board f.parts.tables v.board).0 (gives_all w.board f.parts.tables v.board).1
       given = streams_give f.parts.tables d (names_of f.parts.dgram.tables) named (names u) later w.board v.board l.made.posts waiting (subst (λ ps. Gives named ps l.made.posts (names u)) (sym l.put) l.gives)
 
       its_due : (i : ℕ) → calls.Owns f.parts.dgram.tables i → (due : ℕ) × (due_of i v.timers.set ≡ Some due)
-      its_due i own = slots_are_known.set f.parts.dgram.tables d (sight v) i slots own
+      its_due i own = (slots_are_known c).set f.parts.dgram.tables d (sight v) i slots own
 
       same_due : (i : ℕ) → calls.Owns f.parts.dgram.tables i → due_of i w.timers.set ≡ due_of i v.timers.set
       same_due i own = (let q = its_due i own in l.others i q.0 (λ o. timers i own o) q.1 ∙ sym q.1)
@@ -63,12 +63,12 @@ module _ (b c : Conf) (s : ℕ) {S : Type 0} (t : Transport Request S stream.Ask
         | inr le ↦ (let q = its_due i own in let n : None ≡ Some q.0 = sym (none_next v i fair le) ∙ q.1 in cc)
       ]
 
-      falls : IsFallback Tied names Owns s after (record f { parts = (left_of u w).0 }) (sight (left_of u w).1) (with_dgrams d z)
+      falls : IsFallback c Tied names Owns s after (record f { parts = (left_of u w).0 }) (sight (left_of u w).1) (with_dgrams d z)
       falls = record {
         server = server;
         dgram_server = dgram_server;
         settings = settings;
-        slots = slots_are_known.same f.parts.dgram.tables d (sight v) (sight w) slots same_due l.goes_on.timer l.goes_on.ticket l.goes_on.place;
+        slots = (slots_are_known c).same f.parts.dgram.tables d (sight v) (sight w) slots same_due l.goes_on.timer l.goes_on.ticket l.goes_on.place;
         streams = tied;
         waiting = (let g = given.waiting in record { waits = g.waits; below = g.below; tickets = g.tickets; dgrams = g.dgrams; streams = g.streams; jobs_order = rises_below (λ (e : ℕ × Job Request dgram.Asked stream.Asked). e.0) 0 later w.ticket _ le g.jobs_order; tickets_order = rises_below (λ (e : ℕ × ℕ). e.0) 0 later w.ticket _ le g.tickets_order });
         timers = timers_now;
@@ -78,7 +78,7 @@ module _ (b c : Conf) (s : ℕ) {S : Type 0} (t : Transport Request S stream.Ask
         quiet = λ told i due own e. subst (λ n. n < due) (sym l.goes_on.now) (quiet told i due own (sym (same_due i own) ∙ e));
       }
 
-      pub streams_leave : Leaves (served c) (IsFallback Tied names Owns s) (names_in Tied names Owns s) (OwnsEither Tied names Owns s) Done (numbers_of f.parts.tables named) f v after (record f { parts = (left_of u w).0 }) (left_of u w).1
+      pub streams_leave : Leaves (served c) (IsFallback c Tied names Owns s) (names_in c Tied names Owns s) (OwnsEither c Tied names Owns s) Done (numbers_of f.parts.tables named) f v after (record f { parts = (left_of u w).0 }) (left_of u w).1
       streams_leave = record {
         made = record l.made { state = with_dgrams d z };
         may = done;
@@ -94,6 +94,6 @@ module _ (b c : Conf) (s : ℕ) {S : Type 0} (t : Transport Request S stream.Ask
       }
 
     -- what holds of what the streams leave holds of what is left
-    pub leads_both : (Q : S → View → Type 0) (R : Both Tied names Owns s → View → Type 0) (o : Option (S × View)) → Leads Q o → ((u : S) (w : View) → Q u w → R (record f { parts = (left_of u w).0 }) (left_of u w).1) → Leads R (with_parts f (option_and_then (settles_stream f.server (dgram.transport for_one) t [] f.parts v) o))
+    pub leads_both : (Q : S → View → Type 0) (R : Both c Tied names Owns s → View → Type 0) (o : Option (S × View)) → Leads Q o → ((u : S) (w : View) → Q u w → R (record f { parts = (left_of u w).0 }) (left_of u w).1) → Leads R (with_parts f (option_and_then (settles_stream f.server (dgram.transport for_one) t [] f.parts v) o))
     leads_both Q R None q k = tt
     leads_both Q R (Some x) q k = k x.0 x.1 q

@@ -7,25 +7,27 @@ use Rattle.client_dgram.specs.declared.job.Stage.TheVariants as at
 use Rattle.proof_right.specs.machine.Dgrams.{Ending, Tryer, Dgrams}
 use Rattle.proof_right.specs.machine.Served.{IsSettled}
 use Rattle.proof_dgram.specs.Slots.{IsIn, place_in, timer_in, Slots, StageFits, AtQueue, AtOpening, AtSent, AreAlike}
+use Rattle.right_trace.specs.Trace.{Conf}
+use Rattle.right_trace.specs.Time.{max_places}
 
 -- nobody has a result that is to be given
-pub settled : (n : ℕ) (s : Slots) (d : Dgrams) (dues : ℕ → Option ℕ) → AreAlike n s d dues → IsSettled d
-settled n s d dues f k a held y =
+pub settled : (c : Conf) (n : ℕ) (s : Slots) (d : Dgrams) (dues : ℕ → Option ℕ) → AreAlike c n s d dues → IsSettled d
+settled c n s d dues f k a held y =
     let x = f.held k a held in
     let g = f.jobs x.0 x.1 x.2 in
     let same : g.0 ≡ a = (let z : Some g.0 ≡ Some a = sym g.1 ∙ (ap d.held x.3 ∙ held) in cc) in
     subst (λ (a : Tryer). a.stage ≢ Ending y) same (fixed x.0 x.1 g.0 g.2)
   where
-    fixed : (t : ℕ) (j : Job Request) (a : Tryer) → StageFits s d dues t j a → a.stage ≢ Ending y
+    fixed : (t : ℕ) (j : Job Request) (a : Tryer) → StageFits c s d dues t j a → a.stage ≢ Ending y
     fixed t j a (AtQueue js its_stage q fit) = λ e. cc
     fixed t j a (AtOpening p js its_stage pl at fit) = λ e. cc
     fixed t j a (AtSent p r id m js its_stage pl at tm due rq lt fit) = λ e. cc
 
 -- the machine's request of a job
-pub tryer_of : (n : ℕ) (s : Slots) (d : Dgrams) (dues : ℕ → Option ℕ) → AreAlike n s d dues → (t : ℕ) (j : Job Request) → s.jobs t ≡ Some j → (a : Tryer) × (d.held j.number ≡ Some a) × StageFits s d dues t j a
-tryer_of n s d dues f t j e = f.jobs t j e
+pub tryer_of : (c : Conf) (n : ℕ) (s : Slots) (d : Dgrams) (dues : ℕ → Option ℕ) → AreAlike c n s d dues → (t : ℕ) (j : Job Request) → s.jobs t ≡ Some j → (a : Tryer) × (d.held j.number ≡ Some a) × StageFits c s d dues t j a
+tryer_of c n s d dues f t j e = f.jobs t j e
 
-module _ (s s' : Slots) (d d' : Dgrams) (dues dues' : ℕ → Option ℕ) where
+module _ (c : Conf) (s s' : Slots) (d d' : Dgrams) (dues dues' : ℕ → Option ℕ) where
   -- ticket t of request k is where it was
   pub record SameFor (t k : ℕ) : Type 0 where
     pub held : d'.held k ≡ d.held k
@@ -33,7 +35,7 @@ module _ (s s' : Slots) (d d' : Dgrams) (dues dues' : ℕ → Option ℕ) where
     pub timers : (r : ℕ) → s.timers r ≡ Some t → (s'.timers r ≡ Some t) × (dues' r ≡ dues r)
     pub queue : IsIn t s.queue → IsIn t s'.queue
 
-  pub same_stage : (t : ℕ) (j : Job Request) (a : Tryer) → SameFor t j.number → StageFits s d dues t j a → StageFits s' d' dues' t j a
+  pub same_stage : (t : ℕ) (j : Job Request) (a : Tryer) → SameFor t j.number → StageFits c s d dues t j a → StageFits c s' d' dues' t j a
   same_stage t j a same (AtQueue js its_stage q fit) = AtQueue js its_stage (same.queue q) fit
   same_stage t j a same (AtOpening p js its_stage pl at fit) = (let z = same.places p pl in AtOpening p js its_stage z.0 (z.1 ∙ at) fit)
   same_stage t j a same (AtSent p r id m js its_stage pl at tm due rq lt fit) = (let z = same.places p pl in let y = same.timers r tm in AtSent p r id m js its_stage z.0 (z.1 ∙ at) y.0 (y.1 ∙ due) rq lt fit)
@@ -47,15 +49,15 @@ module _ (s s' : Slots) (d d' : Dgrams) (dues dues' : ℕ → Option ℕ) where
     pub queue : (u : ℕ) → (t ≡ u → ⊥) → IsIn u s'.queue → IsIn u s.queue
     pub none : (p : ℕ) → s'.places p ≡ None → d'.at p ≡ None
     pub live : d'.used ≡ s'.live
-    pub few : s'.used ≤ 100
-    pub full : (u : ℕ) → IsIn u s'.queue → s'.used ≡ 100
+    pub few : s'.used ≤ max_places c
+    pub full : (u : ℕ) → IsIn u s'.queue → s'.used ≡ max_places c
 
   -- What is known of others.
-  module _ (n t k : ℕ) (f : AreAlike n s d dues) (around : Around t k) (m : ℕ) (used : s'.used ≡ d'.used + m) where
+  module _ (n t k : ℕ) (f : AreAlike c n s d dues) (around : Around t k) (m : ℕ) (used : s'.used ≡ d'.used + m) where
     held_same : (i : ℕ) → (k ≡ i → ⊥) → d'.held i ≡ d.held i
     held_same i ne = (around.same (t + 1) i (λ e. omega arith) ne).held
 
-    other_job : (u : ℕ) (j : Job Request) → (t ≡ u → ⊥) → (k ≡ j.number → ⊥) → s'.jobs u ≡ Some j → (a : Tryer) × (d'.held j.number ≡ Some a) × StageFits s' d' dues' u j a
+    other_job : (u : ℕ) (j : Job Request) → (t ≡ u → ⊥) → (k ≡ j.number → ⊥) → s'.jobs u ≡ Some j → (a : Tryer) × (d'.held j.number ≡ Some a) × StageFits c s' d' dues' u j a
     other_job u j ne nk e =
         let g = f.jobs u j (sym (around.jobs u ne) ∙ e) in
         let same = around.same u j.number ne nk in
@@ -85,7 +87,7 @@ module _ (s s' : Slots) (d d' : Dgrams) (dues dues' : ℕ → Option ℕ) where
           let ne : t ≡ x.0 → ⊥ = λ same. nk (let z : Some j ≡ Some x.1 = sym is ∙ (ap s.jobs same ∙ x.2) in let y : j ≡ x.1 = cc in sym number ∙ (ap (λ (j : Job Request). j.number) y ∙ x.3)) in
           (x.0, x.1, around.jobs x.0 ne ∙ x.2, x.3)
 
-      pub falls_out : AreAlike m s' d' dues'
+      pub falls_out : AreAlike c m s' d' dues'
       falls_out = record {
         jobs = λ u i e. other_job u i (not_it u i e) (not_its u i e) e;
         held = still_held;
@@ -101,7 +103,7 @@ module _ (s s' : Slots) (d d' : Dgrams) (dues dues' : ℕ → Option ℕ) where
       }
 
     -- A job comes under a ticket that had none, of a request that was not held.
-    module _ (absent : s.jobs t ≡ None) (unheld : d.held k ≡ None) (j : Job Request) (is : s'.jobs t ≡ Some j) (number : j.number ≡ k) (a : Tryer) (held : d'.held k ≡ Some a) (fits : StageFits s' d' dues' t j a) (its_place : (p : ℕ) → s'.places p ≡ Some t → place_in j.stage ≡ Some p) (its_timer : (r : ℕ) → s'.timers r ≡ Some t → timer_in j.stage ≡ Some r) (its_queue : IsIn t s'.queue → j.stage ≡ at.Queued) where
+    module _ (absent : s.jobs t ≡ None) (unheld : d.held k ≡ None) (j : Job Request) (is : s'.jobs t ≡ Some j) (number : j.number ≡ k) (a : Tryer) (held : d'.held k ≡ Some a) (fits : StageFits c s' d' dues' t j a) (its_place : (p : ℕ) → s'.places p ≡ Some t → place_in j.stage ≡ Some p) (its_timer : (r : ℕ) → s'.timers r ≡ Some t → timer_in j.stage ≡ Some r) (its_queue : IsIn t s'.queue → j.stage ≡ at.Queued) where
       same_here : (u : ℕ) (i : Job Request) → t ≡ u → s'.jobs u ≡ Some i → j ≡ i
       same_here u i e at = (let z : Some j ≡ Some i = sym is ∙ (ap s'.jobs e ∙ at) in cc)
 
@@ -120,10 +122,10 @@ module _ (s s' : Slots) (d d' : Dgrams) (dues dues' : ℕ → Option ℕ) where
         | inr ne ↦ (let x = f.held i b (sym (held_same i ne) ∙ e) in let apart : t ≡ x.0 → ⊥ = λ same. (let z : None ≡ Some x.1 = sym absent ∙ (ap s.jobs same ∙ x.2) in cc) in (x.0, x.1, around.jobs x.0 apart ∙ x.2, x.3))
       ]
 
-      pub comes_in : AreAlike m s' d' dues'
+      pub comes_in : AreAlike c m s' d' dues'
       comes_in = record {
         jobs = λ u i e. elim (cases_eq t u) [
-          | inl x ↦ subst (λ (i : Job Request). (a : Tryer) × (d'.held i.number ≡ Some a) × StageFits s' d' dues' u i a) (same_here u i x e) (subst (λ u. (a : Tryer) × (d'.held j.number ≡ Some a) × StageFits s' d' dues' u j a) x (a, ap d'.held number ∙ held, fits))
+          | inl x ↦ subst (λ (i : Job Request). (a : Tryer) × (d'.held i.number ≡ Some a) × StageFits c s' d' dues' u i a) (same_here u i x e) (subst (λ u. (a : Tryer) × (d'.held j.number ≡ Some a) × StageFits c s' d' dues' u j a) x (a, ap d'.held number ∙ held, fits))
           | inr ne ↦ other_job u i ne (another u i ne e) e
         ];
         held = is_held;
@@ -139,9 +141,9 @@ module _ (s s' : Slots) (d d' : Dgrams) (dues dues' : ℕ → Option ℕ) where
       }
 
 -- one state of the machine for another that says the same
-pub alike_as : (n : ℕ) (s : Slots) (d d' : Dgrams) (dues : ℕ → Option ℕ) → ((k : ℕ) → d'.held k ≡ d.held k) → ((p : ℕ) → d'.at p ≡ d.at p) → d'.used ≡ d.used → AreAlike n s d dues → AreAlike n s d' dues
-alike_as n s d d' dues held at used f = record {
-  jobs = λ t j e. (let g = f.jobs t j e in (g.0, held j.number ∙ g.1, same_stage s s d d' dues dues t j g.0 (record { held = held j.number; places = λ p e. (e, at p); timers = λ r e. (e, refl); queue = λ i. i }) g.2));
+pub alike_as : (c : Conf) (n : ℕ) (s : Slots) (d d' : Dgrams) (dues : ℕ → Option ℕ) → ((k : ℕ) → d'.held k ≡ d.held k) → ((p : ℕ) → d'.at p ≡ d.at p) → d'.used ≡ d.used → AreAlike c n s d dues → AreAlike c n s d' dues
+alike_as c n s d d' dues held at used f = record {
+  jobs = λ t j e. (let g = f.jobs t j e in (g.0, held j.number ∙ g.1, same_stage c s s d d' dues dues t j g.0 (record { held = held j.number; places = λ p e. (e, at p); timers = λ r e. (e, refl); queue = λ i. i }) g.2));
   held = λ k a e. f.held k a (sym (held k) ∙ e);
   apart = f.apart;
   places = f.places;

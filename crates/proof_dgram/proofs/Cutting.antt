@@ -28,11 +28,12 @@ use Rattle.proof_dgram.proofs.Naming.{names_less}
 use Rattle.proof_dgram.proofs.GivingOn.{GaveOn, Nobody, Somebody, gave_on}
 use Rattle.proof_dgram.proofs.Aftermath.{after_dropped, after_then, after_opened}
 use Rattle.proof_dgram.proofs.Closing.{leads_on, IsSentAt, off_sent, apart_sent}
+use Rattle.right_trace.specs.Trace.{Conf}
 
 swap : {V : Type 0} → (k l : ℕ) (x : Option V) (g : ℕ → Option V) (i : ℕ) → (k ≡ l → ⊥) → with_at k None (with_at l x g) i ≡ with_at l x (with_at k None g) i
 swap k l x g i ne = grind (arith, nat_tests)
 
-module _ (server : ℕ) (what : What) (s : Tables Request) (d : Dgrams) (v : View) (f : AreSlots 0 s d (sight v)) (fair : IsFair v) (t p r : ℕ) (j : Job Request) (is : entry_at t s.jobs ≡ Some j) (st : j.stage ≡ at.Sent p r) (o : IsSentAt s d v t p r j) (m : Octets) (cut : truncated m ≡ true) where
+module _ (conf : Conf) (server : ℕ) (what : What) (s : Tables Request) (d : Dgrams) (v : View) (f : AreSlots conf 0 s d (sight v)) (fair : IsFair v) (t p r : ℕ) (j : Job Request) (is : entry_at t s.jobs ≡ Some j) (st : j.stage ≡ at.Sent p r) (o : IsSentAt conf s d v t p r j) (m : Octets) (cut : truncated m ≡ true) where
   abbrev k : ℕ
   k = j.number
 
@@ -52,7 +53,7 @@ module _ (server : ℕ) (what : What) (s : Tables Request) (d : Dgrams) (v : Vie
   settled_cut : (a : Tryer) → IsSettled (held a)
   settled_cut a u b e y g = elim (is_or_was k (Some (staged a Cut)) d.held u b e) [
     | inl x ↦ (let z : Some (staged a Cut) ≡ Some b = x.1 in let same : staged a Cut ≡ b = cc in let w : Cut ≡ Ending y = ap (λ (a : Tryer). a.stage) same ∙ g in cc)
-    | inr x ↦ settled 0 (slots_of s) d (λ r. due_of r v.timers.set) f.alike u b x.1 y g
+    | inr x ↦ settled conf 0 (slots_of s) d (λ r. due_of r v.timers.set) f.alike u b x.1 y g
   ]
 
   settled_tried : (a b : Tryer) (q l : ℕ) → IsSettled (try_at q l b (held a))
@@ -62,9 +63,9 @@ module _ (server : ℕ) (what : What) (s : Tables Request) (d : Dgrams) (v : Vie
   ]
 
   abbrev Cut_ : Tables Request → View → Type 0
-  Cut_ u w = HasTold server what s d v u w
+  Cut_ u w = HasTold conf server what s d v u w
 
-  behind : (a : Tryer) → d.held k ≡ Some a → IsOfOctets a.request → Meets v.now d what (multi.Puts (Close p)) (held a) → AreSlots 1 (leaves p t r s) (forget k (held a)) (sight v1) → KeepsApart s d v (leaves p t r s) (forget k (held a)) v1 → (u : Tables Request) (w : View) → GaveOn server (leaves p t r s) (forget k (held a)) v1 u w → Cut_ u w
+  behind : (a : Tryer) → d.held k ≡ Some a → IsOfOctets a.request → Meets conf v.now d what (multi.Puts (Close p)) (held a) → AreSlots conf 1 (leaves p t r s) (forget k (held a)) (sight v1) → KeepsApart s d v (leaves p t r s) (forget k (held a)) v1 → (u : Tables Request) (w : View) → GaveOn conf server (leaves p t r s) (forget k (held a)) v1 u w → Cut_ u w
   behind a is_held octets meets slots1 apart u w (Nobody jobs timers same slots) = Cuts (record {
     ticket = t;
     request = k;
@@ -84,7 +85,7 @@ module _ (server : ℕ) (what : What) (s : Tables Request) (d : Dgrams) (v : Vie
     leaves = record {
       outs = ap (λ (w : View). w.outs) same;
       place = ap (λ (w : View). w.place) same;
-      slots = subst (λ (w : View). AreSlots 0 u (forget k (held a)) (sight w)) (sym same) slots;
+      slots = subst (λ (w : View). AreSlots conf 0 u (forget k (held a)) (sight w)) (sym same) slots;
       after = subst (IsAfter v) (sym same) after;
       apart = subst (KeepsApart s d v u (forget k (held a))) (sym same) (record { owned = λ i x. apart.owned i (subst (λ ts. (n : ℕ) × (entry_at i ts ≡ Some n)) timers x); others = apart.others; places = apart.places });
     };
@@ -114,7 +115,7 @@ module _ (server : ℕ) (what : What) (s : Tables Request) (d : Dgrams) (v : Vie
         leaves = record {
           outs = ap (λ (w : View). w.outs) same ∙ append_assoc v.outs (Close p ∷ []) (OpenDgram q server ∷ []);
           place = ap (λ (w : View). w.place) same ∙ one_more q;
-          slots = subst (λ (w : View). AreSlots 0 u (forget k e) (sight w)) (sym same) (record { alike = alike_as 0 _ (try_at q l b (forget k (held a))) (forget k e) _ (λ i. swap k l (Some (staged b (Trying q))) (held a).held i was.0) (λ i. refl) refl slots.alike; jobs = slots.jobs; places = slots.places; timers = slots.timers; queue = slots.queue });
+          slots = subst (λ (w : View). AreSlots conf 0 u (forget k e) (sight w)) (sym same) (record { alike = alike_as conf 0 _ (try_at q l b (forget k (held a))) (forget k e) _ (λ i. swap k l (Some (staged b (Trying q))) (held a).held i was.0) (λ i. refl) refl slots.alike; jobs = slots.jobs; places = slots.places; timers = slots.timers; queue = slots.queue });
           after = after_then v v1 w after (subst (IsAfter v1) (sym same) (after_opened server v1 after.fair));
           apart = subst (KeepsApart s d v u (forget k e)) (sym same) (record { owned = λ i x. apart.owned i (subst (λ ts. (n : ℕ) × (entry_at i ts ≡ Some n)) timers x); others = apart.others; places = λ i n x. elim (is_or_was q (Some l) (held a).at i n x) [ inl y ↦ inr (subst (λ i. q ≤ i) y.0 (le_refl q)) | inr y ↦ apart.places i n y.1 ] });
         };
@@ -125,9 +126,9 @@ module _ (server : ℕ) (what : What) (s : Tables Request) (d : Dgrams) (v : Vie
       one_more : (a : ℕ) → a + 1 ≡ suc a
       one_more a = omega arith
 
-  pub cuts : Meets v.now d what (multi.Puts (Close p)) (leave p k o.tryer Cut d) → Leads (HasTold server what s d v) (finishes server t (Ok (Some m)) (leaves p t r s) (closes p r v))
+  pub cuts : Meets conf v.now d what (multi.Puts (Close p)) (leave p k o.tryer Cut d) → Leads (HasTold conf server what s d v) (finishes server t (Ok (Some m)) (leaves p t r s) (closes p r v))
   cuts meets =
-      let slots1 = off_sent s d v f fair t p j is r st o.tryer Cut in
-      leads_on (GaveOn server (leaves p t r s) (forget k (held o.tryer)) v1) (HasTold server what s d v) (gives_on server (leaves p t r s) v1)
-      (behind o.tryer o.held o.job.octets meets slots1 (apart_sent s d v f fair t p j is r st o.tryer Cut (leaves p t r s) v1 refl refl))
-      (gave_on server (leaves p t r s) (forget k (held o.tryer)) v1 slots1 after.fair)
+      let slots1 = off_sent conf s d v f fair t p j is r st o.tryer Cut in
+      leads_on (GaveOn conf server (leaves p t r s) (forget k (held o.tryer)) v1) (HasTold conf server what s d v) (gives_on server (leaves p t r s) v1)
+      (behind o.tryer o.held o.job.octets meets slots1 (apart_sent conf s d v f fair t p j is r st o.tryer Cut (leaves p t r s) v1 refl refl))
+      (gave_on conf server (leaves p t r s) (forget k (held o.tryer)) v1 slots1 after.fair)

@@ -38,20 +38,20 @@ is_neither a p none = (let n = neither (is_some (a.server.by_dgram.at p)) (has_p
 same_place : (w : What) (p q : ℕ) → place_in w ≡ Some p → place_in w ≡ Some q → p ≡ q
 same_place w p q one two = (let z : Some p ≡ Some q = sym one ∙ two in cc)
 
-module _ (b c : Conf) (s : ℕ) {S : Type 0} (t : Transport Request S stream.Asked) (first : S) (Tied : Phase → S → Sight → Served → Type 0) (names : S → ℕ → Option ℕ) (Owns : S → (timer : ℕ) → Type 0) (y : AreStreams b s t first Tied names Owns) where
+module _ (b c : Conf) (same_transports : b.transports ≡ c.transports) (s : ℕ) {S : Type 0} (t : Transport Request S stream.Asked) (first : S) (Tied : Phase → S → Sight → Served → Type 0) (names : S → ℕ → Option ℕ) (Owns : S → (timer : ℕ) → Type 0) (y : AreStreams b s t first Tied names Owns) where
   abbrev Two : Type 0
-  Two = Both Tied names Owns s
+  Two = Both c Tied names Owns s
 
   abbrev Falls : Phase → Two → Sight → Served → Type 0
-  Falls phase f x a = IsFallback Tied names Owns s phase f x a
+  Falls phase f x a = IsFallback c Tied names Owns s phase f x a
 
   abbrev alone : Served → Served
   alone a = with_dgrams no_datagram a
 
-  knows : (f : Two) (i : ℕ) → OwnsEither Tied names Owns s f i ⊎ (OwnsEither Tied names Owns s f i → ⊥)
+  knows : (f : Two) (i : ℕ) → OwnsEither c Tied names Owns s f i ⊎ (OwnsEither c Tied names Owns s f i → ⊥)
   knows f i = by (entry_at i f.parts.dgram.tables.timers) refl
     where
-      by : (o : Option ℕ) → entry_at i f.parts.dgram.tables.timers ≡ o → OwnsEither Tied names Owns s f i ⊎ (OwnsEither Tied names Owns s f i → ⊥)
+      by : (o : Option ℕ) → entry_at i f.parts.dgram.tables.timers ≡ o → OwnsEither c Tied names Owns s f i ⊎ (OwnsEither c Tied names Owns s f i → ⊥)
       by (Some k) e = inl (inl (k, e))
       by None e = elim (y.shared.knows f.parts.stream i) [
         | inl own ↦ inl (inr own)
@@ -64,7 +64,7 @@ module _ (b c : Conf) (s : ℕ) {S : Type 0} (t : Transport Request S stream.Ask
       ap (λ o. with_parts f (option_and_then (hears_stream f.server (dgram.transport for_one) t h f.parts v) (dgram.with_tables f.parts.dgram o))) none
       ∙ ap (λ o. with_parts f (option_and_then (settles_stream f.server (dgram.transport for_one) t [] f.parts v) o)) same
 
-  timers : (phase : Phase) (f : Two) (v : View) (a : Served) (i : ℕ) → Falls phase f (sight v) a → (OwnsEither Tied names Owns s f i → ⊥) → (fallback.transport (dgram.transport for_one) t).step (due_timer i) f v ≡ Some (f, v)
+  timers : (phase : Phase) (f : Two) (v : View) (a : Served) (i : ℕ) → Falls phase f (sight v) a → (OwnsEither c Tied names Owns s f i → ⊥) → (fallback.transport (dgram.transport for_one) t).step (due_timer i) f v ≡ Some (f, v)
   timers phase f v a i g free = nothing_heard f v (due_timer i)
       (late_passes f.parts.dgram.server i f.parts.dgram.tables (onto [] v) (none_if (entry_at i f.parts.dgram.tables.timers) (λ k e. free (inl (k, e)))))
       (y.shared.timers phase f.parts.stream (onto [] v) (alone a) i g.streams (λ own. free (inr own)))
@@ -73,10 +73,10 @@ module _ (b c : Conf) (s : ℕ) {S : Type 0} (t : Transport Request S stream.Ask
   ignores f v a w p g at none =
       let n = is_neither a p none in
       nothing_heard f v (told w)
-      (tells_nothing f.parts.dgram.server f.parts.dgram.settings f.parts.dgram.tables (onto [] v) w (λ q e. subst (λ q. entry_at q f.parts.dgram.tables.places ≡ None) (same_place w p q at e) (absent f.parts.dgram.tables a.server.by_dgram (sight v) g.slots p n.dgram)))
+      (tells_nothing f.parts.dgram.server f.parts.dgram.settings f.parts.dgram.tables (onto [] v) w (λ q e. subst (λ q. entry_at q f.parts.dgram.tables.places ≡ None) (same_place w p q at e) (absent c f.parts.dgram.tables a.server.by_dgram (sight v) g.slots p n.dgram)))
       (y.shared.ignores f.parts.stream (onto [] v) (alone a) w p g.streams at n.stream)
 
-  passes : (f : Two) (x : Sight) (a : Served) (w : What) (p : ℕ) → Falls (Untold w) f x a → place_in w ≡ Some p → has_place a p ≡ false → NoneDue (OwnsEither Tied names Owns s f) x → Falls (Passed w) f x a
+  passes : (f : Two) (x : Sight) (a : Served) (w : What) (p : ℕ) → Falls (Untold w) f x a → place_in w ≡ Some p → has_place a p ≡ false → NoneDue (OwnsEither c Tied names Owns s f) x → Falls (Passed w) f x a
   passes f x a w p g at none early =
       let n = is_neither a p none in
       record {
@@ -89,7 +89,7 @@ module _ (b c : Conf) (s : ℕ) {S : Type 0} (t : Transport Request S stream.Ask
         timers = g.timers;
         places = g.places;
         apart = g.apart;
-        over = nobody_there w a.server.by_dgram (λ q e. subst (λ q. a.server.by_dgram.at q ≡ None) (same_place w p q at e) n.dgram);
+        over = nobody_there c w a.server.by_dgram (λ q e. subst (λ q. a.server.by_dgram.at q ≡ None) (same_place w p q at e) n.dgram);
         quiet = λ told i due own e. early i due (inl own) e;
       }
 
@@ -113,7 +113,7 @@ module _ (b c : Conf) (s : ℕ) {S : Type 0} (t : Transport Request S stream.Ask
       where
         by : (x : Bool) → Leads (λ g x. IsQuiet v x) (with_parts f (option_and_then (fallback.takes_at f.server (dgram.transport for_one) t v.ticket r f.parts) (if x then Some v1 else None)))
         by false = tt
-        by true = leads_dgrams b c s t first Tied names Owns y f1 v1 (λ z q. IsQuiet (onto [] v1) q) (λ g x. IsQuiet v x) (dgram.takes for_one f.parts.dgram.server f.parts.dgram.settings r f.parts.dgram.tables (onto [] v1))
+        by true = leads_dgrams b c same_transports s t first Tied names Owns y f1 v1 (λ z q. IsQuiet (onto [] v1) q) (λ g x. IsQuiet v x) (dgram.takes for_one f.parts.dgram.server f.parts.dgram.settings r f.parts.dgram.tables (onto [] v1))
             (takes_quietly f.parts.dgram.server (onto [] v1) f.parts.dgram.settings f.parts.dgram.tables r) (settled f1 v1)
 
     sent : (w : Two) (x : View) → (fallback.transport (dgram.transport for_one) t).send r f v ≡ Some (w, x) → IsQuiet v x
@@ -137,14 +137,14 @@ module _ (b c : Conf) (s : ℕ) {S : Type 0} (t : Transport Request S stream.Ask
 
     at_job : (o : Option (Job Request dgram.Asked stream.Asked)) → Keeps (with_parts f (fallback.drops_at f.server (dgram.transport for_one) t fewer.parts v o))
     at_job None = refl
-    at_job (Some (Dgram lower k r z)) = leads_more _ (leads_dgrams b c s t first Tied names Owns y fewer v (λ z q. IsQuiet (onto [] v) q) (λ h x. IsQuiet v x) (dgram.drops f.parts.dgram.server z.ticket f.parts.dgram.tables (onto [] v))
+    at_job (Some (Dgram lower k r z)) = leads_more _ (leads_dgrams b c same_transports s t first Tied names Owns y fewer v (λ z q. IsQuiet (onto [] v) q) (λ h x. IsQuiet v x) (dgram.drops f.parts.dgram.server z.ticket f.parts.dgram.tables (onto [] v))
         (drops_quietly f.parts.dgram.server (onto [] v) z.ticket f.parts.dgram.tables) (settled fewer v))
     at_job (Some (Stream lower z)) = by_stream z (t.cancel z f.parts.stream (onto [] v)) refl
 
     given_up : (w : Two) (x : View) → with_parts f (fallback.drops f.server (dgram.transport for_one) t i f.parts v) ≡ Some (w, x) → x.more ≡ v.more
     given_up w x e = subst Keeps e (at_job (entry_at i f.parts.tables.jobs))
 
-  pub fallback_is_shared : IsShared (served c) has_place (fallback.transport (dgram.transport for_one) t) (λ phase f x a. IsFallback Tied names Owns s phase f x a) (OwnsEither Tied names Owns s)
+  pub fallback_is_shared : IsShared (served c) has_place (fallback.transport (dgram.transport for_one) t) (λ phase f x a. IsFallback c Tied names Owns s phase f x a) (OwnsEither c Tied names Owns s)
   fallback_is_shared = record {
     knows = knows;
     timers = timers;

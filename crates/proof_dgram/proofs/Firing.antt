@@ -14,7 +14,7 @@ use Rattle.client_dgram.specs.declared.job.Job.{Job}
 use Rattle.client_dgram.specs.declared.job.Stage.{Stage}
 use Rattle.client_dgram.specs.declared.job.Stage.TheVariants as at
 use Rattle.right_trace.specs.Messages.{Octets}
-use Rattle.right_trace.specs.Time.{read_timeout}
+use Rattle.right_trace.specs.Time.{read_timeout, max_places, max_tries}
 use Rattle.proof_right.specs.machine.Streams as multi
 use Rattle.right_trace.specs.Updates.{with_at}
 use Rattle.proof_right.specs.machine.Dgrams as dgrams
@@ -34,11 +34,13 @@ use Rattle.proof_dgram.proofs.Tabling.{leaves_sent}
 use Rattle.proof_dgram.proofs.Coming.{comes_at}
 use Rattle.proof_dgram.proofs.Aftermath.{after_itself, after_fair, goes_on}
 use Rattle.proof_dgram.proofs.Closing.{leads_on, IsSentAt, sent_at, off_sent, apart_sent, one_post}
+use Rattle.right_trace.specs.Trace.{Conf}
+use Rattle.proof_right.proofs.Received.{places_on}
 
 -- timers of others don't matter
-pub dues_as : (n : ℕ) (s : Tables Request) (d : Dgrams) (dues dues' : ℕ → Option ℕ) → AreAlike n (slots_of s) d dues → ((r u : ℕ) → entry_at r s.timers ≡ Some u → dues' r ≡ dues r) → AreAlike n (slots_of s) d dues'
-dues_as n s d dues dues' f same = record {
-  jobs = λ t j e. (let g = f.jobs t j e in (g.0, g.1, same_stage (slots_of s) (slots_of s) d d dues dues' t j g.0 (record { held = refl; places = λ p e. (e, refl); timers = λ r e. (e, same r t e); queue = λ i. i }) g.2));
+pub dues_as : (c : Conf) (n : ℕ) (s : Tables Request) (d : Dgrams) (dues dues' : ℕ → Option ℕ) → AreAlike c n (slots_of s) d dues → ((r u : ℕ) → entry_at r s.timers ≡ Some u → dues' r ≡ dues r) → AreAlike c n (slots_of s) d dues'
+dues_as c n s d dues dues' f same = record {
+  jobs = λ t j e. (let g = f.jobs t j e in (g.0, g.1, same_stage c (slots_of s) (slots_of s) d d dues dues' t j g.0 (record { held = refl; places = λ p e. (e, refl); timers = λ r e. (e, same r t e); queue = λ i. i }) g.2));
   held = f.held;
   apart = f.apart;
   places = f.places;
@@ -51,13 +53,21 @@ dues_as n s d dues dues' f same = record {
   full = f.full;
 }
 
-module _ (server : ℕ) (s : Tables Request) (d : Dgrams) (v : View) (i due : ℕ) (f : AreSlots 0 s d (sight v)) (fair : IsFair v) (set : due_of i v.timers.set ≡ Some due) (is_due : due ≤ v.now) where
+none_left : (c : Conf) (a b : ℕ) → a + b ≡ suc c.transports.dgram_max_retries → b ≡ 0 → max_tries c ≤ a
+unfolding max_tries
+none_left c a b e z = omega arith
+
+some_left : (c : Conf) (a b l : ℕ) → a + b ≡ suc c.transports.dgram_max_retries → b ≡ suc l → (a < max_tries c) × (a + l ≡ c.transports.dgram_max_retries)
+unfolding max_tries
+some_left c a b l e z = (omega arith, omega arith)
+
+module _ (c : Conf) (server : ℕ) (s : Tables Request) (d : Dgrams) (v : View) (i due : ℕ) (f : AreSlots c 0 s d (sight v)) (fair : IsFair v) (set : due_of i v.timers.set ≡ Some due) (is_due : due ≤ v.now) where
   -- the view without the timer that fires
   abbrev vc : View
   vc = record v { timers = cancelled i v.timers }
 
   abbrev Fires : Option (Tables Request × View) → Type 0
-  Fires o = Leads (HasFired server s d vc) o
+  Fires o = Leads (HasFired c server s d vc) o
 
   fair_c : IsFair vc
   fair_c = record { order = order_without i 0 v.timers.next v.timers.set fair.order; words = fair.words }
@@ -67,13 +77,13 @@ module _ (server : ℕ) (s : Tables Request) (d : Dgrams) (v : View) (i due : �
 
   -- it is of another
   passes : entry_at i s.timers ≡ None → Fires (Some (record s { timers = frees i s.timers }, vc))
-  passes none = subst (λ ts. HasFired server s d vc (record s { timers = ts }) vc) (sym (frees_nothing i s.timers none)) (record {
+  passes none = subst (λ ts. HasFired c server s d vc (record s { timers = ts }) vc) (sym (frees_nothing i s.timers none)) (record {
     made = still v.place d;
     steps = Rests v.place d;
     leaves = record {
       outs = sym (append-nil v.outs);
       place = refl;
-      slots = record { alike = dues_as 0 s d (λ r. due_of r v.timers.set) (λ r. due_of r vc.timers.set) f.alike (λ r u e. elsewhere r (λ same. (let z : None ≡ Some u = sym none ∙ (ap (λ r. entry_at r s.timers) same ∙ e) in cc))); jobs = f.jobs; places = f.places; timers = f.timers; queue = f.queue };
+      slots = record { alike = dues_as c 0 s d (λ r. due_of r v.timers.set) (λ r. due_of r vc.timers.set) f.alike (λ r u e. elsewhere r (λ same. (let z : None ≡ Some u = sym none ∙ (ap (λ r. entry_at r s.timers) same ∙ e) in cc))); jobs = f.jobs; places = f.places; timers = f.timers; queue = f.queue };
       after = after_itself vc fair_c;
       apart = record { owned = λ r o. inl o; others = λ r due none e. e; places = λ p k e. inl (k, e) };
     };
@@ -81,11 +91,11 @@ module _ (server : ℕ) (s : Tables Request) (d : Dgrams) (v : View) (i due : �
   })
 
   module _ (t p : ℕ) (j : Job Request) (its : entry_at i s.timers ≡ Some t) (is : entry_at t s.jobs ≡ Some j) (st : j.stage ≡ at.Sent p i) where
-    sent : IsSentAt s d v t p i j
-    sent = sent_at 0 s d v f t j is p i st
+    sent : IsSentAt c s d v t p i j
+    sent = sent_at c 0 s d v f t j is p i st
 
-    late_now : sent.moment + read_timeout ≤ v.now
-    late_now = (let z : Some (sent.moment + read_timeout) ≡ Some due = sym sent.due ∙ set in let same : sent.moment + read_timeout ≡ due = cc in subst (λ n. n ≤ v.now) (sym same) is_due)
+    late_now : sent.moment + read_timeout c ≤ v.now
+    late_now = (let z : Some (sent.moment + read_timeout c) ≡ Some due = sym sent.due ∙ set in let same : sent.moment + read_timeout c ≡ due = cc in subst (λ n. n ≤ v.now) (sym same) is_due)
 
     named : names_of s t ≡ Some j.number
     named = ap (λ o. option_map (λ (j : Job Request). j.number) o) is
@@ -95,13 +105,7 @@ module _ (server : ℕ) (s : Tables Request) (d : Dgrams) (v : View) (i due : �
 
     -- its own timer was taken out
     apart_c : (e : Tryer) (stage : dgrams.Stage) (s1 : Tables Request) (w : View) → s1.timers ≡ frees i s.timers → w.timers ≡ vc.timers → KeepsApart s d vc s1 (forget j.number (leave p j.number e stage d)) w
-    apart_c e stage s1 w timers same = (let a = apart_sent s d v f fair t p j is i st e stage s1 w timers same in record { owned = a.owned; others = λ r due none e. ap (λ (ts : _). due_of r ts.set) same ∙ e; places = a.places })
-
-    six : (a b : ℕ) → a + b ≡ 6 → b ≡ 0 → 6 ≤ a
-    six a b e z = omega arith
-
-    five : (a b l : ℕ) → a + b ≡ 6 → b ≡ suc l → (a < 6) × (a + l ≡ 5)
-    five a b l e z = (omega arith, omega arith)
+    apart_c e stage s1 w timers same = (let a = apart_sent c s d v f fair t p j is i st e stage s1 w timers same in record { owned = a.owned; others = λ r due none e. ap (λ (ts : _). due_of r ts.set) same ∙ e; places = a.places })
 
     -- it was the last try
     last : j.left ≡ zero → Fires (gives_on server tables (answers t (Err (errors.Dgram query.Timeout)) (asks (Close p) vc)))
@@ -109,14 +113,14 @@ module _ (server : ℕ) (s : Tables Request) (d : Dgrams) (v : View) (i due : �
         let y : Result Octets Error = Err (errors.Dgram query.Timeout) in
         let a = sent.tryer in
         let v1 : View = answers t (Err (errors.Dgram query.Timeout)) (asks (Close p) vc) in
-        leads_on _ (HasFired server s d vc) (gives_on server tables v1)
+        leads_on _ (HasFired c server s d vc) (gives_on server tables v1)
         (λ u w g. record {
           made = then_act (record { state = forget j.number (leave p j.number a (Ending y) d); place = v.place; outs = Close p ∷ []; posts = record { request = j.number; result = y } ∷ [] }) g.made;
-          steps = Steps_on v.place d (multi.Puts (Close p)) (leave p j.number a (Ending y) d) _ g.made (dgrams.StopsTrying j.number a p sent.id sent.moment sent.held sent.stage late_now (six a.tries j.left sent.job.left left)) (WithResult j.number (staged a (Ending y)) y (with_here j.number (Some (staged a (Ending y))) d.held) refl) g.steps;
+          steps = Steps_on v.place d (multi.Puts (Close p)) (leave p j.number a (Ending y) d) _ g.made (dgrams.StopsTrying j.number a p sent.id sent.moment sent.held sent.stage late_now (none_left c a.tries j.left sent.job.left left)) (WithResult j.number (staged a (Ending y)) y (with_here j.number (Some (staged a (Ending y))) d.held) refl) g.steps;
           leaves = g.leaves;
-          posts = one_post server s d vc _ tables v1 u w t j.number y named refl refl (names_less t v.ticket s.jobs f.jobs) g;
+          posts = one_post c server s d vc _ tables v1 u w t j.number y named refl refl (names_less t v.ticket s.jobs f.jobs) g;
         })
-        (goes_on server s d vc (forget j.number (leave p j.number a (Ending y) d)) (Close p ∷ []) (record { request = j.number; result = y } ∷ []) tables v1 (off_sent s d v f fair t p j is i st a (Ending y)) refl
+        (goes_on c server s d vc (forget j.number (leave p j.number a (Ending y) d)) (Close p ∷ []) (record { request = j.number; result = y } ∷ []) tables v1 (off_sent c s d v f fair t p j is i st a (Ending y)) refl
         (after_fair vc fair_c v1 refl refl refl refl refl refl fair.words) (apart_c a (Ending y) tables v1 refl refl))
 
     -- the next try opens a place
@@ -129,14 +133,14 @@ module _ (server : ℕ) (s : Tables Request) (d : Dgrams) (v : View) (i due : �
         let again : Job Request = record j { left = l } in
         let d1 : Dgrams = leave p k a Queued d in
         let e : Dgrams = try_at q k (staged a Queued) d1 in
-        let some = five a.tries j.left l sent.job.left left in
-        let out = leaves_sent 0 s d v f fair t p i j is st sent.here sent.timer in
-        let inn = comes_at 0 tables (gone p k d) vc out t k again (staged a Queued) (at_frees t t 0 v.ticket s.jobs f.jobs ∙ with_here t None (λ u. entry_at u s.jobs)) (present_below t 0 v.ticket j s.jobs f.jobs is) (with_here k None d.held) refl (record { request = sent.job.request; octets = sent.job.octets; left = some.1 }) in
-        let alike = alike_as 0 _ (come q k (staged (staged a Queued) (Trying q)) (gone p k d)) e _ (λ r. with_again k (Some (staged a (Trying q))) (Some (staged a Queued)) d.held r ∙ sym (with_again k (Some (staged a (Trying q))) None d.held r)) (λ r. refl) refl inn.alike in
+        let some = some_left c a.tries j.left l sent.job.left left in
+        let out = leaves_sent c 0 s d v f fair t p i j is st sent.here sent.timer in
+        let inn = comes_at c 0 tables (gone p k d) vc out t k again (staged a Queued) (at_frees t t 0 v.ticket s.jobs f.jobs ∙ with_here t None (λ u. entry_at u s.jobs)) (present_below t 0 v.ticket j s.jobs f.jobs is) (with_here k None d.held) refl (record { request = sent.job.request; octets = sent.job.octets; left = some.1 }) in
+        let alike = alike_as c 0 _ (come q k (staged (staged a Queued) (Trying q)) (gone p k d)) e _ (λ r. with_again k (Some (staged a (Trying q))) (Some (staged a Queued)) d.held r ∙ sym (with_again k (Some (staged a (Trying q))) None d.held r)) (λ r. refl) refl inn.alike in
         record {
           made = then_act (made_by q (multi.Puts (Close p)) d1) (then_act (made_by q (multi.Puts (OpenDgram q server)) e) (still (suc q) e));
           steps = Steps_on q d (multi.Puts (Close p)) d1 _ _ (dgrams.Retries k a p sent.id sent.moment sent.held sent.stage late_now some.0) (AsItIs between)
-              (Steps_on q d1 (multi.Puts (OpenDgram q server)) e _ _ (dgrams.Opens k (staged a Queued) (with_here k (Some (staged a Queued)) d.held) refl free) (AsItIs (settled 0 _ e _ alike)) (Rests (suc q) e));
+              (Steps_on q d1 (multi.Puts (OpenDgram q server)) e _ _ (dgrams.Opens k (staged a Queued) (with_here k (Some (staged a Queued)) d.held) refl free) (AsItIs (settled c 0 _ e _ alike)) (Rests (suc q) e));
           leaves = record {
             outs = append_assoc v.outs (Close p ∷ []) (OpenDgram q server ∷ []);
             place = one_more q;
@@ -157,16 +161,16 @@ module _ (server : ℕ) (s : Tables Request) (d : Dgrams) (v : View) (i due : �
         over : (a : ℕ) → a ≤ a + 1
         over a = omega arith
 
-        few : (a b : ℕ) → a ≡ b + 0 → a ≤ 100 → b - 1 < 100
-        few a b e le = omega arith
+        few : (a b n : ℕ) → 0 < n → a ≡ b + 0 → a ≤ n → b - 1 < n
+        few a b n pos e le = omega arith
 
-        free : d.used - 1 < 100
-        free = few s.used d.used f.alike.used f.alike.few
+        free : d.used - 1 < max_places c
+        free = few s.used d.used (max_places c) (places_on c) f.alike.used f.alike.few
 
         between : (u : ℕ) (b : Tryer) → with_at j.number (Some (staged sent.tryer Queued)) d.held u ≡ Some b → (y : Result Octets Error) → b.stage ≡ Ending y → ⊥
         between u b e y g = elim (is_or_was j.number (Some (staged sent.tryer Queued)) d.held u b e) [
           | inl x ↦ (let z : Some (staged sent.tryer Queued) ≡ Some b = x.1 in let same : staged sent.tryer Queued ≡ b = cc in let w : Queued ≡ Ending y = ap (λ (a : Tryer). a.stage) same ∙ g in cc)
-          | inr x ↦ settled 0 (slots_of s) d (λ r. due_of r v.timers.set) f.alike u b x.1 y g
+          | inr x ↦ settled c 0 (slots_of s) d (λ r. due_of r v.timers.set) f.alike u b x.1 y g
         ]
 
     tries_left : (l : ℕ) → j.left ≡ l → Fires (again server t j tables (asks (Close p) vc) l)

@@ -1,9 +1,10 @@
 -- A server that nothing was asked of.
 use Rattle.std.proofs.Common.{refl, arith}
 use Rattle.proof_dgram.specs.Slots.{FreshIsAlike}
+use Rattle.right_trace.specs.Trace.{Conf}
 
-pub fresh_is_alike : FreshIsAlike
-fresh_is_alike x = record {
+pub fresh_is_alike : (c : Conf) → FreshIsAlike c
+fresh_is_alike c x = record {
   alike = record {
     jobs = λ t j e. absurd (cc);
     held = λ k a e. absurd (cc);

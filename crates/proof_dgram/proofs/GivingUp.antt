@@ -65,22 +65,22 @@ pub leads_first : {U : Type 0} (P Q : U → View → Type 0) (o : Option (U × V
 leads_first P Q None l = tt
 leads_first P Q (Some x) l = l.0
 
-module _ (b c : Conf) (s : ℕ) {S : Type 0} (t : Transport Request S stream.Asked) (first : S) (Tied : Phase → S → Sight → Served → Type 0) (names : S → ℕ → Option ℕ) (Owns : S → (timer : ℕ) → Type 0) (y : AreStreams b s t first Tied names Owns) where
+module _ (b c : Conf) (same_transports : b.transports ≡ c.transports) (s : ℕ) {S : Type 0} (t : Transport Request S stream.Asked) (first : S) (Tied : Phase → S → Sight → Served → Type 0) (names : S → ℕ → Option ℕ) (Owns : S → (timer : ℕ) → Type 0) (y : AreStreams b s t first Tied names Owns) where
   abbrev Two : Type 0
-  Two = Both Tied names Owns s
+  Two = Both c Tied names Owns s
 
   abbrev Falls : Phase → Two → Sight → Served → Type 0
-  Falls phase f x a = IsFallback Tied names Owns s phase f x a
+  Falls phase f x a = IsFallback c Tied names Owns s phase f x a
 
   abbrev Left : (Act Served → Type 0) → (ℕ → Option ℕ) → Two → View → Phase → Two → View → Type 0
-  Left Done named f v phase = Leaves (served c) (IsFallback Tied names Owns s) (names_in Tied names Owns s) (OwnsEither Tied names Owns s) Done named f v phase
+  Left Done named f v phase = Leaves (served c) (IsFallback c Tied names Owns s) (names_in c Tied names Owns s) (OwnsEither c Tied names Owns s) Done named f v phase
 
   -- what is left of other tables, and is named otherwise, is left as well
   abbrev pub with_others : Tables Request dgram.Asked stream.Asked → Two → Two
   with_others ts f = record f { parts = with_tables ts f.parts }
 
   pub renamed : (Done : Act Served → Type 0) (m n : ℕ → Option ℕ) (ts : Tables Request dgram.Asked stream.Asked) (f : Two) (v : View) (phase : Phase) (g : Two) (x : View) → ((i : ℕ) → m i ≡ n i) → Left Done m (with_others ts f) v phase g x → Left Done n f v phase g x
-  renamed Done m n ts f v phase g x same l = record { made = l.made; may = l.may; outs = l.outs; place = l.place; board = l.board; put = l.put; gives = gives_as m n (names_in Tied names Owns s g) l.board l.made.posts same l.gives; tied = l.tied; goes_on = l.goes_on; owned = l.owned; others = l.others }
+  renamed Done m n ts f v phase g x same l = record { made = l.made; may = l.may; outs = l.outs; place = l.place; board = l.board; put = l.put; gives = gives_as m n (names_in c Tied names Owns s g) l.board l.made.posts same l.gives; tied = l.tied; goes_on = l.goes_on; owned = l.owned; others = l.others }
 
   pub leads_renamed : (Done : Act Served → Type 0) (m n : ℕ → Option ℕ) (ts : Tables Request dgram.Asked stream.Asked) (f : Two) (v : View) (phase : Phase) (o : Option (Two × View)) → ((i : ℕ) → m i ≡ n i) → Leads (Left Done m (with_others ts f) v phase) o → Leads (Left Done n f v phase) o
   leads_renamed Done m n ts f v phase None same l = tt
@@ -92,7 +92,7 @@ module _ (b c : Conf) (s : ℕ) {S : Type 0} (t : Transport Request S stream.Ask
   leads_dgrams f v Q R None q k = tt
   leads_dgrams f v Q R (Some x) q k = k x.0 x.1 q
 
-  module _ (phase : Phase) (f : Two) (v : View) (a : Served) (i k : ℕ) (may : IsOpen phase v.place) (g : Falls phase f (sight v) a) (fair : IsFair v) (named : names_in Tied names Owns s f i ≡ Some k) where
+  module _ (phase : Phase) (f : Two) (v : View) (a : Served) (i k : ℕ) (may : IsOpen phase v.place) (g : Falls phase f (sight v) a) (fair : IsFair v) (named : names_in c Tied names Owns s f i ≡ Some k) where
     abbrev Done : Act Served → Type 0
     Done e = Begins (Cancels s v.place k a) (Chain (served c) s) e × (e.posts ≡ [])
 
@@ -112,7 +112,7 @@ module _ (b c : Conf) (s : ℕ) {S : Type 0} (t : Transport Request S stream.Ask
     clock = y.clock phase f.parts.stream (sight v) alone g.streams
 
     abbrev Goal : Option (Two × View) → Type 0
-    Goal = Leads (Left Done (with_at i None (names_in Tied names Owns s f)) f v phase)
+    Goal = Leads (Left Done (with_at i None (names_in c Tied names Owns s f)) f v phase)
 
     -- the event that was not taken
     abbrev event : (w : What) × (pending_in phase ≡ Some w)
@@ -123,26 +123,26 @@ module _ (b c : Conf) (s : ℕ) {S : Type 0} (t : Transport Request S stream.Ask
       abbrev less : AreWaiting ticket_at (without i f.parts.tables) d (with_at lower None (names_of f.parts.dgram.tables)) (names f.parts.stream) v.ticket × ((u : ℕ) → numbers_of (without i f.parts.tables) (names f.parts.stream) u ≡ with_at i None (numbers_of f.parts.tables (names f.parts.stream)) u)
       less = tables_change.less f.parts.tables d (names_of f.parts.dgram.tables) (names f.parts.stream) v.ticket i lower k r z g.waiting is
 
-      dgram_done : (e m : Act Dgrams) → calls.LetsGo k v.place d e → Steps s v.now e.place e.state m → (then_act e m).posts ≡ [] → Done (record { state = with_dgrams m.state a; place = m.place; outs = (then_act e m).outs; posts = (then_act e m).posts })
-      dgram_done e m lets steps none = (Calls (at_server a with_dgrams e) (at_server (with_dgrams e.state a) with_dgrams m) (servers_move.lets_go s v.place k a e lets) (servers_move.steps c s e.place (with_dgrams e.state a) m (subst (λ n. Steps s n e.place e.state m) (sym clock) steps)), none)
+      dgram_done : (e m : Act Dgrams) → calls.LetsGo k v.place d e → Steps c s v.now e.place e.state m → (then_act e m).posts ≡ [] → Done (record { state = with_dgrams m.state a; place = m.place; outs = (then_act e m).outs; posts = (then_act e m).posts })
+      dgram_done e m lets steps none = (Calls (at_server a with_dgrams e) (at_server (with_dgrams e.state a) with_dgrams m) (servers_move.lets_go s v.place k a e lets) (servers_move.steps c s e.place (with_dgrams e.state a) m (subst (λ n. Steps c s n e.place e.state m) (sym clock) steps)), none)
 
-      stay : (e m : Act Dgrams) → calls.LetsGo k v.place d e → Steps s v.now e.place e.state m → StayAt v.place d m.state
-      stay e m lets steps = (let l = places_stay.lets_go v.place k v.place d e lets in stay_then v.place d e.state m.state l.1 (places_stay.steps s v.now v.place e.place e.state m l.0 steps))
+      stay : (e m : Act Dgrams) → calls.LetsGo k v.place d e → Steps c s v.now e.place e.state m → StayAt v.place d m.state
+      stay e m lets steps = (let l = (places_stay c).lets_go v.place k v.place d e lets in stay_then v.place d e.state m.state l.1 ((places_stay c).steps s v.now v.place e.place e.state m l.0 steps))
 
-      dropped : (z : dgram.Tables Request) (x : View) → HasDropped s lower k f.parts.dgram.tables d (onto [] v) z x → Leads (Left Done (numbers_of (without i f.parts.tables) (names f.parts.stream)) fewer v phase) (with_parts fewer (fallback.collects fewer.server t x.board [] (record fewer.parts { dgram = record f.parts.dgram { tables = z } }) (onto v.board x)))
+      dropped : (z : dgram.Tables Request) (x : View) → HasDropped c s lower k f.parts.dgram.tables d (onto [] v) z x → Leads (Left Done (numbers_of (without i f.parts.tables) (names f.parts.stream)) fewer v phase) (with_parts fewer (fallback.collects fewer.server t x.board [] (record fewer.parts { dgram = record f.parts.dgram { tables = z } }) (onto v.board x)))
       dropped z x h = leads_first _ _ _
-          (dgrams_leave b c s t first Tied names Owns y fewer v d d fair g.server g.dgram_server g.settings (then_act h.first h.made) z x h.leaves g.timers
-          (asks_then d h.first.state h.made.state (requests_stay.lets_go k v.place d h.first h.lets) (requests_stay.steps s v.now h.first.place h.first.state h.made h.steps)) phase phase a g.streams g.places g.apart
+          (dgrams_leave b c same_transports s t first Tied names Owns y fewer v d d fair g.server g.dgram_server g.settings (then_act h.first h.made) z x h.leaves g.timers
+          (asks_then d h.first.state h.made.state ((requests_stay c).lets_go k v.place d h.first h.lets) ((requests_stay c).steps s v.now h.first.place h.first.state h.made h.steps)) phase phase a g.streams g.places g.apart
           v.ticket (with_at lower None (names_of f.parts.dgram.tables)) less.0 h.leaves.after.ticket
           (record { board = []; put = h.board; gives = subst (λ xs. Gives (with_at lower None (names_of f.parts.dgram.tables)) [] xs (names_of z)) (sym h.nothing) h.names })
-          (subst AllWhole (sym h.nothing) tt) (still_over phase v.place a h.made.state may (stay h.first h.made h.lets h.steps) g.over) (λ told. g.quiet told) Done (dgram_done h.first h.made h.lets h.steps h.nothing))
+          (subst AllWhole (sym h.nothing) tt) (still_over c phase v.place a h.made.state may (stay h.first h.made h.lets h.steps) g.over) (λ told. g.quiet told) Done (dgram_done h.first h.made h.lets h.steps h.nothing))
 
       pub dgram_up : Goal (with_parts f (drops_at f.server (dgram.transport for_one) t fewer.parts v (Some (Dgram lower k r z))))
-      dgram_up = leads_renamed Done (numbers_of (without i f.parts.tables) (names f.parts.stream)) (with_at i None (names_in Tied names Owns s f)) (without i f.parts.tables) f v phase _ less.1
-          (leads_dgrams fewer v (HasDropped s lower k f.parts.dgram.tables d (onto [] v)) (Left Done (numbers_of (without i f.parts.tables) (names f.parts.stream)) fewer v phase) (dgram.drops f.parts.dgram.server z.ticket f.parts.dgram.tables (onto [] v))
-          (subst (λ n. calls.Leads (HasDropped s lower k f.parts.dgram.tables d (onto [] v)) (dgram.drops n z.ticket f.parts.dgram.tables (onto [] v))) (sym g.dgram_server)
-          (subst (λ n. calls.Leads (HasDropped s lower k f.parts.dgram.tables d (onto [] v)) (dgram.drops s n f.parts.dgram.tables (onto [] v))) (sym at)
-          (calls_are_moves.cancels s f.parts.dgram.tables d (onto [] v) lower k g.slots fair_on below))) dropped)
+      dgram_up = leads_renamed Done (numbers_of (without i f.parts.tables) (names f.parts.stream)) (with_at i None (names_in c Tied names Owns s f)) (without i f.parts.tables) f v phase _ less.1
+          (leads_dgrams fewer v (HasDropped c s lower k f.parts.dgram.tables d (onto [] v)) (Left Done (numbers_of (without i f.parts.tables) (names f.parts.stream)) fewer v phase) (dgram.drops f.parts.dgram.server z.ticket f.parts.dgram.tables (onto [] v))
+          (subst (λ n. calls.Leads (HasDropped c s lower k f.parts.dgram.tables d (onto [] v)) (dgram.drops n z.ticket f.parts.dgram.tables (onto [] v))) (sym g.dgram_server)
+          (subst (λ n. calls.Leads (HasDropped c s lower k f.parts.dgram.tables d (onto [] v)) (dgram.drops s n f.parts.dgram.tables (onto [] v))) (sym at)
+          ((calls_are_moves c).cancels s f.parts.dgram.tables d (onto [] v) lower k g.slots fair_on below))) dropped)
 
     -- It waits at the streams.
     module _ (lower : ℕ) (z : stream.Asked) (is : entry_at i f.parts.tables.jobs ≡ Some (Stream lower z)) (at : ticket_at z ≡ lower) (below : names f.parts.stream lower ≡ Some k) where
@@ -180,12 +180,12 @@ module _ (b c : Conf) (s : ℕ) {S : Type 0} (t : Transport Request S stream.Ask
       stream_done _ (Calls e m call chain) untaken =
           let o = streams_move.cancels s v.place k alone d e refl free call in
           let st = stays s v.place k alone e call in
-          let more = sitting_beside c b s d e.place e.state m o.0 (st.frames ∙ (y.pending phase event.0 f.parts.stream (sight v) alone event.1 g.streams).2) chain untaken in
+          let more = sitting_beside c b same_transports s d e.place e.state m o.0 (st.frames ∙ (y.pending phase event.0 f.parts.stream (sight v) alone event.1 g.streams).2) chain untaken in
           record {
             begun = Calls (beside d e) (beside d m) o.1 more;
             new = λ p n at op. elim ((openings_are_new c s e.place (with_dgrams d e.state) (beside d m) more).1 p op) [
               | inl was ↦ g.places p n at (sym st.opening ∙ was)
-              | inr le ↦ below_all p v.place (slots_are_known.placed f.parts.dgram.tables d (sight v) p n g.slots at) (subst (λ n. n ≤ p) st.next le)
+              | inr le ↦ below_all p v.place ((slots_are_known c).placed f.parts.dgram.tables d (sight v) p n g.slots at) (subst (λ n. n ≤ p) st.next le)
             ];
           }
 
@@ -196,16 +196,16 @@ module _ (b c : Conf) (s : ℕ) {S : Type 0} (t : Transport Request S stream.Ask
       apart j n held e = g.apart n held (asked j n (was_there lower (names f.parts.stream) j n e).1)
 
       pub stream_up : Goal (with_parts f (drops_at f.server (dgram.transport for_one) t fewer.parts v (Some (Stream lower z))))
-      stream_up = leads_renamed Done (numbers_of (without i f.parts.tables) left) (with_at i None (names_in Tied names Owns s f)) (without i f.parts.tables) f v phase _ numbers
-          (leads_both b c s t first Tied names Owns y fewer v d fair g.server g.dgram_server g.settings g.slots left v.ticket waits g.timers apart (Leaves (served b) Tied names Owns May left f.parts.stream (onto [] v) phase) (Left Done (numbers_of (without i f.parts.tables) left) fewer v phase) (t.cancel z f.parts.stream (onto [] v))
+      stream_up = leads_renamed Done (numbers_of (without i f.parts.tables) left) (with_at i None (names_in c Tied names Owns s f)) (without i f.parts.tables) f v phase _ numbers
+          (leads_both b c same_transports s t first Tied names Owns y fewer v d fair g.server g.dgram_server g.settings g.slots left v.ticket waits g.timers apart (Leaves (served b) Tied names Owns May left f.parts.stream (onto [] v) phase) (Left Done (numbers_of (without i f.parts.tables) left) fewer v phase) (t.cancel z f.parts.stream (onto [] v))
           (subst (λ n. Leads (Leaves (served b) Tied names Owns May (with_at n None (names f.parts.stream)) f.parts.stream (onto [] v) phase) (t.cancel z f.parts.stream (onto [] v))) at
           (y.tie.cancels phase f.parts.stream (onto [] v) alone z k may g.streams fair_on (subst (λ n. names f.parts.stream n ≡ Some k) (sym at) below)))
           (λ u x l.
           let untaken = (y.pending phase event.0 u (sight x) l.made.state event.1 l.tied).1 in
           let none = y.alone phase u (sight x) l.made.state l.tied in
           let did = stream_done l.made l.may.0 untaken in
-          streams_leave b c s t first Tied names Owns y fewer v d fair g.server g.dgram_server g.settings g.slots left v.ticket waits g.timers apart May phase u x l l.goes_on.ticket phase l.made.state
-          (subst (Tied phase u (sight x)) (ap (λ (e : Dgrams). with_dgrams e l.made.state) none) l.tied) did.new (over_beside phase v.place a l.made.state may g.over) (λ told. g.quiet told) Done (did.begun, l.may.1)))
+          streams_leave b c same_transports s t first Tied names Owns y fewer v d fair g.server g.dgram_server g.settings g.slots left v.ticket waits g.timers apart May phase u x l l.goes_on.ticket phase l.made.state
+          (subst (Tied phase u (sight x)) (ap (λ (e : Dgrams). with_dgrams e l.made.state) none) l.tied) did.new (over_beside c phase v.place a l.made.state may g.over) (λ told. g.quiet told) Done (did.begun, l.may.1)))
 
     pub gives_up_one : Goal (with_parts f (fallback.drops f.server (dgram.transport for_one) t i f.parts v))
     gives_up_one = go (entry_at i f.parts.tables.jobs) refl named

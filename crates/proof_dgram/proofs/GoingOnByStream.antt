@@ -66,11 +66,11 @@ record Handed (b : Conf) (s place k : ℕ) (r : Request) (u : Served) (e : Act S
 handed : (b : Conf) (s place k : ℕ) (r : Request) (u : Served) (e : Act Served) → Starts b s place k r u e → Handed b s place k r u e
 handed b s place k r u _ (machine.IsHanded how x v is it) = record { same = refl; starts = machine.IsHanded how x v is it }
 
-module _ (b c : Conf) (s : ℕ) {S : Type 0} (t : Transport Request S stream.Asked) (first : S) (Tied : Phase → S → Sight → Served → Type 0) (names : S → ℕ → Option ℕ) (Owns : S → (timer : ℕ) → Type 0) (y : AreStreams b s t first Tied names Owns) where
+module _ (b c : Conf) (same_transports : b.transports ≡ c.transports) (s : ℕ) {S : Type 0} (t : Transport Request S stream.Asked) (first : S) (Tied : Phase → S → Sight → Served → Type 0) (names : S → ℕ → Option ℕ) (Owns : S → (timer : ℕ) → Type 0) (y : AreStreams b s t first Tied names Owns) where
   abbrev Two : Type 0
-  Two = Both Tied names Owns s
+  Two = Both c Tied names Owns s
 
-  module _ (f : Two) (v : View) (a : Served) (w : What) (g : IsFallback Tied names Owns s (Untold w) f (sight v) a) (fair : IsFair v) (early : NoneDue (OwnsEither Tied names Owns s f) (sight v)) (calm : v.more ≡ false) (z : dgram.Tables Request) (q : View) (h : HasCut s w f.parts.dgram.tables a.server.by_dgram (onto [] v) z q) where
+  module _ (f : Two) (v : View) (a : Served) (w : What) (g : IsFallback c Tied names Owns s (Untold w) f (sight v) a) (fair : IsFair v) (early : NoneDue (OwnsEither c Tied names Owns s f) (sight v)) (calm : v.more ≡ false) (z : dgram.Tables Request) (q : View) (h : HasCut c s w f.parts.dgram.tables a.server.by_dgram (onto [] v) z q) where
     abbrev d : Dgrams
     d = a.server.by_dgram
 
@@ -100,22 +100,22 @@ module _ (b c : Conf) (s : ℕ) {S : Type 0} (t : Transport Request S stream.Ask
     mid = with_dgrams made.state taken
 
     asks1 : AsksTheSame d made.state
-    asks1 = asks_then d left made.state (requests_stay.meets v.now v.place d left w (multi.Puts (Close h.at)) h.meets) (requests_stay.steps s v.now v.place left made h.steps)
+    asks1 = asks_then d left made.state ((requests_stay c).meets v.now v.place d left w (multi.Puts (Close h.at)) h.meets) ((requests_stay c).steps s v.now v.place left made h.steps)
 
     asks2 : AsksTheSame d d2
     asks2 = λ j x e. asks1 j x (was_there k made.state.held j x e).1
 
     theirs_now : IsTheirs w a.server.by_stream
-    theirs_now = theirs v.now d left w (multi.Puts (Close h.at)) a.server.by_stream g.places h.meets
+    theirs_now = theirs c v.now d left w (multi.Puts (Close h.at)) a.server.by_stream g.places h.meets
 
     tied_q : Tied (Untold w) f.parts.stream (sight q) alone
-    tied_q = tied_now b c s t first Tied names Owns y f v d d fair g.server g.dgram_server g.settings (then_act (made_by v.place (multi.Puts (Close h.at)) d) (record made { state = d2 })) z q h.leaves g.timers asks2 (Untold w) (Untold w) a g.streams g.places g.apart
+    tied_q = tied_now b c same_transports s t first Tied names Owns y f v d d fair g.server g.dgram_server g.settings (then_act (made_by v.place (multi.Puts (Close h.at)) d) (record made { state = d2 })) z q h.leaves g.timers asks2 (Untold w) (Untold w) a g.streams g.places g.apart
 
     timers_q : (i : ℕ) → calls.Owns z i → Owns f.parts.stream i → ⊥
-    timers_q = timers_now b c s t first Tied names Owns y f v d d fair g.server g.dgram_server g.settings (then_act (made_by v.place (multi.Puts (Close h.at)) d) (record made { state = d2 })) z q h.leaves g.timers asks2 (Untold w) (Untold w) a g.streams g.places g.apart
+    timers_q = timers_now b c same_transports s t first Tied names Owns y f v d d fair g.server g.dgram_server g.settings (then_act (made_by v.place (multi.Puts (Close h.at)) d) (record made { state = d2 })) z q h.leaves g.timers asks2 (Untold w) (Untold w) a g.streams g.places g.apart
 
     places_q : (p n : ℕ) → d2.at p ≡ Some n → a.server.by_stream.opening ≡ Some p → ⊥
-    places_q = places_now b c s t first Tied names Owns y f v d d fair g.server g.dgram_server g.settings (then_act (made_by v.place (multi.Puts (Close h.at)) d) (record made { state = d2 })) z q h.leaves g.timers asks2 (Untold w) (Untold w) a g.streams g.places g.apart
+    places_q = places_now b c same_transports s t first Tied names Owns y f v d d fair g.server g.dgram_server g.settings (then_act (made_by v.place (multi.Puts (Close h.at)) d) (record made { state = d2 })) z q h.leaves g.timers asks2 (Untold w) (Untold w) a g.streams g.places g.apart
 
     -- where it waits: u is its ticket
     found : (u : ℕ) × (r : Request) × (x : dgram.Asked) × (entry_at u f.parts.tables.jobs ≡ Some (Dgram h.ticket k r x))
@@ -183,7 +183,7 @@ module _ (b c : Conf) (s : ℕ) {S : Type 0} (t : Transport Request S stream.Ask
     waits_less = less_waiting f.parts.tables d (names_of tables) (names f.parts.stream) v.ticket g.waiting u h.ticket k r found.2 found.3
 
     waits_z : AreWaiting ticket_at fewer d2 (names_of z) (names f.parts.stream) v.ticket
-    waits_z = tables_change.moves fewer d d2 (names_of z) (names f.parts.stream) v.ticket (subst (λ n. AreWaiting ticket_at fewer d n (names f.parts.stream) v.ticket) (fun_ext (λ i. sym (h.names i))) waits_less) asks2 (λ i n e. (slots_are_known.named z d2 (sight q) i n h.leaves.slots e).1)
+    waits_z = tables_change.moves fewer d d2 (names_of z) (names f.parts.stream) v.ticket (subst (λ n. AreWaiting ticket_at fewer d n (names f.parts.stream) v.ticket) (fun_ext (λ i. sym (h.names i))) waits_less) asks2 (λ i n e. ((slots_are_known c).named z d2 (sight q) i n h.leaves.slots e).1)
 
     not_below : (n : ℕ) → n < n → ⊥
     not_below n lt = omega arith
@@ -210,7 +210,7 @@ module _ (b c : Conf) (s : ℕ) {S : Type 0} (t : Transport Request S stream.Ask
     more : AreWaiting ticket_at (admits u job fewer) d2 (names_of z) named n2 × ((i : ℕ) → numbers_of (admits u job fewer) named i ≡ with_at u (Some k) (numbers_of fewer (names f.parts.stream)) i)
     more = tables_change.by_stream fewer d2 (names_of z) (names f.parts.stream) v.ticket n2 u q.ticket k (t.response r f.parts.stream starting) waits_z
         (at_frees u u 0 v.ticket f.parts.tables.jobs g.waiting.jobs_order ∙ with_here u None (λ j. entry_at j f.parts.tables.jobs), absent_above 0 v.ticket q.ticket fewer.tickets h.leaves.after.ticket waits_less.tickets_order, within u v.ticket q.ticket (present_below u 0 v.ticket _ f.parts.tables.jobs g.waiting.jobs_order found.3) h.leaves.after.ticket, next q.ticket, over v.ticket q.ticket h.leaves.after.ticket)
-        (none_if (names_of z q.ticket) (λ l e. not_below q.ticket (slots_are_known.named z d2 (sight q) q.ticket l h.leaves.slots e).0))
+        (none_if (names_of z q.ticket) (λ l e. not_below q.ticket ((slots_are_known c).named z d2 (sight q) q.ticket l h.leaves.slots e).0))
         (none_if (names f.parts.stream q.ticket) (λ l e. not_below q.ticket (y.tie.named (Untold w) f.parts.stream (sight q) alone q.ticket l tied_q e).0)) (y.tie.response r f.parts.stream starting)
 
     abbrev before : ℕ → Option ℕ
@@ -247,8 +247,8 @@ module _ (b c : Conf) (s : ℕ) {S : Type 0} (t : Transport Request S stream.Ask
     went _ (Calls e m call rest) untaken =
         let x = handed b s q.place k r alone e call in
         let first : Act Served = record e { state = record alone { server = e.state.server; pending = Tick; taken = true; frames = [] } } in
-        let o = streams_move.falls b s q.place k r (record alone { pending = Tick; taken = true; frames = [] }) made.state (staged h.tryer Cut) first y.used refl h.is_cut refl asked_for x.starts in
-        let l = sitting c b s taken d2 e.place e.state m o.0 (ap (λ (z : Served). z.frames) x.same ∙ (y.pending (Untold w) w f.parts.stream (sight v) alone refl g.streams).2) (sym (ap (λ (z : Served). z.clock) x.same)) rest untaken in
+        let o = streams_move.falls b c s q.place k r (record alone { pending = Tick; taken = true; frames = [] }) made.state (staged h.tryer Cut) first y.used refl h.is_cut refl asked_for x.starts in
+        let l = sitting c b same_transports s taken d2 e.place e.state m o.0 (ap (λ (z : Served). z.frames) x.same ∙ (y.pending (Untold w) w f.parts.stream (sight v) alone refl g.streams).2) (sym (ap (λ (z : Served). z.clock) x.same)) rest untaken in
         record {
           same = l.same ∙ ap (λ (z : Served). record z { server = m.state.server }) x.same;
           chain = Goes q.place mid (beside d2 first) (record m { state = sits taken d2 m.state.server.by_stream }) o.1 l.chain;
@@ -258,7 +258,7 @@ module _ (b c : Conf) (s : ℕ) {S : Type 0} (t : Transport Request S stream.Ask
     one = made_by v.place (multi.Puts (Close h.at)) left
 
     chain_first : Chain (served c) s v.place a (then_act (at_server a taken_by one) (at_server (taken_by left a) with_dgrams made))
-    chain_first = takes_it b c s t first Tied names Owns y f v a w g fair early calm (multi.Puts (Close h.at)) left one h.meets theirs_now.foreign (AsItIs h.settled) made h.steps
+    chain_first = takes_it b c same_transports s t first Tied names Owns y f v a w g fair early calm (multi.Puts (Close h.at)) left one h.meets theirs_now.foreign (AsItIs h.settled) made h.steps
 
     abbrev pre : Act Served
     pre = then_act (at_server a taken_by one) (at_server (taken_by left a) with_dgrams made)
@@ -283,17 +283,17 @@ module _ (b c : Conf) (s : ℕ) {S : Type 0} (t : Transport Request S stream.Ask
       new_before : (p j : ℕ) → d.at p ≡ Some j → m.server.by_stream.opening ≡ Some p → ⊥
       new_before p j at op = elim (opens p op) [
         | inl was ↦ g.places p j at was
-        | inr le ↦ not_both p v.place (slots_are_known.placed tables d (sight v) p j g.slots at) (le_trans h.leaves.after.place le)
+        | inr le ↦ not_both p v.place ((slots_are_known c).placed tables d (sight v) p j g.slots at) (le_trans h.leaves.after.place le)
       ]
 
       new : (p j : ℕ) → d2.at p ≡ Some j → m.server.by_stream.opening ≡ Some p → ⊥
       new p j at op = elim (opens p op) [
         | inl was ↦ places_q p j at was
-        | inr le ↦ not_both p q.place (slots_are_known.placed z d2 (sight q) p j h.leaves.slots at) le
+        | inr le ↦ not_both p q.place ((slots_are_known c).placed z d2 (sight q) p j h.leaves.slots at) le
       ]
 
       foreign : IsForeign w m.server.by_stream
-      foreign = (theirs v.now d left w (multi.Puts (Close h.at)) m.server.by_stream new_before h.meets).foreign
+      foreign = (theirs c v.now d left w (multi.Puts (Close h.at)) m.server.by_stream new_before h.meets).foreign
 
       -- none of the streams' timers is due
       early_now : (i due : ℕ) → Owns n i → due_of i x.timers.set ≡ Some due → x.now < due
@@ -322,19 +322,19 @@ module _ (b c : Conf) (s : ℕ) {S : Type 0} (t : Transport Request S stream.Ask
       abbrev end_v : View
       end_v = (gives_rest f.server t x.board (record f2.parts { stream = n }) (onto v.board x)).1
 
-      rest : Leaves (served c) (IsFallback Tied names Owns s) (names_in Tied names Owns s) (OwnsEither Tied names Owns s) Done (numbers_of (admits u job fewer) named) f2 v2 (Told 0 0) end end_v
-      rest = streams_leave b c s t first Tied names Owns y f2 v2 d2 fair2 g.server g.dgram_server g.settings h.leaves.slots named n2 more.0 timers_q apart2 May (Untold w) n x l (reached q.ticket x.ticket drawn) (Told 0 0) after tied new tt (λ told. none_due_now tables z d v q (then_act (made_by v.place (multi.Puts (Close h.at)) d) (record made { state = d2 })) fair h.leaves (λ i due own e. early i due (inl own) e)) Done chain
+      rest : Leaves (served c) (IsFallback c Tied names Owns s) (names_in c Tied names Owns s) (OwnsEither c Tied names Owns s) Done (numbers_of (admits u job fewer) named) f2 v2 (Told 0 0) end end_v
+      rest = streams_leave b c same_transports s t first Tied names Owns y f2 v2 d2 fair2 g.server g.dgram_server g.settings h.leaves.slots named n2 more.0 timers_q apart2 May (Untold w) n x l (reached q.ticket x.ticket drawn) (Told 0 0) after tied new tt (λ told. none_due_now c tables z d v q (then_act (made_by v.place (multi.Puts (Close h.at)) d) (record made { state = d2 })) fair h.leaves (λ i due own e. early i due (inl own) e)) Done chain
 
-      was_owned : (i : ℕ) → OwnsEither Tied names Owns s f2 i → OwnsEither Tied names Owns s f i ⊎ (v.timers.next ≤ i)
+      was_owned : (i : ℕ) → OwnsEither c Tied names Owns s f2 i → OwnsEither c Tied names Owns s f i ⊎ (v.timers.next ≤ i)
       was_owned i o = elim o [ inl own ↦ elim (h.leaves.apart.owned i own) [ inl was ↦ inl (inl was) | inr le ↦ inr le ] | inr own ↦ inl (inr own) ]
 
-      not_new : (i due : ℕ) → (OwnsEither Tied names Owns s f i → ⊥) → due_of i v.timers.set ≡ Some due → OwnsEither Tied names Owns s f2 i → ⊥
+      not_new : (i due : ℕ) → (OwnsEither c Tied names Owns s f i → ⊥) → due_of i v.timers.set ≡ Some due → OwnsEither c Tied names Owns s f2 i → ⊥
       not_new i due never e o = elim (was_owned i o) [ inl was ↦ never was | inr le ↦ (let z : None ≡ Some due = sym (none_next v i fair le) ∙ e in cc) ]
 
       goes : GoesOn v v2
       goes = record { fair = fair2; now = h.leaves.after.now; timer = h.leaves.after.timer; ticket = h.leaves.after.ticket; place = h.leaves.after.place; later = h.leaves.after.later }
 
-      all : Leaves (served c) (IsFallback Tied names Owns s) (names_in Tied names Owns s) (OwnsEither Tied names Owns s) (Chain (served c) s v.place a) (names_in Tied names Owns s f) f v (Told 0 0) end end_v
+      all : Leaves (served c) (IsFallback c Tied names Owns s) (names_in c Tied names Owns s) (OwnsEither c Tied names Owns s) (Chain (served c) s v.place a) (names_in c Tied names Owns s f) f v (Told 0 0) end end_v
       all = record {
         made = then_act pre rest.made;
         may = rest.may;
@@ -342,7 +342,7 @@ module _ (b c : Conf) (s : ℕ) {S : Type 0} (t : Transport Request S stream.Ask
         place = rest.place;
         board = rest.board;
         put = rest.put;
-        gives = subst (λ xs. Gives before rest.board (xs ++ rest.made.posts) (names_in Tied names Owns s end)) (sym h.nothing) (gives_as (numbers_of (admits u job fewer) named) before (names_in Tied names Owns s end) rest.board rest.made.posts same_numbers rest.gives);
+        gives = subst (λ xs. Gives before rest.board (xs ++ rest.made.posts) (names_in c Tied names Owns s end)) (sym h.nothing) (gives_as (numbers_of (admits u job fewer) named) before (names_in c Tied names Owns s end) rest.board rest.made.posts same_numbers rest.gives);
         tied = rest.tied;
         goes_on = goes_then v v2 end_v goes rest.goes_on;
         owned = λ i o. elim (rest.owned i o) [ inl was ↦ was_owned i was | inr le ↦ inr (le_trans h.leaves.after.timer le) ];
@@ -350,13 +350,13 @@ module _ (b c : Conf) (s : ℕ) {S : Type 0} (t : Transport Request S stream.Ask
       }
 
       abbrev Ends : Two → View → Type 0
-      Ends = Tell b c s t first Tied names Owns y f v a w g fair early calm
+      Ends = Tell b c same_transports s t first Tied names Owns y f v a w g fair early calm
 
       ends : x.more ≡ q.more → Ends end end_v
       ends same = record { at = 0; left = 0; may_be = theirs_now.none; more = same ∙ (h.leaves.after.more ∙ (calm ∙ none_more)); leaves = all }
 
     abbrev Goal : Option (Two × View) → Type 0
-    Goal = Leads (Tell b c s t first Tied names Owns y f v a w g fair early calm)
+    Goal = Leads (Tell b c same_transports s t first Tied names Owns y f v a w g fair early calm)
 
     abbrev Streams_leave : S → View → Type 0
     Streams_leave = Leaves (served b) Tied names Owns May named f.parts.stream (onto [] v2) (Untold w)
@@ -378,7 +378,7 @@ module _ (b c : Conf) (s : ℕ) {S : Type 0} (t : Transport Request S stream.Ask
         ∙ (ap (λ o. settles_at f.server t post.part (with_tables fewer parts) [] (onto v.board q) (option_map (λ job. (u, job)) o)) found.3
         ∙ ap (λ x. settles_whole f.server t u k r post.part (with_tables fewer parts) [] (onto v.board q) x) (is_cut h.message h.cut))
 
-    settled : Goal (settled_alone b c s t first Tied names Owns y f v z q)
+    settled : Goal (settled_alone b c same_transports s t first Tied names Owns y f v z q)
     settled = subst (λ o. Goal (with_parts f (option_map (λ x. gives_rest f.server t x.0.1 x.0.0 x.1) o)))
         (sym (ap (λ ps. settles_all f.server t ps parts [] (onto v.board q)) h.put ∙ ap (option_and_then (λ x. settles_all f.server t [] x.0.0 x.0.1 x.1)) follows_so))
         (by_streams (t.send r f.parts.stream starting)
@@ -386,4 +386,4 @@ module _ (b c : Conf) (s : ℕ) {S : Type 0} (t : Transport Request S stream.Ask
         (subst (λ n. Leads (λ m x. (q.ticket < x.ticket) × (x.more ≡ q.more)) (t.send r f.parts.stream (asks (Start k n via.Stream) (onto [] v2)))) (sym g.server) (y.drawn f.parts.stream (onto [] v2) alone w r tied_q (record { order = fair2.order; words = fair2.words }) octets free)))
 
     pub cut_told : Goal (with_parts f (hears_stream f.server (dgram.transport for_one) t (told w) f.parts v (record f.parts.dgram { tables = z }, q)))
-    cut_told = passed_by b c s t first Tied names Owns y f v a w g fair early calm z q (then_act (made_by v.place (multi.Puts (Close h.at)) d) (record made { state = d2 })) h.leaves asks2 theirs_now.foreign (Tell b c s t first Tied names Owns y f v a w g fair early calm) settled
+    cut_told = passed_by b c same_transports s t first Tied names Owns y f v a w g fair early calm z q (then_act (made_by v.place (multi.Puts (Close h.at)) d) (record made { state = d2 })) h.leaves asks2 theirs_now.foreign (Tell b c same_transports s t first Tied names Owns y f v a w g fair early calm) settled

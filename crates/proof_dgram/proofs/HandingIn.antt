@@ -63,16 +63,16 @@ module _ (s : Tables Request dgram.Asked stream.Asked) (d : Dgrams) (by_dgram by
       on _ (AtDgrams i l q x a n at held asks) = AtDgrams i l q x a n at (with_there k (Some (record { request = r; tries = 0; stage = Queued })) d.held l (λ same. (let z : None ≡ Some a = sym free ∙ (ap d.held same ∙ held) in cc)) ∙ held) asks
       on _ (AtStreams i l x n at) = AtStreams i l x n at
 
-module _ (b c : Conf) (s : ℕ) (used : use_at s c.servers ≡ Some ByDatagrams) {S : Type 0} (t : Transport Request S stream.Asked) (first : S) (Tied : Phase → S → Sight → Served → Type 0) (names : S → ℕ → Option ℕ) (Owns : S → (timer : ℕ) → Type 0) (y : AreStreams b s t first Tied names Owns) where
+module _ (b c : Conf) (same_transports : b.transports ≡ c.transports) (s : ℕ) (used : use_at s c.servers ≡ Some ByDatagrams) {S : Type 0} (t : Transport Request S stream.Asked) (first : S) (Tied : Phase → S → Sight → Served → Type 0) (names : S → ℕ → Option ℕ) (Owns : S → (timer : ℕ) → Type 0) (y : AreStreams b s t first Tied names Owns) where
   abbrev Two : Type 0
-  Two = Both Tied names Owns s
+  Two = Both c Tied names Owns s
 
-  module _ (phase : Phase) (f : Two) (v : View) (a : Served) (r : Request) (may : IsOpen phase v.place) (g : IsFallback Tied names Owns s phase f (sight v) a) (fair : IsFair v) (octets : IsOfOctets r) (free : holds a v.request ≡ false) where
+  module _ (phase : Phase) (f : Two) (v : View) (a : Served) (r : Request) (may : IsOpen phase v.place) (g : IsFallback c Tied names Owns s phase f (sight v) a) (fair : IsFair v) (octets : IsOfOctets r) (free : holds a v.request ≡ false) where
     abbrev Done : Act Served → Type 0
     Done = Begins (Starts c s v.place v.request r a) (Chain (served c) s)
 
     abbrev Goal : Two → View → Type 0
-    Goal = Leaves (served c) (IsFallback Tied names Owns s) (names_in Tied names Owns s) (OwnsEither Tied names Owns s) Done (with_at v.ticket (Some v.request) (names_in Tied names Owns s f)) f v phase
+    Goal = Leaves (served c) (IsFallback c Tied names Owns s) (names_in c Tied names Owns s) (OwnsEither c Tied names Owns s) Done (with_at v.ticket (Some v.request) (names_in c Tied names Owns s f)) f v phase
 
     abbrev d : Dgrams
     d = a.server.by_dgram
@@ -128,7 +128,7 @@ module _ (b c : Conf) (s : ℕ) (used : use_at s c.servers ≡ Some ByDatagrams)
       where
         by : (o : Option ℕ) → names_of f.parts.dgram.tables lower ≡ o → names_of f.parts.dgram.tables lower ≡ None
         by None e = e
-        by (Some l) e = absurd (above v.ticket lower (slots_are_known.named f.parts.dgram.tables d (sight v) lower l g.slots e).0 refl)
+        by (Some l) e = absurd (above v.ticket lower ((slots_are_known c).named f.parts.dgram.tables d (sight v) lower l g.slots e).0 refl)
 
     no_stream : names f.parts.stream lower ≡ None
     no_stream = by (names f.parts.stream lower) refl
@@ -146,8 +146,8 @@ module _ (b c : Conf) (s : ℕ) (used : use_at s c.servers ≡ Some ByDatagrams)
     fair1 : IsFair v1
     fair1 = record { order = fair.order; words = fair.words }
 
-    slots1 : AreSlots 0 f.parts.dgram.tables d (sight v1)
-    slots1 = slots_are_known.same f.parts.dgram.tables d (sight v) (sight v1) g.slots (λ i own. refl) (le_refl v.timers.next) (up v.ticket) (le_refl v.place)
+    slots1 : AreSlots c 0 f.parts.dgram.tables d (sight v1)
+    slots1 = (slots_are_known c).same f.parts.dgram.tables d (sight v) (sight v1) g.slots (λ i own. refl) (le_refl v.timers.next) (up v.ticket) (le_refl v.place)
 
     streams1 : Tied phase f.parts.stream (sight v1) (with_dgrams no_datagram a)
     streams1 = y.tie.same phase f.parts.stream (sight v) (sight v1) (with_dgrams no_datagram a) g.streams refl (λ i own. refl) (le_refl v.timers.next) (up v.ticket) (le_refl v.place)
@@ -156,7 +156,7 @@ module _ (b c : Conf) (s : ℕ) (used : use_at s c.servers ≡ Some ByDatagrams)
     clock = y.clock phase f.parts.stream (sight v) (with_dgrams no_datagram a) g.streams
 
     whole : IsWhole (with_request k r d)
-    whole = changed d k queued (λ z e. absurd (let n : Queued ≡ Ending z = e in cc)) (whole_at_first d (settled 0 (slots_of f.parts.dgram.tables) d _ g.slots.alike))
+    whole = changed d k queued (λ z e. absurd (let n : Queued ≡ Ending z = e in cc)) (whole_at_first d (settled c 0 (slots_of f.parts.dgram.tables) d _ g.slots.alike))
 
     apart : (n : ℕ) → is_some ((with_request k r d).held n) ≡ true → is_some (a.server.by_stream.asks n) ≡ true → ⊥
     apart n held asks = by ((with_request k r d).held n) refl held
@@ -172,25 +172,25 @@ module _ (b c : Conf) (s : ℕ) (used : use_at s c.servers ≡ Some ByDatagrams)
     abbrev Start_done : Act Served → Type 0
     Start_done e = Done (record e { outs = Start k s via.Dgram ∷ e.outs })
 
-    taken : (z : dgram.Tables Request) (x : View) → HasTaken s r f.parts.dgram.tables d (onto [] v1) z x → Leads Goal (with_parts f1 (fallback.collects f1.server t x.board [] (record f1.parts { dgram = record f.parts.dgram { tables = z } }) (onto v1.board x)))
+    taken : (z : dgram.Tables Request) (x : View) → HasTaken c s r f.parts.dgram.tables d (onto [] v1) z x → Leads Goal (with_parts f1 (fallback.collects f1.server t x.board [] (record f1.parts { dgram = record f.parts.dgram { tables = z } }) (onto v1.board x)))
     taken z x h = again (with_parts f1 (fallback.collects f1.server t x.board [] (record f1.parts { dgram = record f.parts.dgram { tables = z } }) (onto v1.board x)))
         (leads_first _ _ _
-        (dgrams_leave b c s t first Tied names Owns y f1 v1 d (with_request k r d) fair1 g.server g.dgram_server g.settings h.made z x h.leaves g.timers
-        (requests_stay.steps s v.now v.place (with_request k r d) h.made h.steps) phase phase a streams1 g.places apart
-        (v.ticket + 2) (with_at lower (Some k) (names_of f.parts.dgram.tables)) more.0 (reached v.ticket x.ticket h.drawn) h.posts (steps_whole s v.now v.place (with_request k r d) h.made whole h.steps) over (λ told. g.quiet told) Start_done done))
+        (dgrams_leave b c same_transports s t first Tied names Owns y f1 v1 d (with_request k r d) fair1 g.server g.dgram_server g.settings h.made z x h.leaves g.timers
+        ((requests_stay c).steps s v.now v.place (with_request k r d) h.made h.steps) phase phase a streams1 g.places apart
+        (v.ticket + 2) (with_at lower (Some k) (names_of f.parts.dgram.tables)) more.0 (reached v.ticket x.ticket h.drawn) h.posts (steps_whole c s v.now v.place (with_request k r d) h.made whole h.steps) over (λ told. g.quiet told) Start_done done))
       where
         begun : Served
         begun = with_dgrams (with_request k r d) a
 
-        over : IsOver phase (with_dgrams h.made.state a)
-        over = still_over phase v.place a h.made.state may
-            (stay_then v.place d (with_request k r d) h.made.state (places_stay.takes v.place k r d) (places_stay.steps s v.now v.place v.place (with_request k r d) h.made (le_refl v.place) h.steps)) g.over
+        over : IsOver c phase (with_dgrams h.made.state a)
+        over = still_over c phase v.place a h.made.state may
+            (stay_then v.place d (with_request k r d) h.made.state ((places_stay c).takes v.place k r d) ((places_stay c).steps s v.now v.place v.place (with_request k r d) h.made (le_refl v.place) h.steps)) g.over
 
         done : Start_done (record { state = with_dgrams h.made.state a; place = h.made.place; outs = h.made.outs; posts = h.made.posts })
         done = Calls (record { state = with_dgrams (with_request k r d) a; place = v.place; outs = Start k s via.Dgram ∷ []; posts = [] }) (at_server (with_dgrams (with_request k r d) a) with_dgrams h.made) (servers_move.starts c s v.place k r a used not_held)
-            (servers_move.steps c s v.place (with_dgrams (with_request k r d) a) h.made (subst (λ n. Steps s n v.place (with_request k r d) h.made) (sym clock) h.steps))
+            (servers_move.steps c s v.place (with_dgrams (with_request k r d) a) h.made (subst (λ n. Steps c s n v.place (with_request k r d) h.made) (sym clock) h.steps))
 
-        again : (o : Option (Two × View)) → Leads (Leaves (served c) (IsFallback Tied names Owns s) (names_in Tied names Owns s) (OwnsEither Tied names Owns s) Start_done (numbers_of (admits v.ticket job f.parts.tables) (names f.parts.stream)) f1 v1 phase) o → Leads Goal o
+        again : (o : Option (Two × View)) → Leads (Leaves (served c) (IsFallback c Tied names Owns s) (names_in c Tied names Owns s) (OwnsEither c Tied names Owns s) Start_done (numbers_of (admits v.ticket job f.parts.tables) (names f.parts.stream)) f1 v1 phase) o → Leads Goal o
         again None q = tt
         again (Some o) l = record {
           made = record l.made { outs = Start k s via.Dgram ∷ l.made.outs };
@@ -199,7 +199,7 @@ module _ (b c : Conf) (s : ℕ) (used : use_at s c.servers ≡ Some ByDatagrams)
           place = l.place;
           board = l.board;
           put = l.put;
-          gives = gives_as (numbers_of (admits v.ticket job f.parts.tables) (names f.parts.stream)) (with_at v.ticket (Some k) (numbers_of f.parts.tables (names f.parts.stream))) (names_in Tied names Owns s o.0) l.board l.made.posts more.1 l.gives;
+          gives = gives_as (numbers_of (admits v.ticket job f.parts.tables) (names f.parts.stream)) (with_at v.ticket (Some k) (numbers_of f.parts.tables (names f.parts.stream))) (names_in c Tied names Owns s o.0) l.board l.made.posts more.1 l.gives;
           tied = l.tied;
           goes_on = record { fair = l.goes_on.fair; now = l.goes_on.now; timer = l.goes_on.timer; ticket = reached_up v.ticket o.1.ticket l.goes_on.ticket; place = l.goes_on.place; later = l.goes_on.later };
           owned = l.owned;
@@ -214,7 +214,7 @@ module _ (b c : Conf) (s : ℕ) (used : use_at s c.servers ≡ Some ByDatagrams)
       where
         go : (x : Bool) → Leads Goal (with_parts f (option_and_then (fallback.takes_at f.server (dgram.transport for_one) t v.ticket r f.parts) (if x then Some v1 else None)))
         go false = tt
-        go true = leads_dgrams b c s t first Tied names Owns y f1 v1 (HasTaken s r f.parts.dgram.tables d (onto [] v1)) Goal (dgram.takes for_one f.parts.dgram.server f.parts.dgram.settings r f.parts.dgram.tables (onto [] v1))
-            (subst (λ n. calls.Leads (HasTaken s r f.parts.dgram.tables d (onto [] v1)) (dgram.takes for_one n f.parts.dgram.settings r f.parts.dgram.tables (onto [] v1))) (sym g.dgram_server)
-            (subst (λ z. calls.Leads (HasTaken s r f.parts.dgram.tables d (onto [] v1)) (dgram.takes for_one s z r f.parts.dgram.tables (onto [] v1))) (sym g.settings)
-            (calls_are_moves.sends s f.parts.dgram.tables d (onto [] v1) r slots1 (record { order = fair.order; words = fair.words }) octets not_held))) taken
+        go true = leads_dgrams b c same_transports s t first Tied names Owns y f1 v1 (HasTaken c s r f.parts.dgram.tables d (onto [] v1)) Goal (dgram.takes for_one f.parts.dgram.server f.parts.dgram.settings r f.parts.dgram.tables (onto [] v1))
+            (subst (λ n. calls.Leads (HasTaken c s r f.parts.dgram.tables d (onto [] v1)) (dgram.takes for_one n f.parts.dgram.settings r f.parts.dgram.tables (onto [] v1))) (sym g.dgram_server)
+            (subst (λ z. calls.Leads (HasTaken c s r f.parts.dgram.tables d (onto [] v1)) (dgram.takes for_one s z r f.parts.dgram.tables (onto [] v1))) (sym g.settings)
+            ((calls_are_moves c).sends s f.parts.dgram.tables d (onto [] v1) r slots1 (record { order = fair.order; words = fair.words }) octets not_held))) taken

@@ -23,30 +23,31 @@ use Rattle.proof_parts.specs.Sights.{Sight}
 use Rattle.proof_dgram.specs.Calls as calls
 use Rattle.proof_dgram.specs.Slots.{slots_of, AreSlots}
 use Rattle.proof_dgram.proofs.Shifting.{place_of}
+use Rattle.right_trace.specs.Trace.{Conf}
 
 pub none_if : {A : Type 0} (o : Option A) → ((x : A) → o ≡ Some x → ⊥) → o ≡ None
 none_if None never = refl
 none_if (Some x) never = absurd (never x refl)
 
 -- a place without a datagram is in no table
-pub absent : (s : dgram.Tables Request) (d : Dgrams) (x : Sight) → AreSlots 0 s d x → (p : ℕ) → d.at p ≡ None → entry_at p s.places ≡ None
-absent s d x f p none = none_if (entry_at p s.places) (λ t e. (let g = f.alike.places p t e in let z : None ≡ Some g.0.number = sym none ∙ (place_of 0 (slots_of s) d x.dues f.alike t p g.0 g.1 g.2).1 in cc))
+pub absent : (c : Conf) (s : dgram.Tables Request) (d : Dgrams) (x : Sight) → AreSlots c 0 s d x → (p : ℕ) → d.at p ≡ None → entry_at p s.places ≡ None
+absent c s d x f p none = none_if (entry_at p s.places) (λ t e. (let g = f.alike.places p t e in let z : None ≡ Some g.0.number = sym none ∙ (place_of c 0 (slots_of s) d x.dues f.alike t p g.0 g.1 g.2).1 in cc))
 
 -- an event of a place where nobody is is nothing to the datagrams
-pub nobody_there : (w : What) (d : Dgrams) → ((p : ℕ) → place_in w ≡ Some p → d.at p ≡ None) → IsIgnored w d
-nobody_there (Opened p) d none = λ x. (let z : None ≡ Some x.0 = sym (none p refl) ∙ x.2 in cc)
-nobody_there (OpenFailed p f) d none = λ x. (let z : None ≡ Some x.0 = sym (none p refl) ∙ x.2 in cc)
-nobody_there (SendFailed p f) d none = λ x. (let z : None ≡ Some x.0 = sym (none p refl) ∙ x.4 in cc)
-nobody_there (ShortSend p) d none = λ x. (let z : None ≡ Some x.0 = sym (none p refl) ∙ x.4 in cc)
-nobody_there (RecvFailed p f) d none = λ x. (let z : None ≡ Some x.0 = sym (none p refl) ∙ x.4 in cc)
-nobody_there (Datagram p o) d none = λ k a id t at held stage long. absurd (let z : None ≡ Some k = sym (none p refl) ∙ at in cc)
-nobody_there (Ask r) d none = tt
-nobody_there (Wrote p n) d none = tt
-nobody_there (WriteFailed p f) d none = tt
-nobody_there (Bytes p o) d none = tt
-nobody_there (ReadFailed p f) d none = tt
-nobody_there (Ended p) d none = tt
-nobody_there Tick d none = tt
+pub nobody_there : (c : Conf) (w : What) (d : Dgrams) → ((p : ℕ) → place_in w ≡ Some p → d.at p ≡ None) → IsIgnored c w d
+nobody_there c (Opened p) d none = λ x. (let z : None ≡ Some x.0 = sym (none p refl) ∙ x.2 in cc)
+nobody_there c (OpenFailed p f) d none = λ x. (let z : None ≡ Some x.0 = sym (none p refl) ∙ x.2 in cc)
+nobody_there c (SendFailed p f) d none = λ x. (let z : None ≡ Some x.0 = sym (none p refl) ∙ x.4 in cc)
+nobody_there c (ShortSend p) d none = λ x. (let z : None ≡ Some x.0 = sym (none p refl) ∙ x.4 in cc)
+nobody_there c (RecvFailed p f) d none = λ x. (let z : None ≡ Some x.0 = sym (none p refl) ∙ x.4 in cc)
+nobody_there c (Datagram p o) d none = λ k a id t at held stage long. absurd (let z : None ≡ Some k = sym (none p refl) ∙ at in cc)
+nobody_there c (Ask r) d none = tt
+nobody_there c (Wrote p n) d none = tt
+nobody_there c (WriteFailed p f) d none = tt
+nobody_there c (Bytes p o) d none = tt
+nobody_there c (ReadFailed p f) d none = tt
+nobody_there c (Ended p) d none = tt
+nobody_there c Tick d none = tt
 
 -- and to their tables
 module _ (server : ℕ) (settings : Settings) (s : dgram.Tables Request) (v : View) where

@@ -10,6 +10,7 @@ pub mod Closing
 pub mod Dropping
 pub mod TakingOn
 pub mod Firing
+pub mod Announcing
 pub mod Sending
 pub mod Cutting
 pub mod Telling
@@ -17,6 +18,7 @@ pub mod CallsAreMoves
 pub mod Fresh
 pub mod AtServer
 pub mod Known
+pub mod OtherConf
 pub mod Halves
 pub mod Handing
 pub mod Staying

@@ -9,6 +9,8 @@ use Rattle.right_trace.specs.Updates.{with_at}
 use Rattle.proof_dgram.specs.Slots.{IsIn, place_in, timer_in, Slots, IsJobOf, StageFits, AtQueue, AtOpening, AtSent, AreAlike}
 use Rattle.proof_dgram.proofs.Changing.{Around, falls_out, comes_in}
 use Rattle.proof_parts.proofs.Keys.{with_here, with_there, was_there, is_or_was}
+use Rattle.right_trace.specs.Trace.{Conf}
+use Rattle.right_trace.specs.Time.{max_places}
 
 -- the tables without a job at a place, and without one that is queued
 abbrev pub off_place : (t p : ℕ) → (ℕ → Option ℕ) → Slots → Slots
@@ -40,7 +42,7 @@ less a b n e lt = omega arith
 more : (a b n : ℕ) → a ≡ b + suc n → a ≡ suc b + n
 more a b n e = omega arith
 
-module _ (n : ℕ) (s : Slots) (d : Dgrams) (dues : ℕ → Option ℕ) (f : AreAlike n s d dues) where
+module _ (c : Conf) (n : ℕ) (s : Slots) (d : Dgrams) (dues : ℕ → Option ℕ) (f : AreAlike c n s d dues) where
   one_job : (t : ℕ) (j i : Job Request) → s.jobs t ≡ Some j → s.jobs t ≡ Some i → j ≡ i
   one_job t j i a b = (let z : Some j ≡ Some i = sym a ∙ b in cc)
 
@@ -54,7 +56,7 @@ module _ (n : ℕ) (s : Slots) (d : Dgrams) (dues : ℕ → Option ℕ) (f : Are
   pub place_of : (t p : ℕ) (j : Job Request) → s.jobs t ≡ Some j → place_in j.stage ≡ Some p → (s.places p ≡ Some t) × (d.at p ≡ Some j.number)
   place_of t p j is at = (let g = f.jobs t j is in go g.0 g.2)
     where
-      go : (a : Tryer) → StageFits s d dues t j a → (s.places p ≡ Some t) × (d.at p ≡ Some j.number)
+      go : (a : Tryer) → StageFits c s d dues t j a → (s.places p ≡ Some t) × (d.at p ≡ Some j.number)
       go a (AtQueue js its_stage q fit) = absurd (let z : None ≡ Some p = sym (ap place_in js) ∙ at in cc)
       go a (AtOpening q js its_stage pl its fit) = (let z : Some q ≡ Some p = sym (ap place_in js) ∙ at in let same : q ≡ p = cc in (subst (λ p. s.places p ≡ Some t) same pl, subst (λ p. d.at p ≡ Some j.number) same its))
       go a (AtSent q r id m js its_stage pl its tm due rq lt fit) = (let z : Some q ≡ Some p = sym (ap place_in js) ∙ at in let same : q ≡ p = cc in (subst (λ p. s.places p ≡ Some t) same pl, subst (λ p. d.at p ≡ Some j.number) same its))
@@ -73,7 +75,7 @@ module _ (n : ℕ) (s : Slots) (d : Dgrams) (dues : ℕ → Option ℕ) (f : Are
     no_place_there : (q : ℕ) → with_at p None s.places q ≡ None → with_at p None d.at q ≡ None
     no_place_there q e = elim (cases_eq p q) [ inl same ↦ subst (λ q. with_at p None d.at q ≡ None) same (with_here p None d.at) | inr ne ↦ with_there p None d.at q ne ∙ f.none q (sym (with_there p None s.places q ne) ∙ e) ]
 
-    around : Around s s' d d' dues dues' t j.number
+    around : Around c s s' d d' dues dues' t j.number
     around = record {
       same = λ u i ne nk. record {
         held = with_there j.number None d.held i nk;
@@ -91,14 +93,14 @@ module _ (n : ℕ) (s : Slots) (d : Dgrams) (dues : ℕ → Option ℕ) (f : Are
       full = f.full;
     }
 
-    pub leaves_place : AreAlike (suc n) s' d' dues'
-    leaves_place = falls_out s s' d d' dues dues' n t j.number f around (suc n) (less s.used d.used n f.used (subst (λ n. 0 < n) (sym f.live) some)) j is refl (with_here t None s.jobs) (with_here j.number None d.held)
+    pub leaves_place : AreAlike c (suc n) s' d' dues'
+    leaves_place = falls_out c s s' d d' dues dues' n t j.number f around (suc n) (less s.used d.used n f.used (subst (λ n. 0 < n) (sym f.live) some)) j is refl (with_here t None s.jobs) (with_here j.number None d.held)
         (λ q e. (let w = was_there p s.places q t e in w.0 (its_place t p q j is at w.1))) (λ r e. (were r t e).1 refl) (λ i. not_queued t p j is at i)
 
   -- A job leaves the queue.
   module _ (t : ℕ) (j : Job Request) (is : s.jobs t ≡ Some j) (queued : j.stage ≡ at.Queued) (q : List ℕ) (still : (u : ℕ) → (t ≡ u → ⊥) → IsIn u s.queue → IsIn u q) (were : (u : ℕ) → IsIn u q → IsIn u s.queue × (t ≡ u → ⊥)) where
-    pub leaves_queue : AreAlike n (off_queue t q s) (forget j.number d) dues
-    leaves_queue = falls_out s (off_queue t q s) d (forget j.number d) dues dues n t j.number f
+    pub leaves_queue : AreAlike c n (off_queue t q s) (forget j.number d) dues
+    leaves_queue = falls_out c s (off_queue t q s) d (forget j.number d) dues dues n t j.number f
         (record {
           same = λ u i ne nk. record { held = with_there j.number None d.held i nk; places = λ p e. (e, refl); timers = λ r e. (e, refl); queue = λ i. still u ne i };
           jobs = λ u ne. with_there t None s.jobs u ne;
@@ -126,8 +128,8 @@ module _ (n : ℕ) (s : Slots) (d : Dgrams) (dues : ℕ → Option ℕ) (f : Are
   no_queue t none i = (let g = f.queue t i in let z : None ≡ Some g.0 = sym none ∙ g.1 in cc)
 
   -- A job comes into the queue.
-  pub joins_queue : (t k : ℕ) (j : Job Request) (a : Tryer) (q : List ℕ) → s.jobs t ≡ None → d.held k ≡ None → j.number ≡ k → j.stage ≡ at.Queued → a.stage ≡ Queued → IsJobOf j a 5 → s.used ≡ 100 → ((u : ℕ) → IsIn u s.queue → IsIn u q) → IsIn t q → ((u : ℕ) → (t ≡ u → ⊥) → IsIn u q → IsIn u s.queue) → AreAlike n (at_queue t j q s) (waits k a d) dues
-  joins_queue t k j a q absent unheld number js its_stage fit full still here were = comes_in s (at_queue t j q s) d (waits k a d) dues dues n t k f
+  pub joins_queue : (t k : ℕ) (j : Job Request) (a : Tryer) (q : List ℕ) → s.jobs t ≡ None → d.held k ≡ None → j.number ≡ k → j.stage ≡ at.Queued → a.stage ≡ Queued → IsJobOf c j a c.transports.dgram_max_retries → s.used ≡ max_places c → ((u : ℕ) → IsIn u s.queue → IsIn u q) → IsIn t q → ((u : ℕ) → (t ≡ u → ⊥) → IsIn u q → IsIn u s.queue) → AreAlike c n (at_queue t j q s) (waits k a d) dues
+  joins_queue t k j a q absent unheld number js its_stage fit full still here were = comes_in c s (at_queue t j q s) d (waits k a d) dues dues n t k f
       (record {
         same = λ u i ne nk. record { held = with_there k (Some a) d.held i nk; places = λ p e. (e, refl); timers = λ r e. (e, refl); queue = λ i. still u i };
         jobs = λ u ne. with_there t (Some j) s.jobs u ne;
@@ -142,13 +144,13 @@ module _ (n : ℕ) (s : Slots) (d : Dgrams) (dues : ℕ → Option ℕ) (f : Are
       n f.used absent unheld j (with_here t (Some j) s.jobs) number a (with_here k (Some a) d.held) (AtQueue js its_stage here fit) (λ p e. absurd (no_place t p absent e)) (λ r e. absurd (no_timer t r absent e)) (λ i. js)
 
 -- A job comes to a place, which is new.
-module _ (n : ℕ) (s : Slots) (d : Dgrams) (dues : ℕ → Option ℕ) (f : AreAlike (suc n) s d dues) (t p k : ℕ) (j : Job Request) (a : Tryer) (absent : s.jobs t ≡ None) (unheld : d.held k ≡ None) (new : s.places p ≡ None) (number : j.number ≡ k) (at : place_in j.stage ≡ Some p) (timers dues' : ℕ → Option ℕ) (still : (i u : ℕ) → (t ≡ u → ⊥) → s.timers i ≡ Some u → (timers i ≡ Some u) × (dues' i ≡ dues i))
-    (were : (i u : ℕ) → (t ≡ u → ⊥) → timers i ≡ Some u → s.timers i ≡ Some u) (its : (i : ℕ) → timers i ≡ Some t → timer_in j.stage ≡ Some i) (fits : StageFits (at_place t p j timers s) (come p k a d) dues' t j a) where
+module _ (c : Conf) (n : ℕ) (s : Slots) (d : Dgrams) (dues : ℕ → Option ℕ) (f : AreAlike c (suc n) s d dues) (t p k : ℕ) (j : Job Request) (a : Tryer) (absent : s.jobs t ≡ None) (unheld : d.held k ≡ None) (new : s.places p ≡ None) (number : j.number ≡ k) (at : place_in j.stage ≡ Some p) (timers dues' : ℕ → Option ℕ) (still : (i u : ℕ) → (t ≡ u → ⊥) → s.timers i ≡ Some u → (timers i ≡ Some u) × (dues' i ≡ dues i))
+    (were : (i u : ℕ) → (t ≡ u → ⊥) → timers i ≡ Some u → s.timers i ≡ Some u) (its : (i : ℕ) → timers i ≡ Some t → timer_in j.stage ≡ Some i) (fits : StageFits c (at_place t p j timers s) (come p k a d) dues' t j a) where
   taken : (q u : ℕ) → s.places q ≡ Some u → (p ≡ q → ⊥)
   taken q u e same = (let z : None ≡ Some u = sym new ∙ (ap s.places same ∙ e) in cc)
 
   its_own : (q : ℕ) → with_at p (Some t) s.places q ≡ Some t → place_in j.stage ≡ Some q
-  its_own q e = elim (is_or_was p (Some t) s.places q t e) [ inl x ↦ at ∙ ap Some x.0 | inr x ↦ absurd (no_place (suc n) s d dues f t q absent x.1) ]
+  its_own q e = elim (is_or_was p (Some t) s.places q t e) [ inl x ↦ at ∙ ap Some x.0 | inr x ↦ absurd (no_place c (suc n) s d dues f t q absent x.1) ]
 
   were_places : (q u : ℕ) → (t ≡ u → ⊥) → with_at p (Some t) s.places q ≡ Some u → s.places q ≡ Some u
   were_places q u ne e = elim (is_or_was p (Some t) s.places q u e) [ inl x ↦ absurd (ne (let z : Some t ≡ Some u = x.1 in cc)) | inr x ↦ x.1 ]
@@ -156,8 +158,8 @@ module _ (n : ℕ) (s : Slots) (d : Dgrams) (dues : ℕ → Option ℕ) (f : Are
   none_there : (q : ℕ) → with_at p (Some t) s.places q ≡ None → with_at p (Some k) d.at q ≡ None
   none_there q e = elim (cases_eq p q) [ inl same ↦ absurd (let z : Some t ≡ None = sym (with_here p (Some t) s.places) ∙ (ap (with_at p (Some t) s.places) same ∙ e) in cc) | inr ne ↦ with_there p (Some k) d.at q ne ∙ f.none q (sym (with_there p (Some t) s.places q ne) ∙ e) ]
 
-  pub comes_to_place : AreAlike n (at_place t p j timers s) (come p k a d) dues'
-  comes_to_place = comes_in s (at_place t p j timers s) d (come p k a d) dues dues' (suc n) t k f
+  pub comes_to_place : AreAlike c n (at_place t p j timers s) (come p k a d) dues'
+  comes_to_place = comes_in c s (at_place t p j timers s) d (come p k a d) dues dues' (suc n) t k f
       (record {
         same = λ u i ne nk. record { held = with_there k (Some a) d.held i nk; places = λ q e. (let o = taken q u e in (with_there p (Some t) s.places q o ∙ e, with_there p (Some k) d.at q o)); timers = λ r e. still r u ne e; queue = λ i. i };
         jobs = λ u ne. with_there t (Some j) s.jobs u ne;
@@ -169,21 +171,21 @@ module _ (n : ℕ) (s : Slots) (d : Dgrams) (dues : ℕ → Option ℕ) (f : Are
         few = f.few;
         full = f.full;
       })
-      n (more s.used d.used n f.used) absent unheld j (with_here t (Some j) s.jobs) number a (with_here k (Some a) d.held) fits its_own its (λ i. absurd (no_queue (suc n) s d dues f t absent i))
+      n (more s.used d.used n f.used) absent unheld j (with_here t (Some j) s.jobs) number a (with_here k (Some a) d.held) fits its_own its (λ i. absurd (no_queue c (suc n) s d dues f t absent i))
 
 -- a slot is taken for one who comes, or is free for nobody
-pub takes_slot : (s : Slots) (d : Dgrams) (dues : ℕ → Option ℕ) → AreAlike 0 s d dues → s.used < 100 → AreAlike 1 (record s { used = s.used + 1 }) d dues
-takes_slot s d dues f lt = record { jobs = λ t j e. (let g = f.jobs t j e in (g.0, g.1, again t j g.0 g.2)); held = f.held; apart = f.apart; places = f.places; none = f.none; timers = f.timers; queue = f.queue; live = f.live; used = (let e = f.used in omega arith); few = omega arith; full = λ u i. absurd (let e = f.full u i in omega arith) }
+pub takes_slot : (c : Conf) (s : Slots) (d : Dgrams) (dues : ℕ → Option ℕ) → AreAlike c 0 s d dues → s.used < max_places c → AreAlike c 1 (record s { used = s.used + 1 }) d dues
+takes_slot c s d dues f lt = record { jobs = λ t j e. (let g = f.jobs t j e in (g.0, g.1, again t j g.0 g.2)); held = f.held; apart = f.apart; places = f.places; none = f.none; timers = f.timers; queue = f.queue; live = f.live; used = (let e = f.used in omega arith); few = omega arith; full = λ u i. absurd (let e = f.full u i in omega arith) }
   where
-    again : (t : ℕ) (j : Job Request) (a : Tryer) → StageFits s d dues t j a → StageFits (record s { used = s.used + 1 }) d dues t j a
+    again : (t : ℕ) (j : Job Request) (a : Tryer) → StageFits c s d dues t j a → StageFits c (record s { used = s.used + 1 }) d dues t j a
     again t j a (AtQueue js its_stage q fit) = AtQueue js its_stage q fit
     again t j a (AtOpening p js its_stage pl its fit) = AtOpening p js its_stage pl its fit
     again t j a (AtSent p r id m js its_stage pl its tm due rq lt fit) = AtSent p r id m js its_stage pl its tm due rq lt fit
 
-pub drops_slot : (s : Slots) (d : Dgrams) (dues : ℕ → Option ℕ) → AreAlike 1 s d dues → s.queue ≡ [] → AreAlike 0 (record s { used = s.used - 1 }) d dues
-drops_slot s d dues f none = record { jobs = λ t j e. (let g = f.jobs t j e in (g.0, g.1, again t j g.0 g.2)); held = f.held; apart = f.apart; places = f.places; none = f.none; timers = f.timers; queue = f.queue; live = f.live; used = (let e = f.used in omega arith); few = (let e = f.few in omega arith); full = λ u i. absurd (subst (IsIn u) none i) }
+pub drops_slot : (c : Conf) (s : Slots) (d : Dgrams) (dues : ℕ → Option ℕ) → AreAlike c 1 s d dues → s.queue ≡ [] → AreAlike c 0 (record s { used = s.used - 1 }) d dues
+drops_slot c s d dues f none = record { jobs = λ t j e. (let g = f.jobs t j e in (g.0, g.1, again t j g.0 g.2)); held = f.held; apart = f.apart; places = f.places; none = f.none; timers = f.timers; queue = f.queue; live = f.live; used = (let e = f.used in omega arith); few = (let e = f.few in omega arith); full = λ u i. absurd (subst (IsIn u) none i) }
   where
-    again : (t : ℕ) (j : Job Request) (a : Tryer) → StageFits s d dues t j a → StageFits (record s { used = s.used - 1 }) d dues t j a
+    again : (t : ℕ) (j : Job Request) (a : Tryer) → StageFits c s d dues t j a → StageFits c (record s { used = s.used - 1 }) d dues t j a
     again t j a (AtQueue js its_stage q fit) = AtQueue js its_stage q fit
     again t j a (AtOpening p js its_stage pl its fit) = AtOpening p js its_stage pl its fit
     again t j a (AtSent p r id m js its_stage pl its tm due rq lt fit) = AtSent p r id m js its_stage pl its tm due rq lt fit

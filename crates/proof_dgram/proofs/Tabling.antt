@@ -20,13 +20,15 @@ use Rattle.proof_dgram.proofs.Queueing.{in_from, goes_last, rises_last, in_last,
 use Rattle.proof_parts.proofs.Tables.{rises_from, rises_below, absent_above, sorted_puts, sorted_frees, fewer_by_frees, puts_path, frees_path}
 use Rattle.proof_parts.proofs.TimerLaws.{due_without, due_set}
 use Rattle.proof_dgram.proofs.Shifting.{off_place, off_queue, at_queue, gone, waits, leaves_place, leaves_queue, joins_queue}
+use Rattle.right_trace.specs.Trace.{Conf}
+use Rattle.right_trace.specs.Time.{max_places}
 
 pub same_slots : (x y : Slots) → x.jobs ≡ y.jobs → x.places ≡ y.places → x.timers ≡ y.timers → x.queue ≡ y.queue → x.used ≡ y.used → x.live ≡ y.live → x ≡ y
 same_slots x y jobs places timers queue used live = λ i. record { jobs = jobs i; places = places i; timers = timers i; queue = queue i; used = used i; live = live i }
 
 -- what tables with equal parts say
-pub alike_in : (n : ℕ) (x y : Slots) (d : Dgrams) (dues dues' : ℕ → Option ℕ) → x ≡ y → dues ≡ dues' → AreAlike n y d dues' → AreAlike n x d dues
-alike_in n x y d dues dues' e t f = subst (λ x. AreAlike n x d dues) (sym e) (subst (λ dues. AreAlike n y d dues) (sym t) f)
+pub alike_in : (c : Conf) (n : ℕ) (x y : Slots) (d : Dgrams) (dues dues' : ℕ → Option ℕ) → x ≡ y → dues ≡ dues' → AreAlike c n y d dues' → AreAlike c n x d dues
+alike_in c n x y d dues dues' e t f = subst (λ x. AreAlike c n x d dues) (sym e) (subst (λ dues. AreAlike c n y d dues) (sym t) f)
 
 pub one_less : (a b : ℕ) → suc a ≡ b → a ≡ b - 1
 one_less a b e = omega arith
@@ -44,7 +46,7 @@ dues_less v r fair = fun_ext (λ i. due_without r i 0 v.timers.next v.timers.set
 pub dues_more : (v : View) (due : ℕ) → IsFair v → (λ (i : ℕ). due_of i (with_timer due v.timers).set) ≡ with_at v.timers.next (Some due) (λ i. due_of i v.timers.set)
 dues_more v due fair = fun_ext (λ i. due_set due i 0 v.timers.next v.timers.set fair.order)
 
-module _ (n : ℕ) (s : Tables Request) (d : Dgrams) (v : View) (f : AreSlots n s d (sight v)) (fair : IsFair v) where
+module _ (c : Conf) (n : ℕ) (s : Tables Request) (d : Dgrams) (v : View) (f : AreSlots c n s d (sight v)) (fair : IsFair v) where
   abbrev dues : ℕ → Option ℕ
   dues i = due_of i v.timers.set
 
@@ -52,11 +54,11 @@ module _ (n : ℕ) (s : Tables Request) (d : Dgrams) (v : View) (f : AreSlots n 
   timer_of t i j is e = (let g = f.alike.timers i t e in let z : Some g.0 ≡ Some j = sym g.1 ∙ is in let same : g.0 ≡ j = cc in ap (λ (j : Job Request). timer_in j.stage) (sym same) ∙ g.2)
 
   -- A job leaves the place that opens.
-  pub leaves_opening : (t p : ℕ) (j : Job Request) → entry_at t s.jobs ≡ Some j → j.stage ≡ at.Opening p → entry_at p s.places ≡ Some t → AreSlots (suc n) (record s { jobs = frees t s.jobs; places = frees p s.places }) (gone p j.number d) (sight v)
+  pub leaves_opening : (t p : ℕ) (j : Job Request) → entry_at t s.jobs ≡ Some j → j.stage ≡ at.Opening p → entry_at p s.places ≡ Some t → AreSlots c (suc n) (record s { jobs = frees t s.jobs; places = frees p s.places }) (gone p j.number d) (sight v)
   leaves_opening t p j is st here = record {
-    alike = alike_in (suc n) _ (off_place t p (λ r. entry_at r s.timers) (slots_of s)) (gone p j.number d) dues dues
+    alike = alike_in c (suc n) _ (off_place t p (λ r. entry_at r s.timers) (slots_of s)) (gone p j.number d) dues dues
         (same_slots _ (off_place t p (λ r. entry_at r s.timers) (slots_of s)) (frees_path t 0 v.ticket s.jobs f.jobs) (frees_path p 0 v.place s.places f.places) refl refl refl (one_less (length (frees p s.places)) (length s.places) (fewer_by_frees p t s.places here))) refl
-        (leaves_place n (slots_of s) d dues f.alike t p j is (ap place_in st) (above (length (frees p s.places)) (length s.places) (fewer_by_frees p t s.places here)) (λ r. entry_at r s.timers) dues (λ i u ne e. (e, refl)) (λ i u e. (e, λ same. (let z : None ≡ Some i = sym (ap timer_in st) ∙ timer_of t i j is (e ∙ ap Some (sym same)) in cc))));
+        (leaves_place c n (slots_of s) d dues f.alike t p j is (ap place_in st) (above (length (frees p s.places)) (length s.places) (fewer_by_frees p t s.places here)) (λ r. entry_at r s.timers) dues (λ i u ne e. (e, refl)) (λ i u e. (e, λ same. (let z : None ≡ Some i = sym (ap timer_in st) ∙ timer_of t i j is (e ∙ ap Some (sym same)) in cc))));
     jobs = sorted_frees t 0 v.ticket s.jobs f.jobs;
     places = sorted_frees p 0 v.place s.places f.places;
     timers = f.timers;
@@ -64,12 +66,12 @@ module _ (n : ℕ) (s : Tables Request) (d : Dgrams) (v : View) (f : AreSlots n 
   }
 
   -- A job leaves the place where it was sent, and its timer goes.
-  pub leaves_sent : (t p r : ℕ) (j : Job Request) → entry_at t s.jobs ≡ Some j → j.stage ≡ at.Sent p r → entry_at p s.places ≡ Some t → entry_at r s.timers ≡ Some t → AreSlots (suc n) (leaves p t r s) (gone p j.number d) (sight (record v { timers = cancelled r v.timers }))
+  pub leaves_sent : (t p r : ℕ) (j : Job Request) → entry_at t s.jobs ≡ Some j → j.stage ≡ at.Sent p r → entry_at p s.places ≡ Some t → entry_at r s.timers ≡ Some t → AreSlots c (suc n) (leaves p t r s) (gone p j.number d) (sight (record v { timers = cancelled r v.timers }))
   leaves_sent t p r j is st here its = record {
-    alike = alike_in (suc n) _ (off_place t p (with_at r None (λ r. entry_at r s.timers)) (slots_of s)) (gone p j.number d) (λ i. due_of i (cancelled r v.timers).set) (with_at r None dues)
+    alike = alike_in c (suc n) _ (off_place t p (with_at r None (λ r. entry_at r s.timers)) (slots_of s)) (gone p j.number d) (λ i. due_of i (cancelled r v.timers).set) (with_at r None dues)
         (same_slots _ (off_place t p (with_at r None (λ r. entry_at r s.timers)) (slots_of s)) (frees_path t 0 v.ticket s.jobs f.jobs) (frees_path p 0 v.place s.places f.places) (frees_path r 0 v.timers.next s.timers f.timers) refl refl (one_less (length (frees p s.places)) (length s.places) (fewer_by_frees p t s.places here)))
         (dues_less v r fair)
-        (leaves_place n (slots_of s) d dues f.alike t p j is (ap place_in st) (above (length (frees p s.places)) (length s.places) (fewer_by_frees p t s.places here)) (with_at r None (λ r. entry_at r s.timers)) (with_at r None dues)
+        (leaves_place c n (slots_of s) d dues f.alike t p j is (ap place_in st) (above (length (frees p s.places)) (length s.places) (fewer_by_frees p t s.places here)) (with_at r None (λ r. entry_at r s.timers)) (with_at r None dues)
         (λ i u ne e. (let o : r ≡ i → ⊥ = λ same. ne (let z : Some t ≡ Some u = sym its ∙ (ap (λ r. entry_at r s.timers) same ∙ e) in cc) in (with_there r None (λ r. entry_at r s.timers) i o ∙ e, with_there r None dues i o)))
         (λ i u e. (let w = was_there r (λ r. entry_at r s.timers) i u e in (w.1, λ same. w.0 (let z : Some r ≡ Some i = sym (ap timer_in st) ∙ timer_of t i j is (w.1 ∙ ap Some (sym same)) in cc)))));
     jobs = sorted_frees t 0 v.ticket s.jobs f.jobs;
@@ -79,10 +81,10 @@ module _ (n : ℕ) (s : Tables Request) (d : Dgrams) (v : View) (f : AreSlots n 
   }
 
   -- A job leaves the queue: the first of it, or any.
-  pub leaves_first : (t : ℕ) (q : List ℕ) (j : Job Request) → s.queue ≡ t ∷ q → entry_at t s.jobs ≡ Some j → j.stage ≡ at.Queued → AreSlots n (record s { queue = q; jobs = frees t s.jobs }) (forget j.number d) (sight v)
+  pub leaves_first : (t : ℕ) (q : List ℕ) (j : Job Request) → s.queue ≡ t ∷ q → entry_at t s.jobs ≡ Some j → j.stage ≡ at.Queued → AreSlots c n (record s { queue = q; jobs = frees t s.jobs }) (forget j.number d) (sight v)
   leaves_first t q j e is st = record {
-    alike = alike_in n _ (off_queue t q (slots_of s)) (forget j.number d) dues dues (same_slots _ (off_queue t q (slots_of s)) (frees_path t 0 v.ticket s.jobs f.jobs) refl refl refl refl refl) refl
-        (leaves_queue n (slots_of s) d dues f.alike t j is st q (λ u ne i. still u ne (subst (IsIn u) e i)) (λ u i. (subst (IsIn u) (sym e) (inr i), λ same. (let r = in_from u (suc t) v.ticket q rest.2 i in omega arith))));
+    alike = alike_in c n _ (off_queue t q (slots_of s)) (forget j.number d) dues dues (same_slots _ (off_queue t q (slots_of s)) (frees_path t 0 v.ticket s.jobs f.jobs) refl refl refl refl refl) refl
+        (leaves_queue c n (slots_of s) d dues f.alike t j is st q (λ u ne i. still u ne (subst (IsIn u) e i)) (λ u i. (subst (IsIn u) (sym e) (inr i), λ same. (let r = in_from u (suc t) v.ticket q rest.2 i in omega arith))));
     jobs = sorted_frees t 0 v.ticket s.jobs f.jobs;
     places = f.places;
     timers = f.timers;
@@ -96,10 +98,10 @@ module _ (n : ℕ) (s : Tables Request) (d : Dgrams) (v : View) (f : AreSlots n 
       still u ne (inl same) = absurd (ne same)
       still u ne (inr i) = i
 
-  pub leaves_any : (t : ℕ) (j : Job Request) → entry_at t s.jobs ≡ Some j → j.stage ≡ at.Queued → AreSlots n (record s { jobs = frees t s.jobs; queue = remove_key (is_at (nat_cmp t)) s.queue }) (forget j.number d) (sight v)
+  pub leaves_any : (t : ℕ) (j : Job Request) → entry_at t s.jobs ≡ Some j → j.stage ≡ at.Queued → AreSlots c n (record s { jobs = frees t s.jobs; queue = remove_key (is_at (nat_cmp t)) s.queue }) (forget j.number d) (sight v)
   leaves_any t j is st = record {
-    alike = alike_in n _ (off_queue t (remove_key (is_at (nat_cmp t)) s.queue) (slots_of s)) (forget j.number d) dues dues (same_slots _ (off_queue t (remove_key (is_at (nat_cmp t)) s.queue) (slots_of s)) (frees_path t 0 v.ticket s.jobs f.jobs) refl refl refl refl refl) refl
-        (leaves_queue n (slots_of s) d dues f.alike t j is st (remove_key (is_at (nat_cmp t)) s.queue) (λ u ne i. stays_in u t s.queue ne i) (λ u i. was_in u t 0 v.ticket s.queue f.queue i));
+    alike = alike_in c n _ (off_queue t (remove_key (is_at (nat_cmp t)) s.queue) (slots_of s)) (forget j.number d) dues dues (same_slots _ (off_queue t (remove_key (is_at (nat_cmp t)) s.queue) (slots_of s)) (frees_path t 0 v.ticket s.jobs f.jobs) refl refl refl refl refl) refl
+        (leaves_queue c n (slots_of s) d dues f.alike t j is st (remove_key (is_at (nat_cmp t)) s.queue) (λ u ne i. stays_in u t s.queue ne i) (λ u i. was_in u t 0 v.ticket s.queue f.queue i));
     jobs = sorted_frees t 0 v.ticket s.jobs f.jobs;
     places = f.places;
     timers = f.timers;
@@ -107,10 +109,10 @@ module _ (n : ℕ) (s : Tables Request) (d : Dgrams) (v : View) (f : AreSlots n 
   }
 
   -- A job comes into the queue, under the next ticket.
-  pub comes_last : (k : ℕ) (j : Job Request) (a : Tryer) → d.held k ≡ None → j.number ≡ k → j.stage ≡ at.Queued → a.stage ≡ Queued → IsJobOf j a 5 → s.used ≡ 100 → AreSlots n (record s { jobs = puts v.ticket j s.jobs; queue = insert_key nat_cmp s.queue v.ticket }) (waits k a d) (sight (record v { ticket = v.ticket + 1 }))
+  pub comes_last : (k : ℕ) (j : Job Request) (a : Tryer) → d.held k ≡ None → j.number ≡ k → j.stage ≡ at.Queued → a.stage ≡ Queued → IsJobOf c j a c.transports.dgram_max_retries → s.used ≡ max_places c → AreSlots c n (record s { jobs = puts v.ticket j s.jobs; queue = insert_key nat_cmp s.queue v.ticket }) (waits k a d) (sight (record v { ticket = v.ticket + 1 }))
   comes_last k j a unheld number js its_stage fit full = record {
-    alike = alike_in n _ (at_queue v.ticket j (s.queue ++ v.ticket ∷ []) (slots_of s)) (waits k a d) dues dues (same_slots _ (at_queue v.ticket j (s.queue ++ v.ticket ∷ []) (slots_of s)) (puts_path v.ticket j s.jobs) refl refl last refl refl) refl
-        (joins_queue n (slots_of s) d dues f.alike v.ticket k j a (s.queue ++ v.ticket ∷ []) (absent_above 0 v.ticket v.ticket s.jobs (omega arith) f.jobs) unheld number js its_stage fit full (λ u i. still_in u v.ticket s.queue i) (last_in v.ticket s.queue) (λ u ne i. elim (in_last u v.ticket s.queue i) [ inl i ↦ i | inr e ↦ absurd (ne e) ]));
+    alike = alike_in c n _ (at_queue v.ticket j (s.queue ++ v.ticket ∷ []) (slots_of s)) (waits k a d) dues dues (same_slots _ (at_queue v.ticket j (s.queue ++ v.ticket ∷ []) (slots_of s)) (puts_path v.ticket j s.jobs) refl refl last refl refl) refl
+        (joins_queue c n (slots_of s) d dues f.alike v.ticket k j a (s.queue ++ v.ticket ∷ []) (absent_above 0 v.ticket v.ticket s.jobs (omega arith) f.jobs) unheld number js its_stage fit full (λ u i. still_in u v.ticket s.queue i) (last_in v.ticket s.queue) (λ u ne i. elim (in_last u v.ticket s.queue i) [ inl i ↦ i | inr e ↦ absurd (ne e) ]));
     jobs = sorted_puts v.ticket j 0 (v.ticket + 1) s.jobs zero-le (omega arith) (rises_below (λ (e : ℕ × Job Request). e.0) 0 v.ticket (v.ticket + 1) s.jobs (up v.ticket) f.jobs);
     places = f.places;
     timers = f.timers;

@@ -9,7 +9,7 @@ use Rattle.client_request.specs.Timers.{can_draw}
 use Rattle.client_request.specs.View.{View}
 use Rattle.client_request.specs.declared.event.Out.TheVariants.{OpenDgram}
 use Rattle.client_dgram.specs.Plain.{Tables, tries_at, takes_at, takes}
-use Rattle.client_settings.specs.Dgram.{default_settings}
+use Rattle.right_settings.specs.Given.{dgrams_of}
 use Rattle.client_dgram.specs.declared.job.Job.{Job}
 use Rattle.client_dgram.specs.declared.job.Stage.TheVariants as at
 use Rattle.proof_right.specs.machine.Streams as multi
@@ -28,6 +28,8 @@ use Rattle.proof_dgram.proofs.Naming.{names_more}
 use Rattle.proof_dgram.proofs.Shifting.{come, takes_slot}
 use Rattle.proof_dgram.proofs.Tabling.{comes_last}
 use Rattle.proof_dgram.proofs.Coming.{comes_at}
+use Rattle.right_trace.specs.Trace.{Conf}
+use Rattle.right_trace.specs.Time.{max_places}
 
 over : (a : ℕ) → a ≤ a + 1
 over a = omega arith
@@ -38,9 +40,12 @@ one_more a = omega arith
 next : (a : ℕ) → a < a + 1
 next a = omega arith
 
-module _ (server : ℕ) (s : Tables Request) (d : Dgrams) (v : View) (r : Request) (f : AreSlots 0 s d (sight v)) (fair : IsFair v) (octets : IsOfOctets r) (unheld : d.held v.request ≡ None) where
+none_before : (n : ℕ) → 0 + n ≡ n
+none_before n = omega arith
+
+module _ (c : Conf) (server : ℕ) (s : Tables Request) (d : Dgrams) (v : View) (r : Request) (f : AreSlots c 0 s d (sight v)) (fair : IsFair v) (octets : IsOfOctets r) (unheld : d.held v.request ≡ None) where
   abbrev job : Job Request
-  job = record { number = v.request; request = r; left = 5; stage = at.Queued }
+  job = record { number = v.request; request = r; left = c.transports.dgram_max_retries; stage = at.Queued }
 
   abbrev queued : Tryer
   queued = record { request = r; tries = 0; stage = Queued }
@@ -48,29 +53,29 @@ module _ (server : ℕ) (s : Tables Request) (d : Dgrams) (v : View) (r : Reques
   abbrev drawn : View
   drawn = record v { ticket = v.ticket + 1 }
 
-  fit : IsJobOf job queued 5
-  fit = record { request = λ id. refl; octets = octets; left = refl }
+  fit : IsJobOf c job queued c.transports.dgram_max_retries
+  fit = record { request = λ id. refl; octets = octets; left = none_before c.transports.dgram_max_retries }
 
   abbrev Takes : Option (Tables Request × View) → Type 0
-  Takes o = Leads (HasTaken server r s d v) o
+  Takes o = Leads (HasTaken c server r s d v) o
 
-  tested : (b : Bool) → nat_lt s.used 100 ≡ b → b ≡ true → s.used < 100
+  tested : (b : Bool) → nat_lt s.used (max_places c) ≡ b → b ≡ true → s.used < max_places c
   tested b e t = grind (arith, nat_tests)
 
-  untested : (b : Bool) → nat_lt s.used 100 ≡ b → b ≡ false → 100 ≤ s.used
+  untested : (b : Bool) → nat_lt s.used (max_places c) ≡ b → b ≡ false → max_places c ≤ s.used
   untested b e t = grind (arith, nat_tests)
 
-  full : 100 ≤ s.used → s.used ≡ 100
+  full : max_places c ≤ s.used → s.used ≡ max_places c
   full le = (let few = f.alike.few in omega arith)
 
-  waits : s.used ≡ 100 → Takes (takes_at for_one server default_settings v.ticket job s drawn false)
+  waits : s.used ≡ max_places c → Takes (takes_at for_one server (dgrams_of c) v.ticket job s drawn false)
   waits is = record {
     made = still v.place (with_request v.request r d);
     steps = Rests v.place (with_request v.request r d);
     leaves = record {
       outs = sym (append-nil v.outs);
       place = refl;
-      slots = comes_last 0 s d v f fair v.request job queued unheld refl refl refl fit is;
+      slots = comes_last c 0 s d v f fair v.request job queued unheld refl refl refl fit is;
       after = record { fair = record { order = fair.order; words = fair.words }; now = refl; request = refl; more = refl; timer = le_refl v.timers.next; ticket = over v.ticket; place = le_refl v.place; later = λ i due e. inl e };
       apart = record { owned = λ i o. inl o; others = λ i due none e. e; places = λ p k e. inl (k, e) };
     };
@@ -78,20 +83,20 @@ module _ (server : ℕ) (s : Tables Request) (d : Dgrams) (v : View) (r : Reques
     posts = record { board = []; put = sym (append-nil v.board); gives = names_more v.ticket job s.jobs };
   }
 
-  tried : s.used < 100 → (b : Bool) → Takes (option_and_then (λ w. Some (tries_at server v.ticket job (record s { used = s.used + 1 }) drawn.place w)) (if b then Some (record drawn { place = drawn.place + 1 }) else None))
+  tried : s.used < max_places c → (b : Bool) → Takes (option_and_then (λ w. Some (tries_at server v.ticket job (record s { used = s.used + 1 }) drawn.place w)) (if b then Some (record drawn { place = drawn.place + 1 }) else None))
   tried lt false = tt
   tried lt true =
       let s0 : Tables Request = record s { used = s.used + 1 } in
       let p = v.place in
       let k = v.request in
       let e : Dgrams = try_at p k queued (with_request k r d) in
-      let slot : AreSlots 1 s0 d (sight drawn) = record { alike = takes_slot (slots_of s) d (λ i. due_of i v.timers.set) f.alike lt; jobs = rises_below (λ (e : ℕ × Job Request). e.0) 0 v.ticket (v.ticket + 1) s.jobs (over v.ticket) f.jobs; places = f.places; timers = f.timers; queue = rises_below (λ (t : ℕ). t) 0 v.ticket (v.ticket + 1) s.queue (over v.ticket) f.queue } in
-      let inn = comes_at 0 s0 d drawn slot v.ticket k job queued (absent_above 0 v.ticket v.ticket s.jobs (le_refl v.ticket) f.jobs) (next v.ticket) unheld refl fit in
-      let alike = alike_as 0 _ (come p k (staged queued (Trying p)) d) e _ (λ i. with_again k (Some (staged queued (Trying p))) (Some queued) d.held i) (λ q. refl) refl inn.alike in
+      let slot : AreSlots c 1 s0 d (sight drawn) = record { alike = takes_slot c (slots_of s) d (λ i. due_of i v.timers.set) f.alike lt; jobs = rises_below (λ (e : ℕ × Job Request). e.0) 0 v.ticket (v.ticket + 1) s.jobs (over v.ticket) f.jobs; places = f.places; timers = f.timers; queue = rises_below (λ (t : ℕ). t) 0 v.ticket (v.ticket + 1) s.queue (over v.ticket) f.queue } in
+      let inn = comes_at c 0 s0 d drawn slot v.ticket k job queued (absent_above 0 v.ticket v.ticket s.jobs (le_refl v.ticket) f.jobs) (next v.ticket) unheld refl fit in
+      let alike = alike_as c 0 _ (come p k (staged queued (Trying p)) d) e _ (λ i. with_again k (Some (staged queued (Trying p))) (Some queued) d.held i) (λ q. refl) refl inn.alike in
       let few = f.alike.used in
       record {
         made = then_act (made_by p (multi.Puts (OpenDgram p server)) e) (still (suc p) e);
-        steps = Steps_on p (with_request k r d) (multi.Puts (OpenDgram p server)) e _ _ (dgrams.Opens k queued (with_here k (Some queued) d.held) refl (omega arith)) (AsItIs (settled 0 _ e _ alike)) (Rests (suc p) e);
+        steps = Steps_on p (with_request k r d) (multi.Puts (OpenDgram p server)) e _ _ (dgrams.Opens k queued (with_here k (Some queued) d.held) refl (omega arith)) (AsItIs (settled c 0 _ e _ alike)) (Rests (suc p) e);
         leaves = record {
           outs = refl;
           place = one_more p;
@@ -103,13 +108,13 @@ module _ (server : ℕ) (s : Tables Request) (d : Dgrams) (v : View) (r : Reques
         posts = record { board = []; put = sym (append-nil v.board); gives = names_more v.ticket (record job { stage = at.Opening p }) s.jobs };
       }
 
-  by_slot : (b : Bool) → nat_lt s.used 100 ≡ b → Takes (takes_at for_one server default_settings v.ticket job s drawn b)
+  by_slot : (b : Bool) → nat_lt s.used (max_places c) ≡ b → Takes (takes_at for_one server (dgrams_of c) v.ticket job s drawn b)
   by_slot true e = tried (tested true e refl) (can_draw v.place)
   by_slot false e = waits (full (untested false e refl))
 
-  pub sends_does : Takes (takes for_one server default_settings r s v)
+  pub sends_does : Takes (takes for_one server (dgrams_of c) r s v)
   sends_does = go (can_draw v.ticket)
     where
-      go : (b : Bool) → Takes (option_and_then (λ w. takes_at for_one server default_settings v.ticket job s w (nat_lt s.used 100)) (if b then Some drawn else None))
+      go : (b : Bool) → Takes (option_and_then (λ w. takes_at for_one server (dgrams_of c) v.ticket job s w (nat_lt s.used (max_places c))) (if b then Some drawn else None))
       go false = tt
-      go true = by_slot (nat_lt s.used 100) refl
+      go true = by_slot (nat_lt s.used (max_places c)) refl

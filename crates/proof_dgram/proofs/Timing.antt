@@ -44,9 +44,9 @@ late_passes server i s v none =
     ap (λ o. dgram.at_ticket (λ ticket job s v. dgram.late_stage server ticket job s v job.stage) (record s { timers = frees i s.timers }) v o) none
     ∙ ap (λ ts. Some (record s { timers = ts }, v)) (frees_nothing i s.timers none)
 
-module _ (b c : Conf) (s : ℕ) {S : Type 0} (t : Transport Request S stream.Asked) (first : S) (Tied : Phase → S → Sight → Served → Type 0) (names : S → ℕ → Option ℕ) (Owns : S → (timer : ℕ) → Type 0) (y : AreStreams b s t first Tied names Owns) where
+module _ (b c : Conf) (same_transports : b.transports ≡ c.transports) (s : ℕ) {S : Type 0} (t : Transport Request S stream.Asked) (first : S) (Tied : Phase → S → Sight → Served → Type 0) (names : S → ℕ → Option ℕ) (Owns : S → (timer : ℕ) → Type 0) (y : AreStreams b s t first Tied names Owns) where
   abbrev Two : Type 0
-  Two = Both Tied names Owns s
+  Two = Both c Tied names Owns s
 
   -- what holds of what the datagrams leave holds once the streams have heard too
   pub leads_hears : (f : Two) (v : View) (h : Heard) (Q : dgram.Tables Request → View → Type 0) (R : Two → View → Type 0) (o : Option (dgram.Tables Request × View)) → calls.Leads Q o → ((z : dgram.Tables Request) (x : View) → Q z x → Leads R (with_parts f (hears_stream f.server (dgram.transport for_one) t h f.parts v (record f.parts.dgram { tables = z }, x))))
@@ -61,7 +61,7 @@ module _ (b c : Conf) (s : ℕ) {S : Type 0} (t : Transport Request S stream.Ask
   pub streams_pass : (f : Two) (v : View) (h : Heard) (R : Two → View → Type 0) (z : dgram.Tables Request) (x : View) → t.step h f.parts.stream (onto [] x) ≡ Some (f.parts.stream, onto [] x) → Leads R (settled_alone f v z x) → Leads R (with_parts f (hears_stream f.server (dgram.transport for_one) t h f.parts v (record f.parts.dgram { tables = z }, x)))
   streams_pass f v h R z x same l = subst (λ o. Leads R (with_parts f (option_and_then (settles_stream f.server (dgram.transport for_one) t x.board (record f.parts { dgram = record f.parts.dgram { tables = z } }) (onto v.board x)) o))) (sym same) l
 
-  module _ (f : Two) (v : View) (a : Served) (w : What) (i due : ℕ) (g : IsFallback Tied names Owns s (Untold w) f (sight v) a) (fair : IsFair v) (set : due_of i v.timers.set ≡ Some due) (late : due ≤ v.now) where
+  module _ (f : Two) (v : View) (a : Served) (w : What) (i due : ℕ) (g : IsFallback c Tied names Owns s (Untold w) f (sight v) a) (fair : IsFair v) (set : due_of i v.timers.set ≡ Some due) (late : due ≤ v.now) where
     abbrev d : Dgrams
     d = a.server.by_dgram
 
@@ -88,33 +88,33 @@ module _ (b c : Conf) (s : ℕ) {S : Type 0} (t : Transport Request S stream.Ask
     clock = y.clock (Untold w) f.parts.stream (sight v) alone g.streams
 
     abbrev Goal : Two → View → Type 0
-    Goal = Leaves (served c) (IsFallback Tied names Owns s) (names_in Tied names Owns s) (OwnsEither Tied names Owns s) (Chain (served c) s v.place a) (names_in Tied names Owns s f) f vc (Untold w)
+    Goal = Leaves (served c) (IsFallback c Tied names Owns s) (names_in c Tied names Owns s) (OwnsEither c Tied names Owns s) (Chain (served c) s v.place a) (names_in c Tied names Owns s f) f vc (Untold w)
 
     -- It is the datagrams'.
     module _ (k : ℕ) (own : entry_at i tables.timers ≡ Some k) where
       streams_c : Tied (Untold w) f.parts.stream (sight vc) alone
       streams_c = y.tie.same (Untold w) f.parts.stream (sight v) (sight vc) alone g.streams refl (λ j o. elsewhere j (λ e. g.timers i (k, own) (subst (Owns f.parts.stream) (sym e) o))) (le_refl v.timers.next) (le_refl v.ticket) (le_refl v.place)
 
-      fired : (z : dgram.Tables Request) (x : View) → HasFired s tables d (onto [] vc) z x → Leads Goal (settled_alone f vc z x)
+      fired : (z : dgram.Tables Request) (x : View) → HasFired c s tables d (onto [] vc) z x → Leads Goal (settled_alone f vc z x)
       fired z x h = leads_first _ _ _
-          (dgrams_leave b c s t first Tied names Owns y f vc d d fair_c g.server g.dgram_server g.settings h.made z x h.leaves g.timers
-          (requests_stay.steps s v.now v.place d h.made h.steps) (Untold w) (Untold w) a streams_c g.places g.apart
+          (dgrams_leave b c same_transports s t first Tied names Owns y f vc d d fair_c g.server g.dgram_server g.settings h.made z x h.leaves g.timers
+          ((requests_stay c).steps s v.now v.place d h.made h.steps) (Untold w) (Untold w) a streams_c g.places g.apart
           v.ticket (names_of tables) g.waiting h.leaves.after.ticket h.posts
-          (steps_whole s v.now v.place d h.made (whole_at_first d (settled 0 (slots_of tables) d _ g.slots.alike)) h.steps) tt (λ told. absurd told) (Chain (served c) s v.place a)
-          (servers_move.steps c s v.place a h.made (subst (λ n. Steps s n v.place d h.made) (sym clock) h.steps)))
+          (steps_whole c s v.now v.place d h.made (whole_at_first d (settled c 0 (slots_of tables) d _ g.slots.alike)) h.steps) tt (λ told. absurd told) (Chain (served c) s v.place a)
+          (servers_move.steps c s v.place a h.made (subst (λ n. Steps c s n v.place d h.made) (sym clock) h.steps)))
 
-      tied_fired : (z : dgram.Tables Request) (x : View) → HasFired s tables d (onto [] vc) z x → Tied (Untold w) f.parts.stream (sight x) alone
-      tied_fired z x h = tied_now b c s t first Tied names Owns y f vc d d fair_c g.server g.dgram_server g.settings h.made z x h.leaves g.timers (requests_stay.steps s v.now v.place d h.made h.steps) (Untold w) (Untold w) a streams_c g.places g.apart
+      tied_fired : (z : dgram.Tables Request) (x : View) → HasFired c s tables d (onto [] vc) z x → Tied (Untold w) f.parts.stream (sight x) alone
+      tied_fired z x h = tied_now b c same_transports s t first Tied names Owns y f vc d d fair_c g.server g.dgram_server g.settings h.made z x h.leaves g.timers ((requests_stay c).steps s v.now v.place d h.made h.steps) (Untold w) (Untold w) a streams_c g.places g.apart
 
       dgrams_fire : Leads Goal ((fallback.transport (dgram.transport for_one) t).step (due_timer i) f vc)
-      dgrams_fire = leads_hears f vc (due_timer i) (HasFired s tables d (onto [] vc)) Goal (dgram.late f.parts.dgram.server i tables (onto [] vc))
-          (subst (λ n. calls.Leads (HasFired s tables d (onto [] vc)) (dgram.late n i tables (onto [] vc))) (sym g.dgram_server) (calls_are_moves.fires s tables d (onto [] v) i due g.slots fair_on set late))
+      dgrams_fire = leads_hears f vc (due_timer i) (HasFired c s tables d (onto [] vc)) Goal (dgram.late f.parts.dgram.server i tables (onto [] vc))
+          (subst (λ n. calls.Leads (HasFired c s tables d (onto [] vc)) (dgram.late n i tables (onto [] vc))) (sym g.dgram_server) ((calls_are_moves c).fires s tables d (onto [] v) i due g.slots fair_on set late))
           (λ z x h. streams_pass f vc (due_timer i) Goal z x (y.shared.timers (Untold w) f.parts.stream (onto [] x) alone i (tied_fired z x h) (λ o. g.timers i (k, own) o)) (fired z x h))
 
     -- It is none of theirs.
     module _ (none : entry_at i tables.timers ≡ None) where
-      slots_c : AreSlots 0 tables d (sight vc)
-      slots_c = slots_are_known.same tables d (sight v) (sight vc) g.slots (λ j o. elsewhere j (λ e. (let z : None ≡ Some o.0 = sym none ∙ (ap (λ i. entry_at i tables.timers) e ∙ o.1) in cc))) (le_refl v.timers.next) (le_refl v.ticket) (le_refl v.place)
+      slots_c : AreSlots c 0 tables d (sight vc)
+      slots_c = (slots_are_known c).same tables d (sight v) (sight vc) g.slots (λ j o. elsewhere j (λ e. (let z : None ≡ Some o.0 = sym none ∙ (ap (λ i. entry_at i tables.timers) e ∙ o.1) in cc))) (le_refl v.timers.next) (le_refl v.ticket) (le_refl v.place)
 
       apart : (j n : ℕ) → is_some (d.held n) ≡ true → names f.parts.stream j ≡ Some n → ⊥
       apart j n held e = g.apart n held (y.tie.named (Untold w) f.parts.stream (sight v) alone j n g.streams e).1
@@ -129,15 +129,15 @@ module _ (b c : Conf) (s : ℕ) {S : Type 0} (t : Transport Request S stream.Ask
       left u x l =
           let z = l.made.state in
           let untaken = (y.pending (Untold w) w u (sight x) z refl l.tied).1 in
-          let chain = sitting_beside c b s d v.place alone l.made refl (y.pending (Untold w) w f.parts.stream (sight v) alone refl g.streams).2 l.may untaken in
-          streams_leave b c s t first Tied names Owns y f vc d fair_c g.server g.dgram_server g.settings slots_c (names f.parts.stream) v.ticket g.waiting g.timers apart (Chain (served b) s v.place alone) (Untold w) u x l l.goes_on.ticket (Untold w) z
+          let chain = sitting_beside c b same_transports s d v.place alone l.made refl (y.pending (Untold w) w f.parts.stream (sight v) alone refl g.streams).2 l.may untaken in
+          streams_leave b c same_transports s t first Tied names Owns y f vc d fair_c g.server g.dgram_server g.settings slots_c (names f.parts.stream) v.ticket g.waiting g.timers apart (Chain (served b) s v.place alone) (Untold w) u x l l.goes_on.ticket (Untold w) z
           (subst (Tied (Untold w) u (sight x)) (ap (λ (e : Dgrams). with_dgrams e z) (y.alone (Untold w) u (sight x) z l.tied)) l.tied)
-          (λ p n at op. elim ((openings_are_new c s v.place a (beside d l.made) chain).1 p op) [ inl was ↦ g.places p n at was | inr le ↦ below_all p v.place (slots_are_known.placed tables d (sight v) p n g.slots at) le ])
+          (λ p n at op. elim ((openings_are_new c s v.place a (beside d l.made) chain).1 p op) [ inl was ↦ g.places p n at was | inr le ↦ below_all p v.place ((slots_are_known c).placed tables d (sight v) p n g.slots at) le ])
           tt (λ told. absurd told) (Chain (served c) s v.place a) chain
 
       streams_fire : Leads Goal ((fallback.transport (dgram.transport for_one) t).step (due_timer i) f vc)
       streams_fire = subst (λ o. Leads Goal (with_parts f (option_and_then (hears_stream f.server (dgram.transport for_one) t (due_timer i) f.parts vc) (dgram.with_tables f.parts.dgram o)))) (sym (late_passes f.parts.dgram.server i tables (onto [] vc) none))
-          (leads_both b c s t first Tied names Owns y f vc d fair_c g.server g.dgram_server g.settings slots_c (names f.parts.stream) v.ticket g.waiting g.timers apart Streams_leave Goal (t.step (due_timer i) f.parts.stream (onto [] vc))
+          (leads_both b c same_transports s t first Tied names Owns y f vc d fair_c g.server g.dgram_server g.settings slots_c (names f.parts.stream) v.ticket g.waiting g.timers apart Streams_leave Goal (t.step (due_timer i) f.parts.stream (onto [] vc))
           (y.tie.fires f.parts.stream (onto [] v) alone w i due g.streams fair_on set late) left)
 
     pub fires_one : Leads Goal ((fallback.transport (dgram.transport for_one) t).step (due_timer i) f vc)

@@ -10,7 +10,7 @@ use Rattle.client_request.specs.declared.board.Posted.{Posted}
 use Rattle.client_request.specs.declared.event.Out.TheVariants.{Close}
 use Rattle.client_request.specs.declared.event.What.{What}
 use Rattle.client_dgram.specs.Plain.{Tables, late, takes, drops, tells}
-use Rattle.client_settings.specs.Dgram.{default_settings}
+use Rattle.right_settings.specs.Given.{dgrams_of}
 use Rattle.right_trace.specs.Messages.{Octets, truncated}
 use Rattle.proof_right.specs.machine.Part.{Act}
 use Rattle.proof_right.specs.machine.Served.{IsSettled}
@@ -22,6 +22,7 @@ use Rattle.proof_parts.specs.Chains.{then_act, Gives}
 use Rattle.proof_parts.specs.Sights.{sight, due_of, IsFair}
 use Rattle.proof_dgram.specs.Slots.{AreSlots, names_of}
 use Rattle.proof_dgram.specs.Steps.{made_by, AtOnce, Steps}
+use Rattle.right_trace.specs.Trace.{Conf}
 
 -- P holds of what a call leaves, if it leaves anything
 abbrev pub Leads : (Tables Request → View → Type 0) → Option (Tables Request × View) → Type 0
@@ -50,10 +51,10 @@ pub record KeepsApart (s : Tables Request) (d : Dgrams) (v : View) (t : Tables R
   pub places : (p k : ℕ) → e.at p ≡ Some k → ((j : ℕ) × (d.at p ≡ Some j)) ⊎ (v.place ≤ p)
 
 -- What a call leaves is what these moves leave.
-pub record Leaves (s : Tables Request) (d : Dgrams) (v : View) (made : Act Dgrams) (t : Tables Request) (w : View) : Type 0 where
+pub record Leaves (c : Conf) (s : Tables Request) (d : Dgrams) (v : View) (made : Act Dgrams) (t : Tables Request) (w : View) : Type 0 where
   pub outs : w.outs ≡ v.outs ++ made.outs
   pub place : w.place ≡ made.place
-  pub slots : AreSlots 0 t made.state (sight w)
+  pub slots : AreSlots c 0 t made.state (sight w)
   pub after : IsAfter v w
   pub apart : KeepsApart s d v t made.state w
 
@@ -64,10 +65,10 @@ pub record Posts (named : ℕ → Option ℕ) (v : View) (made : Act Dgrams) (t 
   pub gives : Gives named board made.posts (names_of t)
 
 -- A timer fires.
-pub record HasFired (server : ℕ) (s : Tables Request) (d : Dgrams) (v : View) (t : Tables Request) (w : View) : Type 0 where
+pub record HasFired (c : Conf) (server : ℕ) (s : Tables Request) (d : Dgrams) (v : View) (t : Tables Request) (w : View) : Type 0 where
   pub made : Act Dgrams
-  pub steps : Steps server v.now v.place d made
-  pub leaves : Leaves s d v made t w
+  pub steps : Steps c server v.now v.place d made
+  pub leaves : Leaves c s d v made t w
   pub posts : Posts (names_of s) v made t w
 
 -- the machine with one more request, which is queued
@@ -75,10 +76,10 @@ abbrev pub with_request : (k : ℕ) → Request → Dgrams → Dgrams
 with_request k r d = record d { held = with_at k (Some (record { request = r; tries = 0; stage = Queued })) d.held }
 
 -- A request is taken on.
-pub record HasTaken (server : ℕ) (r : Request) (s : Tables Request) (d : Dgrams) (v : View) (t : Tables Request) (w : View) : Type 0 where
+pub record HasTaken (c : Conf) (server : ℕ) (r : Request) (s : Tables Request) (d : Dgrams) (v : View) (t : Tables Request) (w : View) : Type 0 where
   pub made : Act Dgrams
-  pub steps : Steps server v.now v.place (with_request v.request r d) made
-  pub leaves : Leaves s d v made t w
+  pub steps : Steps c server v.now v.place (with_request v.request r d) made
+  pub leaves : Leaves c s d v made t w
   pub drawn : v.ticket < w.ticket
   pub posts : Posts (with_at v.ticket (Some v.request) (names_of s)) v made t w
 
@@ -87,18 +88,18 @@ pub data LetsGo (k place : ℕ) (d : Dgrams) : Act Dgrams → Type 0 where
   Waits : (a : Tryer) → d.held k ≡ Some a → a.stage ≡ Queued → LetsGo k place d (made_by place multi.Nothing (forget k d))
   HasPlace : (a : Tryer) (p : ℕ) → d.held k ≡ Some a → (a.stage ≡ Trying p) ⊎ ((id : ℕ) × (t : ℕ) × (a.stage ≡ Sent p id t)) → LetsGo k place d (made_by place (multi.Puts (Close p)) (forget k (leave p k a (Ending (Err errors.TimedOut)) d)))
 
-pub record HasDropped (server ticket k : ℕ) (s : Tables Request) (d : Dgrams) (v : View) (t : Tables Request) (w : View) : Type 0 where
+pub record HasDropped (c : Conf) (server ticket k : ℕ) (s : Tables Request) (d : Dgrams) (v : View) (t : Tables Request) (w : View) : Type 0 where
   pub first : Act Dgrams
   pub lets : LetsGo k v.place d first
   pub made : Act Dgrams
-  pub steps : Steps server v.now first.place first.state made
-  pub leaves : Leaves s d v (then_act first made) t w
+  pub steps : Steps c server v.now first.place first.state made
+  pub leaves : Leaves c s d v (then_act first made) t w
   pub nothing : (then_act first made).posts ≡ []
   pub board : w.board ≡ v.board
   pub names : (i : ℕ) → names_of t i ≡ with_at ticket None (names_of s) i
 
 -- A cut answer came for request k: the message is on the board, and its place is closed. In the machine the request is still one whose answer was cut, until it goes on by stream.
-pub record HasCut (server : ℕ) (what : What) (s : Tables Request) (d : Dgrams) (v : View) (t : Tables Request) (w : View) : Type 0 where
+pub record HasCut (c : Conf) (server : ℕ) (what : What) (s : Tables Request) (d : Dgrams) (v : View) (t : Tables Request) (w : View) : Type 0 where
   pub ticket : ℕ
   pub request : ℕ
   pub named : names_of s ticket ≡ Some request
@@ -108,25 +109,25 @@ pub record HasCut (server : ℕ) (what : What) (s : Tables Request) (d : Dgrams)
   pub message : Octets
   pub cut : truncated message ≡ true
   pub at : ℕ
-  pub meets : Meets v.now d what (multi.Puts (Close at)) (leave at request tryer Cut d)
+  pub meets : Meets c v.now d what (multi.Puts (Close at)) (leave at request tryer Cut d)
   pub settled : IsSettled (leave at request tryer Cut d)
   pub made : Act Dgrams
-  pub steps : Steps server v.now v.place (leave at request tryer Cut d) made
+  pub steps : Steps c server v.now v.place (leave at request tryer Cut d) made
   pub is_cut : made.state.held request ≡ Some (staged tryer Cut)
   pub nothing : made.posts ≡ []
-  pub leaves : Leaves s d v (then_act (made_by v.place (multi.Puts (Close at)) d) (record made { state = forget request made.state })) t w
+  pub leaves : Leaves c s d v (then_act (made_by v.place (multi.Puts (Close at)) d) (record made { state = forget request made.state })) t w
   pub put : w.board ≡ v.board ++ record { ticket = ticket; part = Ok (Some message); is_stale = false } ∷ []
   pub names : (i : ℕ) → names_of t i ≡ with_at ticket None (names_of s) i
 
 -- What an event does: nothing; a move that may give a result, and others behind it; or that a cut answer came.
-pub data HasTold (server : ℕ) (what : What) (s : Tables Request) (d : Dgrams) (v : View) (t : Tables Request) (w : View) : Type 0 where
-  Passes : IsIgnored what d → t ≡ s → w ≡ v → HasTold server what s d v t w
-  Moves : (x : multi.Act) (e : Dgrams) (first made : Act Dgrams) → Meets v.now d what x e → AtOnce v.place x e first → Steps server v.now first.place first.state made → Leaves s d v (then_act first made) t w → Posts (names_of s) v (then_act first made) t w → HasTold server what s d v t w
-  Cuts : HasCut server what s d v t w → HasTold server what s d v t w
+pub data HasTold (c : Conf) (server : ℕ) (what : What) (s : Tables Request) (d : Dgrams) (v : View) (t : Tables Request) (w : View) : Type 0 where
+  Passes : IsIgnored c what d → t ≡ s → w ≡ v → HasTold c server what s d v t w
+  Moves : (x : multi.Act) (e : Dgrams) (first made : Act Dgrams) → Meets c v.now d what x e → AtOnce v.place x e first → Steps c server v.now first.place first.state made → Leaves c s d v (then_act first made) t w → Posts (names_of s) v (then_act first made) t w → HasTold c server what s d v t w
+  Cuts : HasCut c server what s d v t w → HasTold c server what s d v t w
 
 -- Each call of a datagram connection that is tied leaves what the machine's moves leave, and it is tied again.
-pub record CallsAreMoves : Type 0 where
-  pub fires : (server : ℕ) (s : Tables Request) (d : Dgrams) (v : View) (i due : ℕ) → AreSlots 0 s d (sight v) → IsFair v → due_of i v.timers.set ≡ Some due → due ≤ v.now → Leads (HasFired server s d (record v { timers = cancelled i v.timers })) (late server i s (record v { timers = cancelled i v.timers }))
-  pub sends : (server : ℕ) (s : Tables Request) (d : Dgrams) (v : View) (r : Request) → AreSlots 0 s d (sight v) → IsFair v → IsOfOctets r → d.held v.request ≡ None → Leads (HasTaken server r s d v) (takes for_one server default_settings r s v)
-  pub cancels : (server : ℕ) (s : Tables Request) (d : Dgrams) (v : View) (ticket k : ℕ) → AreSlots 0 s d (sight v) → IsFair v → names_of s ticket ≡ Some k → Leads (HasDropped server ticket k s d v) (drops server ticket s v)
-  pub tells : (server : ℕ) (s : Tables Request) (d : Dgrams) (v : View) (what : What) → AreSlots 0 s d (sight v) → IsFair v → Leads (HasTold server what s d v) (tells for_one server default_settings what s v)
+pub record CallsAreMoves (c : Conf) : Type 0 where
+  pub fires : (server : ℕ) (s : Tables Request) (d : Dgrams) (v : View) (i due : ℕ) → AreSlots c 0 s d (sight v) → IsFair v → due_of i v.timers.set ≡ Some due → due ≤ v.now → Leads (HasFired c server s d (record v { timers = cancelled i v.timers })) (late server i s (record v { timers = cancelled i v.timers }))
+  pub sends : (server : ℕ) (s : Tables Request) (d : Dgrams) (v : View) (r : Request) → AreSlots c 0 s d (sight v) → IsFair v → IsOfOctets r → d.held v.request ≡ None → Leads (HasTaken c server r s d v) (takes for_one server (dgrams_of c) r s v)
+  pub cancels : (server : ℕ) (s : Tables Request) (d : Dgrams) (v : View) (ticket k : ℕ) → AreSlots c 0 s d (sight v) → IsFair v → names_of s ticket ≡ Some k → Leads (HasDropped c server ticket k s d v) (drops server ticket s v)
+  pub tells : (server : ℕ) (s : Tables Request) (d : Dgrams) (v : View) (what : What) → AreSlots c 0 s d (sight v) → IsFair v → Leads (HasTold c server what s d v) (tells for_one server (dgrams_of c) what s v)

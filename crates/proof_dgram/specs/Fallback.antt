@@ -7,7 +7,7 @@ use Rattle.client_request.specs.declared.event.Out.TheVariants.{Start}
 use Rattle.client_request.specs.declared.event.Via.TheVariants.{Stream}
 use Rattle.client_request.specs.declared.event.What.{What}
 use Rattle.client_dgram.specs.Plain as dgram
-use Rattle.client_settings.specs.Dgram as dgram_settings
+use Rattle.right_settings.specs.Given.{dgrams_of}
 use Rattle.client_stream.specs.Plain as stream
 use Rattle.client_multi.specs.Fallback.{Fallback}
 use Rattle.right_trace.specs.Orderly.{use_at}
@@ -47,12 +47,12 @@ pub record AreStreams (b : Conf) (s : ℕ) {S : Type 0} (t : Transport Request S
   pub drawn : (u : S) (v : View) (a : Served) (w : What) (r : Request) → Tied (Untold w) u (sight v) a → IsFair v → IsOfOctets r → holds a v.request ≡ false → Leads (λ x y. (v.ticket < y.ticket) × (y.more ≡ v.more)) (t.send r u (asks (Start v.request s Stream) v))
 
 -- once it was told, the event is nothing to the datagrams any more
-abbrev pub IsOver : Phase → Served → Type 0
-IsOver (Untold w) a = Unit {0}
-IsOver (Told p left) a = IsIgnored a.pending a.server.by_dgram
-IsOver (Passed w) a = IsIgnored w a.server.by_dgram
+abbrev pub IsOver : (c : Conf) → Phase → Served → Type 0
+IsOver c (Untold w) a = Unit {0}
+IsOver c (Told p left) a = IsIgnored c a.pending a.server.by_dgram
+IsOver c (Passed w) a = IsIgnored c w a.server.by_dgram
 
-module _ {S : Type 0} (Tied : Phase → S → Sight → Served → Type 0) (names : S → ℕ → Option ℕ) (Owns : S → (timer : ℕ) → Type 0) (s : ℕ) where
+module _ (c : Conf) {S : Type 0} (Tied : Phase → S → Sight → Served → Type 0) (names : S → ℕ → Option ℕ) (Owns : S → (timer : ℕ) → Type 0) (s : ℕ) where
   abbrev pub Both : Type 0
   Both = Fallback Request (dgram.Dgram Request) S dgram.Asked stream.Asked
 
@@ -60,14 +60,14 @@ module _ {S : Type 0} (Tied : Phase → S → Sight → Served → Type 0) (name
   pub record IsFallback (phase : Phase) (f : Both) (x : Sight) (a : Served) : Type 0 where
     pub server : f.server ≡ s
     pub dgram_server : f.parts.dgram.server ≡ s
-    pub settings : f.parts.dgram.settings ≡ dgram_settings.default_settings
-    pub slots : AreSlots 0 f.parts.dgram.tables a.server.by_dgram x
+    pub settings : f.parts.dgram.settings ≡ dgrams_of c
+    pub slots : AreSlots c 0 f.parts.dgram.tables a.server.by_dgram x
     pub streams : Tied phase f.parts.stream x (with_dgrams no_datagram a)
     pub waiting : AreWaiting ticket_at f.parts.tables a.server.by_dgram (names_of f.parts.dgram.tables) (names f.parts.stream) x.ticket
     pub timers : (i : ℕ) → dgrams.Owns f.parts.dgram.tables i → Owns f.parts.stream i → ⊥
     pub places : (p k : ℕ) → a.server.by_dgram.at p ≡ Some k → a.server.by_stream.opening ≡ Some p → ⊥
     pub apart : (k : ℕ) → is_some (a.server.by_dgram.held k) ≡ true → is_some (a.server.by_stream.asks k) ≡ true → ⊥
-    pub over : IsOver phase a
+    pub over : IsOver c phase a
     -- once the event was told, none of the datagrams' timers is due
     pub quiet : WasTold phase → NoneDue (dgrams.Owns f.parts.dgram.tables) x
 

@@ -19,15 +19,15 @@ abbrev pub beside : Dgrams → Act Served → Act Served
 beside d e = record e { state = with_dgrams d e.state }
 
 -- no request is at its read timeout
-abbrev pub AreInTime : (n : ℕ) → Dgrams → Type 0
-AreInTime n d = (k : ℕ) (a : Tryer) (p id t : ℕ) → d.held k ≡ Some a → a.stage ≡ Sent p id t → n < t + read_timeout
+abbrev pub AreInTime : (c : Conf) (n : ℕ) → Dgrams → Type 0
+AreInTime c n d = (k : ℕ) (a : Tryer) (p id t : ℕ) → d.held k ≡ Some a → a.stage ≡ Sent p id t → n < t + read_timeout c
 
 pub record StreamsMove : Type 0 where
   -- moves of its own, where the event is nothing to the datagrams and none of them is at its read timeout
-  pub chain : (c b : Conf) (s place : ℕ) (u : Served) (d : Dgrams) (e : Act Served) → IsByStreams u → IsIgnored u.pending d → AreInTime u.clock d → Chain (served b) s place u e → IsByStreams e.state × Chain (served c) s place (with_dgrams d u) (beside d e)
+  pub chain : (c b : Conf) → b.transports ≡ c.transports → (s place : ℕ) (u : Served) (d : Dgrams) (e : Act Served) → IsByStreams u → IsIgnored c u.pending d → AreInTime c u.clock d → Chain (served b) s place u e → IsByStreams e.state × Chain (served c) s place (with_dgrams d u) (beside d e)
   -- a request that is handed to the streams is one whose answer was cut
-  pub falls : (b : Conf) (s place k : ℕ) (r : Request) (u : Served) (d : Dgrams) (a : Tryer) (e : Act Served) → use_at s b.servers ≡ Some ByStreams → IsByStreams u → d.held k ≡ Some a → a.stage ≡ Cut → a.request ≡ r → Starts b s place k r u e → IsByStreams e.state × Acts s place (with_dgrams d u) (beside (forget k d) e)
+  pub falls : (b c : Conf) (s place k : ℕ) (r : Request) (u : Served) (d : Dgrams) (a : Tryer) (e : Act Served) → use_at s b.servers ≡ Some ByStreams → IsByStreams u → d.held k ≡ Some a → a.stage ≡ Cut → a.request ≡ r → Starts b s place k r u e → IsByStreams e.state × Acts c s place (with_dgrams d u) (beside (forget k d) e)
   -- one is given up
   pub cancels : (s place k : ℕ) (u : Served) (d : Dgrams) (e : Act Served) → IsByStreams u → d.held k ≡ None → Cancels s place k u e → IsByStreams e.state × Cancels s place k (with_dgrams d u) (beside d e)
   -- both rest
-  pub rests : (u : Served) (d : Dgrams) → RestsNow u → DgramsRest u.clock d → IsIgnored u.pending d → RestsNow (with_dgrams d u)
+  pub rests : (b c : Conf) → b.transports ≡ c.transports → (u : Served) (d : Dgrams) → RestsNow b u → DgramsRest c u.clock d → IsIgnored c u.pending d → RestsNow c (with_dgrams d u)

@@ -15,9 +15,9 @@ abbrev pub AsksTheSame : Dgrams → Dgrams → Type 0
 AsksTheSame d e = (k : ℕ) (a : Tryer) → e.held k ≡ Some a → (b : Tryer) × (d.held k ≡ Some b) × (b.request ≡ a.request)
 
 -- A request is held as it was handed in, whatever is done with it.
-pub record RequestsStay : Type 0 where
-  pub steps : (s n place : ℕ) (d : Dgrams) (e : Act Dgrams) → Steps s n place d e → AsksTheSame d e.state
-  pub meets : (n place : ℕ) (d e : Dgrams) (w : What) (x : multi.Act) → Meets n d w x e → AsksTheSame d e
+pub record RequestsStay (c : Conf) : Type 0 where
+  pub steps : (s n place : ℕ) (d : Dgrams) (e : Act Dgrams) → Steps c s n place d e → AsksTheSame d e.state
+  pub meets : (n place : ℕ) (d e : Dgrams) (w : What) (x : multi.Act) → Meets c n d w x e → AsksTheSame d e
   pub at_once : (place : ℕ) (x : multi.Act) (d : Dgrams) (e : Act Dgrams) → AtOnce place x d e → AsksTheSame d e.state
   pub lets_go : (k place : ℕ) (d : Dgrams) (e : Act Dgrams) → LetsGo k place d e → AsksTheSame d e.state
 

@@ -7,6 +7,7 @@ use Rattle.proof_right.specs.machine.Streams as multi
 use Rattle.proof_right.specs.machine.Dgrams.{Ending, Tryer, Dgrams, forget, Tries}
 use Rattle.proof_right.specs.machine.Served.{IsSettled, place_after, outs_of, posts_of}
 use Rattle.proof_parts.specs.Chains.{still, then_act}
+use Rattle.right_trace.specs.Trace.{Conf}
 
 -- what a small move makes
 abbrev pub made_by : (place : ℕ) → multi.Act → Dgrams → Act Dgrams
@@ -18,6 +19,6 @@ pub data AtOnce (place : ℕ) (x : multi.Act) (d : Dgrams) : Act Dgrams → Type
   WithResult : (k : ℕ) (a : Tryer) (y : Result Octets Error) → d.held k ≡ Some a → a.stage ≡ Ending y → AtOnce place x d (record { state = forget k d; place = place_after x place; outs = outs_of x; posts = record { request = k; result = y } ∷ [] })
 
 -- of server s, at moment n
-pub data Steps (s n : ℕ) : (place : ℕ) → Dgrams → Act Dgrams → Type 0 where
-  Rests : (place : ℕ) (d : Dgrams) → Steps s n place d (still place d)
-  Steps_on : (place : ℕ) (d : Dgrams) (x : multi.Act) (k : Dgrams) (e g : Act Dgrams) → Tries s n place d x k → AtOnce place x k e → Steps s n e.place e.state g → Steps s n place d (then_act e g)
+pub data Steps (c : Conf) (s n : ℕ) : (place : ℕ) → Dgrams → Act Dgrams → Type 0 where
+  Rests : (place : ℕ) (d : Dgrams) → Steps c s n place d (still place d)
+  Steps_on : (place : ℕ) (d : Dgrams) (x : multi.Act) (k : Dgrams) (e g : Act Dgrams) → Tries c s n place d x k → AtOnce place x k e → Steps c s n e.place e.state g → Steps c s n place d (then_act e g)

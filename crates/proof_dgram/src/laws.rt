@@ -1,5 +1,6 @@
 //! What each call of a datagram connection leaves, beside the moves of the machine.
 
+ghost use Rattle.right_trace.specs.Trace.{Conf};
 ghost use Rattle.proof_dgram.specs.AtServer.{ServersMove, SlotsAreKnown};
 ghost use Rattle.proof_dgram.specs.Calls.{CallsAreMoves};
 ghost use Rattle.proof_dgram.specs.Halves.{StreamsMove};
@@ -11,13 +12,13 @@ ghost use Rattle.proof_dgram.specs.Waiting.{StreamsGive, TablesChange};
 /// A server of which nothing was asked is tied.
 #[tactic(auto, using(crate::proofs::Fresh::fresh_is_alike))]
 pub fn fresh_is_alike()
-    ensures { FreshIsAlike }
+    ensures { (c : Conf) → FreshIsAlike c }
 {}
 
 /// What each call of a datagram connection leaves is what moves of the machine leave.
 #[tactic(auto, using(crate::proofs::CallsAreMoves::calls_are_moves))]
 pub fn calls_are_moves()
-    ensures { CallsAreMoves }
+    ensures { (c : Conf) → CallsAreMoves c }
 {}
 
 /// What datagrams do is what a server by datagrams and streams does: also where an answer was cut.
@@ -29,7 +30,7 @@ pub fn servers_move()
 /// What is known of a datagram connection between its calls: its timers, its tickets, its places, and when it rests.
 #[tactic(auto, using(crate::proofs::Known::slots_are_known))]
 pub fn slots_are_known()
-    ensures { SlotsAreKnown }
+    ensures { (c : Conf) → SlotsAreKnown c }
 {}
 
 /// What a server does by streams alone it does beside any datagrams.
@@ -47,14 +48,14 @@ pub fn streams_give()
 /// What was asked stays through all moves by datagrams.
 #[tactic(auto, using(crate::proofs::Staying::requests_stay))]
 pub fn requests_stay()
-    ensures { RequestsStay }
+    ensures { (c : Conf) → RequestsStay c }
 {}
 
 /// Who is at a place stays there while requests are taken on and given up, so an event that is nothing to the datagrams stays
 /// so.
 #[tactic(auto, using(crate::proofs::Placed::places_stay))]
 pub fn places_stay()
-    ensures { PlacesStay }
+    ensures { (c : Conf) → PlacesStay c }
 {}
 
 /// A stream place that opens opened before, or is new.

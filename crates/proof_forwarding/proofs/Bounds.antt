@@ -232,4 +232,4 @@ all_rows_few first words rows trace last left few (goes_on some all row before w
     row_keeps_few IsCoreStep core_serves row.event a.within f a.desk (scene b.within g b.desk row.outs) (all_rows_few first words some before a f few forwards) made
 
 pub streams_are_few : StreamsAreFew
-streams_are_few redundant cache conf words rows trace last left forwards = all_rows_few _ words rows trace last left (omega arith) forwards
+streams_are_few given redundant cache conf words rows trace last left forwards = all_rows_few _ words rows trace last left (omega arith) forwards

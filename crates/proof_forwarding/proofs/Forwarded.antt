@@ -3,8 +3,8 @@ use Rattle.std.proofs.Common.{◌≡◌, ℕ, ◌+◌, ◌<◌, List, [], ◌∷
 use Rattle.std.specs.Prelude.{max}
 use Rattle.std.specs.List.{AllByRecursion}
 use Rattle.client_request.specs.declared.event.Row.{Row}
-use Rattle.client_steps.specs.Headline.{conf_of, settings_of}
-use Rattle.client_steps.specs.Whole.{Whole, started}
+use Rattle.client_steps.specs.Headline.{conf_with, settings_of}
+use Rattle.client_steps.specs.Whole.{Whole, started_with}
 use Rattle.front_core.specs.Core.{IsCoreStep, core_serves}
 use Rattle.front_core.specs.Forwarded.{Forwards, begins, goes_on}
 use Rattle.front_peers.specs.Items.{Streams, at_moment, no_streams, takes}
@@ -196,12 +196,12 @@ module _ (own : Query → Option (List ℕ)) (c : Conf) (s : Settings) where
       }
 
 pub every_query_served : EveryForwardedTraceIsRight → EveryQueryIsServed
-every_query_served every redundant cache conf words rows trace last left forwards limited small =
-    let right = every redundant cache conf words rows trace last left forwards limited small in
-    let so = all_served by_itself (conf_of conf) (settings_of redundant cache) (beginning (started redundant cache conf)) words rows trace last left refl forwards right.right right.timely in
+every_query_served every t given redundant cache conf words rows made last left are forwards limited small =
+    let right = every given redundant cache conf words rows made last left forwards limited small in
+    let so = all_served by_itself (conf_with t conf) (settings_of redundant cache) (beginning (started_with given redundant cache conf)) words rows made last left refl forwards (right.right t are) (right.timely t are) in
     record { heard = so.heard; owing = owed_in so.pending; serves = so.serves }
 
 pub none_older : EveryForwardedTraceIsRight → NoAnswerIsOlder
-none_older every redundant cache conf words rows trace last left forwards limited small =
-    let right = every redundant cache conf words rows trace last left forwards limited small in
-    every_reply_is_aged (conf_of conf) (settings_of redundant cache) trace right.right right.timely
+none_older every t given redundant cache conf words rows made last left are forwards limited small =
+    let right = every given redundant cache conf words rows made last left forwards limited small in
+    every_reply_is_aged (conf_with t conf) (settings_of redundant cache) made (right.right t are) (right.timely t are)

@@ -7,7 +7,7 @@ use Rattle.client_request.specs.declared.event.Moment.{Moment}
 use Rattle.client_request.specs.declared.event.Row.{Row}
 use Rattle.client_cache.specs.Serving.{would_serve}
 use Rattle.client_steps.specs.Client as plain
-use Rattle.client_steps.specs.Whole.{Client, Whole, client_with, machine, plain_step, reading, started}
+use Rattle.client_steps.specs.Whole.{Client, Whole, client_with, machine, plain_step, reading, started_with}
 use Rattle.front_core.specs.Core.{IsCoreStep, core_serves}
 use Rattle.front_core.specs.Forwarded.{Forwards, begins, goes_on}
 use Rattle.front_peers.specs.declared.event.FrontRow.{FrontRow}
@@ -87,7 +87,7 @@ module _ (x : ℕ) where
         }
 
 pub peers_are_apart : PeersAreApart
-peers_are_apart x redundant cache conf words rows others trace same last end left rest forwards also events =
-    let so = all_alike x (beginning (started redundant cache conf)) words (record { waits = record { requests = tt; numbers = refl; next = refl }; streams = refl })
+peers_are_apart x given redundant cache conf words rows others trace same last end left rest forwards also events =
+    let so = all_alike x (beginning (started_with given redundant cache conf)) words (record { waits = record { requests = tt; numbers = refl; next = refl }; streams = refl })
     rows trace last left forwards others same end rest also events in
     (so.traces, so.outs)

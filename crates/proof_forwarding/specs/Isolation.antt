@@ -2,7 +2,8 @@
 use Rattle.std.specs.Prelude.{◌≡◌, ℕ, List, [], ◌∷◌}
 use Rattle.client_request.specs.declared.event.Row.{Row}
 use Rattle.client_settings.specs.Settings.{CacheSettings, RedundantSettings}
-use Rattle.client_steps.specs.Whole.{Whole, started}
+use Rattle.client_settings.specs.declared.settings.Transports.{Transports}
+use Rattle.client_steps.specs.Whole.{Whole, started_with}
 use Rattle.front_core.specs.Forwarded.{Forwards}
 use Rattle.front_peers.specs.declared.event.FrontEvent.{FrontEvent}
 use Rattle.front_peers.specs.declared.event.FrontOut.{FrontOut}
@@ -50,9 +51,9 @@ AreAllOutsAlike peer _ _ = ⊥
 
 -- Whatever else a peer's queries have: the client within does the same, and each other peer gets the same octets in the same rows.
 abbrev pub PeersAreApart : Type 0
-PeersAreApart = (peer : ℕ) (redundant : RedundantSettings) (cache : CacheSettings) (conf : ResolvConf) (words : ℕ → ℕ)
+PeersAreApart = (peer : ℕ) (given : Transports) (redundant : RedundantSettings) (cache : CacheSettings) (conf : ResolvConf) (words : ℕ → ℕ)
     (rows others : List FrontRow) (trace same : List Row) (last end : Forwarding Whole) (left rest : ℕ → ℕ)
-    → Forwards (beginning (started redundant cache conf)) words rows trace last left → Forwards (beginning (started redundant cache conf)) words others same end rest
+    → Forwards (beginning (started_with given redundant cache conf)) words rows trace last left → Forwards (beginning (started_with given redundant cache conf)) words others same end rest
     → AreEventsAlike peer rows others → (trace ≡ same) × AreAllOutsAlike peer rows others
 
 -- Two queries with one key, whatever their ids, spellings, records and options: their requests have one key, and so what serves one of them may serve the other.

@@ -5,18 +5,20 @@ use Rattle.client_request.specs.declared.event.Row.{Row}
 use Rattle.client_loop.specs.Turns.{Leads, events_of}
 use Rattle.client_loop.proofs.Rows.{event_behind, leads_nowhere, leads_on, plain_of}
 use Rattle.client_settings.specs.Settings.{CacheSettings, RedundantSettings, seconds}
+use Rattle.client_settings.specs.declared.settings.Transports.{Transports}
 use Rattle.client_steps.specs.Client.{row_step}
-use Rattle.client_steps.specs.Whole.{Client, Whole, client_with, machine, plain_trace, started}
+use Rattle.client_steps.specs.Whole.{Client, Whole, client_with, machine, plain_trace_with, started_with}
 use Rattle.front_core.specs.Core.{IsCoreStep}
 use Rattle.front_core.specs.Forwarded.{Forwards, Makes, begins, goes_on}
 use Rattle.front_peers.specs.declared.event.FrontRow.{FrontRow}
 use Rattle.front_steps.specs.Steps.{Forwarding, Runs, beginning, rests, steps_on}
 use Rattle.proof_client.specs.Above.{AreWords}
-use Rattle.proof_client.specs.Ties.{AreHandedIn, EveryPlainTraceHits, EveryPlainTraceIsRight, EveryPlainTraceServesStale}
+use Rattle.proof_client.specs.Ties.{AreHandedIn, TracesAreRight, TracesHit, TracesServeStale}
 use Rattle.proof_front.specs.Forwarding.{EveryForwardedTraceIsRight, IsRightTrace}
 use Rattle.resolv_conf.specs.declared.conf.ResolvConf.{ResolvConf}
 use Rattle.right_trace.specs.InOctets.{AllInOctets, IsInOctets}
 use Rattle.right_trace.specs.Timely.{AllAskedInOctets, IsAskedInOctets}
+use Rattle.right_trace.specs.Trace as trace
 
 asked_more : (es : List Event) (e : Event) → AllAskedInOctets es → IsAskedInOctets e.what → AllAskedInOctets (es ++ e ∷ [])
 asked_more [] e all one = (one, tt)
@@ -70,17 +72,18 @@ leads_all timeout first words rows trace last left is (goes_on some all row befo
     subst (λ (ts : List Row). LeadsTo timeout (client_with words first.within) ts b.within g) (sym trace_is)
     (all_on timeout (client_with words first.within) before a.within f (made.rows ++ made.now) b.within g so_far made.runs)
 
-pub forwarded_traces : EveryPlainTraceIsRight → EveryPlainTraceHits → EveryPlainTraceServesStale → EveryForwardedTraceIsRight
-forwarded_traces every hits stale redundant cache conf words rows trace last left forwards limited small =
+pub forwarded_traces : ((t : trace.Transports) (given : Transports) → TracesAreRight t given) → ((t : trace.Transports) (given : Transports) → TracesHit t given)
+    → ((t : trace.Transports) (given : Transports) → TracesServeStale t given) → EveryForwardedTraceIsRight
+forwarded_traces every hits stale given redundant cache conf words rows made last left forwards limited small =
     let timeout = conf.options.timeout in
-    let so = leads_all timeout (beginning (started redundant cache conf)) words rows trace last left refl forwards in
-    let plain : plain_trace redundant cache conf words (events_of trace) ≡ Some trace = plain_of timeout (client_with words (started redundant cache conf)) (client_with left last.within) trace so.leads in
-    let handed : AreHandedIn cache words (events_of trace) = record { limited = limited; small = small; asked = so.asked; octets = so.comes } in
-    let right = every redundant cache conf words (events_of trace) trace plain handed in
+    let first = started_with given redundant cache conf in
+    let so = leads_all timeout (beginning first) words rows made last left refl forwards in
+    let plain : plain_trace_with given redundant cache conf words (events_of made) ≡ Some made = plain_of timeout (client_with words first) (client_with left last.within) made so.leads in
+    let handed : AreHandedIn cache words (events_of made) = record { limited = limited; small = small; asked = so.asked; octets = so.comes } in
     record {
       plain = plain;
-      right = right.0;
-      timely = right.1;
-      hits = hits redundant cache conf words (events_of trace) trace plain handed;
-      stale = stale redundant cache conf words (events_of trace) trace plain handed;
+      right = λ t are. (every t given redundant cache conf words (events_of made) made are plain handed).0;
+      timely = λ t are. (every t given redundant cache conf words (events_of made) made are plain handed).1;
+      hits = λ t are. hits t given redundant cache conf words (events_of made) made are plain handed;
+      stale = λ t are. stale t given redundant cache conf words (events_of made) made are plain handed;
     }

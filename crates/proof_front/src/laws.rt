@@ -2,9 +2,7 @@
 
 ghost use Rattle.proof_front.specs.Forwarding.{EveryForwardedTraceIsRight};
 
-use proof_client::{
-    every_plain_trace_hits, every_plain_trace_is_right, every_plain_trace_serves_stale,
-};
+use proof_client::traces_with_settings;
 
 /// The rows that the client within a forwarder makes are the plain trace of their events, whatever comes: they are right and
 /// timely, give what is kept, and serve what has expired. It does nothing.
@@ -12,7 +10,5 @@ use proof_client::{
 pub fn every_forwarded_trace_is_right()
     ensures { EveryForwardedTraceIsRight }
 {
-    every_plain_trace_is_right();
-    every_plain_trace_hits();
-    every_plain_trace_serves_stale();
+    traces_with_settings();
 }

@@ -31,10 +31,11 @@ use Rattle.proof_multi.specs.Servers.{Desk, Server, desk_of, names_at, UnderWay,
 use Rattle.proof_multi.proofs.Going.{Went}
 use Rattle.proof_multi.proofs.Hands.{link_due, line_due, same_link, puts_here, puts_there}
 use Rattle.proof_multi.proofs.Placing.{PlaceChange, kept_place, placed}
+use Rattle.right_trace.specs.Trace.{Conf}
 
 -- the timer of a request is set
-pub timer_due : (y : UnderWay) (d : Desk) (m : Multi) (f : ℕ → Option ℕ) (i t : ℕ) → AreTables y d m f → d.timers i ≡ Some t → (due : ℕ) × (f i ≡ Some due)
-timer_due y d m f i t s is =
+pub timer_due : (conf : Conf) (y : UnderWay) (d : Desk) (m : Multi) (f : ℕ → Option ℕ) (i t : ℕ) → AreTables conf y d m f → d.timers i ≡ Some t → (due : ℕ) × (f i ≡ Some due)
+timer_due conf y d m f i t s is =
     let o = s.timers i t is in
     let j = s.jobs t o.0 o.1 in
     elim o.2 [ inl e ↦ (_, ap f (sym e) ∙ j.over) | inr e ↦ resting (o.0).stage j.ask.phase e j.stage ]
@@ -47,9 +48,9 @@ timer_due y d m f i t s is =
     resting at phase e (IsToHand l w h) = absurd (let z = sym w ∙ e in cc)
 
 -- each timer that the server owns is set
-pub owned_set : (y : UnderWay) (d : Desk) (m : Multi) (frames : ℕ → List Octets) (f : ℕ → Option ℕ) (ticket : ℕ) → IsServer y d m frames f ticket → (i : ℕ) → Owns d i → (due : ℕ) × (f i ≡ Some due)
-owned_set y d m frames f ticket s i (inl o) = timer_due y d m f i o.0 s.tables o.1
-owned_set y d m frames f ticket s i (inr o) = link_due d m frames f ticket o.0 o.1 i (s.links o.0) o.2 o.3
+pub owned_set : (conf : Conf) (y : UnderWay) (d : Desk) (m : Multi) (frames : ℕ → List Octets) (f : ℕ → Option ℕ) (ticket : ℕ) → IsServer conf y d m frames f ticket → (i : ℕ) → Owns d i → (due : ℕ) × (f i ≡ Some due)
+owned_set conf y d m frames f ticket s i (inl o) = timer_due conf y d m f i o.0 s.tables o.1
+owned_set conf y d m frames f ticket s i (inr o) = link_due conf d m frames f ticket o.0 o.1 i (s.links o.0) o.2 o.3
 
 pub same_timer : (st : LineStage) → timer_at st ≡ timer_of st
 same_timer at.New = refl
@@ -74,7 +75,7 @@ all_fail names n (x ∷ xs) i k f (inl e) named =
     (b.1, ap n.asks (sym same_number) ∙ b.3, b.4)
 
 -- What a call of the connection l at p leaves of it, c, and of the machine, n: u is the view that it saw, w the one that it left.
-pub record CallLeft (p : ℕ) (posts : List Posted) (fs : ℕ → List Octets) (s : Server) (l : Link Request) (m n : Multi) (u w : View) (c : Link Request) : Type 0 where
+pub record CallLeft (conf : Conf) (p : ℕ) (posts : List Posted) (fs : ℕ → List Octets) (s : Server) (l : Link Request) (m n : Multi) (u w : View) (c : Link Request) : Type 0 where
   pub aside : (k : ℕ) → IsAway p (m.asks k) → n.asks k ≡ m.asks k
   pub going : (k : ℕ) (a : Asker) → m.asks k ≡ Some a → (phase : Phase) × (n.asks k ≡ Some (moved a phase))
   pub conns : (q : ℕ) → (p ≡ q → ⊥) → n.conns q ≡ m.conns q
@@ -83,15 +84,15 @@ pub record CallLeft (p : ℕ) (posts : List Posted) (fs : ℕ → List Octets) (
   pub timed : IsTimed l.line.stage c.line.stage u w
   pub opening : n.opening ≡ m.opening
   pub calm : n.calm ≡ m.calm
-  pub new : ((has_ended c.line.stage ≡ false) × (x : Conn) × IsLinkAt p (names_at (desk_of s)) c n x (fs p) (dues w) w.ticket) ⊎ ((has_ended c.line.stage ≡ true) × (n.conns p ≡ None) × ((k : ℕ) → IsAway p (n.asks k)))
+  pub new : ((has_ended c.line.stage ≡ false) × (x : Conn) × IsLinkAt conf p (names_at (desk_of s)) c n x (fs p) (dues w) w.ticket) ⊎ ((has_ended c.line.stage ≡ true) × (n.conns p ≡ None) × ((k : ℕ) → IsAway p (n.asks k)))
 
-module _ (server p : ℕ) (posts : List Posted) (frames fs : ℕ → List Octets) (y : UnderWay) (s : Server) (l : Link Request) (m n : Multi) (v w : View) (rq tk : ℕ) (c : Link Request)
+module _ (conf : Conf) (server p : ℕ) (posts : List Posted) (frames fs : ℕ → List Octets) (y : UnderWay) (s : Server) (l : Link Request) (m n : Multi) (v w : View) (rq tk : ℕ) (c : Link Request)
     (none_failed : y.failed ≡ []) (same_frames : (q : ℕ) → (p ≡ q → ⊥) → fs q ≡ frames q)
-    (tables : AreTables y (desk_of s) m (dues v))
-    (links : (q : ℕ) → (p ≡ q → ⊥) → LinkFits (desk_of s) m frames (dues v) tk q)
+    (tables : AreTables conf y (desk_of s) m (dues v))
+    (links : (q : ℕ) → (p ≡ q → ⊥) → LinkFits conf (desk_of s) m frames (dues v) tk q)
     (watched_now : (q : ℕ) (k : Link Request) (i : ℕ) → (desk_of s).links q ≡ Some k → timer_of k.line.stage ≡ Some i → ((desk_of s).watches i ≡ Some q) × ((desk_of s).timers i ≡ None))
     (order : AreOrderly s (record (sight v) { ticket = tk })) (fair : IsFair v)
-    (is : (desk_of s).links p ≡ Some l) (x : CallLeft p posts fs s l m n (record v { board = []; request = rq; ticket = tk }) w c) where
+    (is : (desk_of s).links p ≡ Some l) (x : CallLeft conf p posts fs s l m n (record v { board = []; request = rq; ticket = tk }) w c) where
   abbrev z : UnderWay
   z = record { todo = y.todo; failed = posts }
 
@@ -107,15 +108,15 @@ module _ (server p : ℕ) (posts : List Posted) (frames fs : ℕ → List Octets
   due_stays i due free set = x.timed.others i due free set ∙ sym set
 
   job_due : (i t : ℕ) → entry_at i s.timers ≡ Some t → dues w i ≡ dues v i
-  job_due i t at = let o = timer_due y (desk_of s) m (dues v) i t tables at in
+  job_due i t at = let o = timer_due conf y (desk_of s) m (dues v) i t tables at in
       due_stays i o.0 (λ mine. let b = watched_now p l i is mine in let e : None ≡ Some t = sym b.1 ∙ at in cc) o.1
 
   link_timer : (q : ℕ) (k : Link Request) (i : ℕ) → (p ≡ q → ⊥) → entry_at q s.connections ≡ Some k → timer_of k.line.stage ≡ Some i → dues w i ≡ dues v i
-  link_timer q k i ne at own = let o = link_due (desk_of s) m frames (dues v) tk q k i (links q ne) at own in due_stays i o.0 (other_timer q k i ne at own) o.1
+  link_timer q k i ne at own = let o = link_due conf (desk_of s) m frames (dues v) tk q k i (links q ne) at own in due_stays i o.0 (other_timer q k i ne at own) o.1
 
   -- for tables of connections and watches that it may be left with
   module _ (conns : List (ℕ × Link Request)) (watches : List (ℕ × ℕ)) (beside : (q : ℕ) → (p ≡ q → ⊥) → entry_at q conns ≡ entry_at q s.connections)
-      (here : LinkFits (record (desk_of s) { links = λ q. entry_at q conns; watches = λ i. entry_at i watches }) n fs (dues w) w.ticket p)
+      (here : LinkFits conf (record (desk_of s) { links = λ q. entry_at q conns; watches = λ i. entry_at i watches }) n fs (dues w) w.ticket p)
       (own_here : (k : Link Request) (i : ℕ) → entry_at p conns ≡ Some k → timer_of k.line.stage ≡ Some i → timer_of c.line.stage ≡ Some i)
       (watched_here : (i : ℕ) → timer_of c.line.stage ≡ Some i → entry_at i watches ≡ Some p)
       (watched_there : (i : ℕ) → (timer_of l.line.stage ≡ Some i → ⊥) → (timer_of c.line.stage ≡ Some i → ⊥) → entry_at i watches ≡ entry_at i s.watches)
@@ -146,14 +147,14 @@ module _ (server p : ℕ) (posts : List Posted) (frames fs : ℕ → List Octets
     new_timer : (i : ℕ) → timer_of c.line.stage ≡ Some i → (q : ℕ) (k : Link Request) → (p ≡ q → ⊥) → entry_at q s.connections ≡ Some k → timer_of k.line.stage ≡ Some i → ⊥
     new_timer i own q k ne at theirs = elim (x.timed.owned i own) [
       | inl mine ↦ other_timer q k i ne at theirs mine
-      | inr le ↦ (let o = link_due (desk_of s) m frames (dues v) tk q k i (links q ne) at theirs in let e : None ≡ Some o.0 = sym (none_next v i fair le) ∙ o.1 in cc)
+      | inr le ↦ (let o = link_due conf (desk_of s) m frames (dues v) tk q k i (links q ne) at theirs in let e : None ≡ Some o.0 = sym (none_next v i fair le) ∙ o.1 in cc)
     ]
 
     no_request : (i : ℕ) → timer_of c.line.stage ≡ Some i → (o : Option ℕ) → entry_at i s.timers ≡ o → entry_at i s.timers ≡ None
     no_request i own None e = e
     no_request i own (Some t) e = elim (x.timed.owned i own) [
       | inl mine ↦ (watched_now p l i is mine).1
-      | inr le ↦ (let o = timer_due y (desk_of s) m (dues v) i t tables e in absurd (let f : None ≡ Some o.0 = sym (none_next v i fair le) ∙ o.1 in cc))
+      | inr le ↦ (let o = timer_due conf y (desk_of s) m (dues v) i t tables e in absurd (let f : None ≡ Some o.0 = sym (none_next v i fair le) ∙ o.1 in cc))
     ]
 
     watched_so : (q : ℕ) (k : Link Request) (i : ℕ) → entry_at q conns ≡ Some k → timer_of k.line.stage ≡ Some i → (entry_at i watches ≡ Some q) × (entry_at i s.timers ≡ None)
@@ -163,11 +164,11 @@ module _ (server p : ℕ) (posts : List Posted) (frames fs : ℕ → List Octets
         (watched_there i (other_timer q k i ne was own) (λ mine. new_timer i mine q k ne was own) ∙ b.0, b.1)))
         q k at own
 
-    server_left : IsServer z (desk_of to) n fs (dues w) w.ticket
+    server_left : IsServer conf z (desk_of to) n fs (dues w) w.ticket
     server_left = record {
-      tables = placed p posts y z (desk_of s) (desk_of to) m n frames (dues v) (dues w) tk w.ticket tables change;
-      links = λ q. each_number (LinkFits (desk_of to) n fs (dues w) w.ticket) p here
-          (λ q ne. kept_place p posts y z (desk_of s) (desk_of to) m n frames (dues v) (dues w) tk w.ticket tables change fs q ne (beside q ne) (same_frames q ne) (λ k i at own. link_timer q k i ne at own) x.timed.on.ticket (links q ne)) q;
+      tables = placed conf p posts y z (desk_of s) (desk_of to) m n frames (dues v) (dues w) tk w.ticket tables change;
+      links = λ q. each_number (LinkFits conf (desk_of to) n fs (dues w) w.ticket) p here
+          (λ q ne. kept_place conf p posts y z (desk_of s) (desk_of to) m n frames (dues v) (dues w) tk w.ticket tables change fs q ne (beside q ne) (same_frames q ne) (λ k i at own. link_timer q k i ne at own) x.timed.on.ticket (links q ne)) q;
       watched = watched_so;
     }
 
@@ -193,8 +194,8 @@ module _ (server p : ℕ) (posts : List Posted) (frames fs : ℕ → List Octets
         (λ q ne k at own. inl (inr (q, k, sym (beside q ne) ∙ at, own)))
         o.0 o.1 o.2 o.3
 
-    abbrev left_so : (m0 : Multi) (outs0 : List Out) (made : Act Multi) → made.state ≡ n → Runs server v.now v.place m0 made → made.posts ≡ [] → w.outs ≡ outs0 ++ made.outs → w.place ≡ made.place → w.more ≡ v.more → v.ticket ≤ tk → (NoneHeard m0 → NoneHeard n)
-        → Went server fs z (desk_of s) m0 (record v { outs = outs0 }) to (taken_back v w)
+    abbrev left_so : (m0 : Multi) (outs0 : List Out) (made : Act Multi) → made.state ≡ n → Runs conf server v.now v.place m0 made → made.posts ≡ [] → w.outs ≡ outs0 ++ made.outs → w.place ≡ made.place → w.more ≡ v.more → v.ticket ≤ tk → (NoneHeard m0 → NoneHeard n)
+        → Went conf server fs z (desk_of s) m0 (record v { outs = outs0 }) to (taken_back v w)
     left_so m0 outs0 made state runs nothing outs place more le quiet = record {
       made = made;
       runs = runs;
@@ -203,7 +204,7 @@ module _ (server p : ℕ) (posts : List Posted) (frames fs : ℕ → List Octets
       place = place;
       board = refl;
       more = more;
-      stands = record { server = subst (λ n. IsServer z (desk_of to) n fs (dues w) w.ticket) (sym state) server_left; order = order_left; fair = record { order = x.timed.on.fair.order; words = x.timed.on.fair.words } };
+      stands = record { server = subst (λ n. IsServer conf z (desk_of to) n fs (dues w) w.ticket) (sym state) server_left; order = order_left; fair = record { order = x.timed.on.fair.order; words = x.timed.on.fair.words } };
       on = record { fair = record { order = x.timed.on.fair.order; words = x.timed.on.fair.words }; now = x.timed.on.now; timer = x.timed.on.timer; ticket = le_trans le x.timed.on.ticket; place = x.timed.on.place; later = x.timed.on.later };
       owned = owned_left;
       others = λ i due free set. x.timed.others i due (λ mine. free (inr (p, l, is, mine))) set;
@@ -249,8 +250,8 @@ module _ (server p : ℕ) (posts : List Posted) (frames fs : ℕ → List Octets
       either a b = grind arith
 
   -- it is reached from machine m0, where what was put out before is outs0
-  module _ (m0 : Multi) (outs0 : List Out) (made : Act Multi) (state : made.state ≡ n) (runs : Runs server v.now v.place m0 made) (nothing : made.posts ≡ []) (outs : w.outs ≡ outs0 ++ made.outs) (place : w.place ≡ made.place) (more : w.more ≡ v.more) (le : v.ticket ≤ tk) (quiet : NoneHeard m0 → NoneHeard n) where
-    ended_so : has_ended c.line.stage ≡ true → (x : Went server fs z (desk_of s) m0 (record v { outs = outs0 }) (taken (one_stream for_one) p l s) (taken_back v w)) × (x.made ≡ made)
+  module _ (m0 : Multi) (outs0 : List Out) (made : Act Multi) (state : made.state ≡ n) (runs : Runs conf server v.now v.place m0 made) (nothing : made.posts ≡ []) (outs : w.outs ≡ outs0 ++ made.outs) (place : w.place ≡ made.place) (more : w.more ≡ v.more) (le : v.ticket ≤ tk) (quiet : NoneHeard m0 → NoneHeard n) where
+    ended_so : has_ended c.line.stage ≡ true → (x : Went conf server fs z (desk_of s) m0 (record v { outs = outs0 }) (taken (one_stream for_one) p l s) (taken_back v w)) × (x.made ≡ made)
     ended_so e = (
       left_so (frees p s.connections) (unwatched (timer_at l.line.stage) s.watches) freed_there
           (elim x.new [ inl f ↦ absurd (let z : false ≡ true = sym f.0 ∙ e in cc) | inr f ↦ IsNone freed_here f.1 f.2 ])
@@ -263,7 +264,7 @@ module _ (server p : ℕ) (posts : List Posted) (frames fs : ℕ → List Octets
       refl,
     )
 
-    kept_so : has_ended c.line.stage ≡ false → (x : Went server fs z (desk_of s) m0 (record v { outs = outs0 }) (keeps (one_stream for_one) p c (taken (one_stream for_one) p l s)) (taken_back v w)) × (x.made ≡ made)
+    kept_so : has_ended c.line.stage ≡ false → (x : Went conf server fs z (desk_of s) m0 (record v { outs = outs0 }) (keeps (one_stream for_one) p c (taken (one_stream for_one) p l s)) (taken_back v w)) × (x.made ≡ made)
     kept_so e = (
       left_so (puts p c (frees p s.connections)) (watched p (timer_at c.line.stage) (unwatched (timer_at l.line.stage) s.watches))
           (λ q ne. puts_there p c (frees p s.connections) q ne ∙ freed_there q ne)
@@ -283,13 +284,13 @@ module _ (server p : ℕ) (posts : List Posted) (frames fs : ℕ → List Octets
 
         small : (j : ℕ) → timer_of c.line.stage ≡ Some j → j < w.timers.next
         small j own = elim x.new [
-          | inl f ↦ (let o = line_due (dues w) c.line.idle_time c.line.stage (f.1).mode j (f.2).line.fits.stage own in below_next j o.0 o.1)
+          | inl f ↦ (let o = line_due conf (dues w) c.line.idle_time c.line.stage (f.1).mode j (f.2).line.fits.stage own in below_next j o.0 o.1)
           | inr f ↦ absurd (let z : true ≡ false = sym f.0 ∙ e in cc)
         ]
 
-    pub call_so : (x : Went server fs z (desk_of s) m0 (record v { outs = outs0 }) (with_connection (one_stream for_one) p c (taken (one_stream for_one) p l s)) (taken_back v w)) × (x.made ≡ made)
+    pub call_so : (x : Went conf server fs z (desk_of s) m0 (record v { outs = outs0 }) (with_connection (one_stream for_one) p c (taken (one_stream for_one) p l s)) (taken_back v w)) × (x.made ≡ made)
     call_so = by (has_ended c.line.stage) refl
       where
-        by : (b : Bool) → has_ended c.line.stage ≡ b → (x : Went server fs z (desk_of s) m0 (record v { outs = outs0 }) (if b then taken (one_stream for_one) p l s else keeps (one_stream for_one) p c (taken (one_stream for_one) p l s)) (taken_back v w)) × (x.made ≡ made)
+        by : (b : Bool) → has_ended c.line.stage ≡ b → (x : Went conf server fs z (desk_of s) m0 (record v { outs = outs0 }) (if b then taken (one_stream for_one) p l s else keeps (one_stream for_one) p c (taken (one_stream for_one) p l s)) (taken_back v w)) × (x.made ≡ made)
         by true e = ended_so e
         by false e = kept_so e

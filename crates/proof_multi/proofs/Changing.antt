@@ -13,9 +13,10 @@ use Rattle.proof_parts.specs.Seats.{IsAway}
 use Rattle.proof_parts.proofs.Keys.{each_number}
 use Rattle.proof_multi.specs.Servers.{Desk, names_at, UnderWay, IsListed, IsLoose, IsThere, under, StageFits, AtWaiting, AtResting, AtHeld, HasFailed, IsToHand, JobFits, LinkFits, IsNone, IsSome, IsBroken, AreTables}
 use Rattle.proof_multi.proofs.Desks.{StaysThere, not_both, link_stays, name_of, name_is, names_apart}
+use Rattle.right_trace.specs.Trace.{Conf}
 
 -- What a call changes of ticket t alone, whose request has number k: f and g say when each timer is due, before and after.
-pub record Change (t k : ℕ) (y z : UnderWay) (d e : Desk) (m n : Multi) (f g : ℕ → Option ℕ) : Type 0 where
+pub record Change (conf : Conf) (t k : ℕ) (y z : UnderWay) (d e : Desk) (m n : Multi) (f g : ℕ → Option ℕ) : Type 0 where
   -- others
   pub jobs : (u : ℕ) → (t ≡ u → ⊥) → e.jobs u ≡ d.jobs u
   pub timers : (i u : ℕ) → (t ≡ u → ⊥) → d.timers i ≡ Some u → (e.timers i ≡ Some u) × (g i ≡ f i)
@@ -31,7 +32,7 @@ pub record Change (t k : ℕ) (y z : UnderWay) (d e : Desk) (m n : Multi) (f g :
   -- the request itself
   pub own : (u : ℕ) (job : Job Request) → d.jobs u ≡ Some job → job.number ≡ k → t ≡ u
   pub number : (job : Job Request) → d.jobs t ≡ Some job → job.number ≡ k
-  pub fits : (job : Job Request) → e.jobs t ≡ Some job → JobFits z e n g t job × (job.number ≡ k)
+  pub fits : (job : Job Request) → e.jobs t ≡ Some job → JobFits conf z e n g t job × (job.number ≡ k)
   pub asked : (a : Asker) → n.asks k ≡ Some a → (job : Job Request) × (e.jobs t ≡ Some job)
   pub own_timers : (i : ℕ) → e.timers i ≡ Some t → (job : Job Request) × (e.jobs t ≡ Some job) × ((job.end ≡ i) ⊎ (job.stage ≡ Resting i))
   pub own_inner : (i : ℕ) → e.inner i ≡ Some t → (job : Job Request) × (p : ℕ) × (e.jobs t ≡ Some job) × (job.stage ≡ Held p (under i))
@@ -41,7 +42,7 @@ pub record Change (t k : ℕ) (y z : UnderWay) (d e : Desk) (m n : Multi) (f g :
   pub opening : e.opening ≡ n.opening
   pub calm : e.calm ≤ n.calm
 
-module _ (t k : ℕ) (y z : UnderWay) (d e : Desk) (m n : Multi) (frames : ℕ → List Octets) (f g : ℕ → Option ℕ) (ticket next : ℕ) (s : AreTables y d m f) (c : Change t k y z d e m n f g) where
+module _ (conf : Conf) (t k : ℕ) (y z : UnderWay) (d e : Desk) (m n : Multi) (frames : ℕ → List Octets) (f g : ℕ → Option ℕ) (ticket next : ℕ) (s : AreTables conf y d m f) (c : Change conf t k y z d e m n f g) where
   -- it is that ticket, or another
   same_or : (u : ℕ) → (t ≡ u) ⊎ (t ≡ u → ⊥)
   same_or u = each_number (λ u. (t ≡ u) ⊎ (t ≡ u → ⊥)) t (inl refl) (λ j ne. inr ne) u
@@ -62,7 +63,7 @@ module _ (t k : ℕ) (y z : UnderWay) (d e : Desk) (m n : Multi) (frames : ℕ �
   stage u at phase ne (HasFailed p i a b o h) = HasFailed p i a b (c.inner i u ne o) (c.failed i u ne o h)
   stage u at phase ne (IsToHand l w h) = IsToHand (c.todo u phase ne l) w h
 
-  other_fits : (u : ℕ) (job : Job Request) → (t ≡ u → ⊥) → d.jobs u ≡ Some job → JobFits z e n g u job
+  other_fits : (u : ℕ) (job : Job Request) → (t ≡ u → ⊥) → d.jobs u ≡ Some job → JobFits conf z e n g u job
   other_fits u job ne is = let j = s.jobs u job is in record {
     ask = j.ask;
     is = c.asks job.number (other_number u job ne is) ∙ j.is;
@@ -109,21 +110,21 @@ module _ (t k : ℕ) (y z : UnderWay) (d e : Desk) (m n : Multi) (frames : ℕ �
 
   -- a connection at which the request is not
   pub kept_link : (fs : ℕ → List Octets) (p : ℕ) → e.links p ≡ d.links p → n.conns p ≡ m.conns p → fs p ≡ frames p → IsAway p (m.asks k) → IsAway p (n.asks k)
-      → ((l : Link Request) (i : ℕ) → d.links p ≡ Some l → timer_of l.line.stage ≡ Some i → g i ≡ f i) → ticket ≤ next → LinkFits d m frames f ticket p → LinkFits e n fs g next p
+      → ((l : Link Request) (i : ℕ) → d.links p ≡ Some l → timer_of l.line.stage ≡ Some i → g i ≡ f i) → ticket ≤ next → LinkFits conf d m frames f ticket p → LinkFits conf e n fs g next p
   kept_link fs p links conns same before after due later (IsNone a b away) = IsNone (links ∙ a) (conns ∙ b) (λ j. away_still j)
     where
       away_still : (j : ℕ) → IsAway p (n.asks j)
       away_still j = elim (asks_stay p before after j) [ inl q ↦ subst (IsAway p) (sym q) (away j) | inr q ↦ q.1 ]
   kept_link fs p links conns same before after due later (IsSome l x a link) =
-      IsSome l x (links ∙ a) (subst (λ o. IsLinkAt p (names_at e) l n x o g next) (sym same)
-      (link_stays p l (names_at d) (names_at e) m n x (frames p) f g ticket next link conns (asks_stay p before after)
+      IsSome l x (links ∙ a) (subst (λ o. IsLinkAt conf p (names_at e) l n x o g next) (sym same)
+      (link_stays conf p l (names_at d) (names_at e) m n x (frames p) f g ticket next link conns (asks_stay p before after)
       (λ i j b nm is there. name_stays i j (number_there p j b before is there) nm) apart_now (λ i own. due l i a own) later))
 
   -- the tables again
-  pub changed : AreTables z e n g
+  pub changed : AreTables conf z e n g
   changed = record {
     jobs = λ u job is. elim (same_or u) [
-      | inl tu ↦ subst (λ u. JobFits z e n g u job) tu (c.fits job (ap e.jobs tu ∙ is)).0
+      | inl tu ↦ subst (λ u. JobFits conf z e n g u job) tu (c.fits job (ap e.jobs tu ∙ is)).0
       | inr ne ↦ other_fits u job ne (old_job u job ne is)
     ];
     asked = λ j a is. asked j a is;

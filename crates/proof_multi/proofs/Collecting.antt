@@ -27,6 +27,7 @@ use Rattle.proof_multi.proofs.Desks.{desk_with, away_so, name_of, name_is}
 use Rattle.proof_multi.proofs.Going.{Went, waits_now, went_nowhere, went_then, leads_on, leads_as}
 use Rattle.proof_multi.proofs.Hands.{numbers_stay, same_job, same_asker}
 use Rattle.proof_multi.proofs.Resting.{rests_so}
+use Rattle.right_trace.specs.Trace.{Conf}
 
 no_result : (e : Error) → e ≢ errors.WrongReplyForQuery → is_result (Err e) ≡ false
 no_result errors.ConnectionClosed ne = refl
@@ -63,8 +64,8 @@ failing_errors names asks [] f = tt
 failing_errors names asks (x ∷ xs) f = (ap is_result f.0.1 ∙ no_result f.0.0 f.0.2, failing_errors names asks xs f.2)
 
 -- the same as seen from tables that differ in nothing that counts
-pub went_from : (server : ℕ) (frames : ℕ → List Octets) (z : UnderWay) (d : Desk) (m : Multi) (v : View) (t : Server) (w : View) (e : Desk) → e.timers ≡ d.timers → e.links ≡ d.links → ((u : ℕ) → numbers d u ≡ numbers e u) → Went server frames z d m v t w → Went server frames z e m v t w
-went_from server frames z d m v t w e timers links named a = record {
+pub went_from : (c : Conf) (server : ℕ) (frames : ℕ → List Octets) (z : UnderWay) (d : Desk) (m : Multi) (v : View) (t : Server) (w : View) (e : Desk) → e.timers ≡ d.timers → e.links ≡ d.links → ((u : ℕ) → numbers d u ≡ numbers e u) → Went c server frames z d m v t w → Went c server frames z e m v t w
+went_from c server frames z d m v t w e timers links named a = record {
   made = a.made;
   runs = a.runs;
   posts = a.posts;
@@ -84,12 +85,12 @@ went_from server frames z d m v t w e timers links named a = record {
     owns i (inl o) = inl (o.0, ap (λ (f : ℕ → Option ℕ). f i) timers ∙ o.1)
     owns i (inr o) = inr (o.0, o.1, ap (λ (f : ℕ → Option (Link Request)). f o.0) links ∙ o.2, o.3)
 
-module _ (server : ℕ) (frames : ℕ → List Octets) (todo : List (ℕ × Phase)) where
+module _ (c : Conf) (server : ℕ) (frames : ℕ → List Octets) (todo : List (ℕ × Phase)) where
   abbrev failing_as : List Posted → UnderWay
   failing_as xs = record { todo = todo; failed = xs }
 
   -- One that is for nobody
-  module _ (x : Posted) (xs : List Posted) (s : Server) (n : Multi) (w : View) (st : Stands (failing_as (x ∷ xs)) (desk_of s) s n frames w) (none : entry_at x.ticket s.inner ≡ None) where
+  module _ (x : Posted) (xs : List Posted) (s : Server) (n : Multi) (w : View) (st : Stands c (failing_as (x ∷ xs)) (desk_of s) s n frames w) (none : entry_at x.ticket s.inner ≡ None) where
     stage : (t : ℕ) (at : Stage) (phase : Phase) → StageFits (failing_as (x ∷ xs)) (desk_of s) (dues w) t at phase → StageFits (failing_as xs) (desk_of s) (dues w) t at phase
     stage t at phase (AtWaiting a b l) = AtWaiting a b l
     stage t at phase (AtResting i until a b o h) = AtResting i until a b o h
@@ -98,7 +99,7 @@ module _ (server : ℕ) (frames : ℕ → List Octets) (todo : List (ℕ × Phas
     stage t at phase (HasFailed p i a b o (inr h)) = HasFailed p i a b o h
     stage t at phase (IsToHand l h b) = IsToHand l h b
 
-    one_less : Stands (failing_as xs) (desk_of s) s n frames w
+    one_less : Stands c (failing_as xs) (desk_of s) s n frames w
     one_less = record {
       server = record {
         tables = record {
@@ -121,8 +122,8 @@ module _ (server : ℕ) (frames : ℕ → List Octets) (todo : List (ℕ × Phas
     }
 
   -- One that is for a request: it is in hand, to back off
-  module _ (x : Posted) (xs : List Posted) (s : Server) (n : Multi) (w : View) (st : Stands (failing_as (x ∷ xs)) (desk_of s) s n frames w) (t : ℕ) (is : entry_at x.ticket s.inner ≡ Some t) where
-    abbrev T : AreTables (failing_as (x ∷ xs)) (desk_of s) n (dues w)
+  module _ (x : Posted) (xs : List Posted) (s : Server) (n : Multi) (w : View) (st : Stands c (failing_as (x ∷ xs)) (desk_of s) s n frames w) (t : ℕ) (is : entry_at x.ticket s.inner ≡ Some t) where
+    abbrev T : AreTables c (failing_as (x ∷ xs)) (desk_of s) n (dues w)
     T = st.server.tables
 
     has : (job : Job Request) × (p : ℕ) × (entry_at t s.jobs ≡ Some job) × (job.stage ≡ Held p (under x.ticket))
@@ -131,7 +132,7 @@ module _ (server : ℕ) (frames : ℕ → List Octets) (todo : List (ℕ × Phas
     abbrev job : Job Request
     job = has.0
 
-    its : JobFits (failing_as (x ∷ xs)) (desk_of s) n (dues w) t job
+    its : JobFits c (failing_as (x ∷ xs)) (desk_of s) n (dues w) t job
     its = T.jobs t job has.2
 
     broken : its.ask.phase ≡ Broken
@@ -173,7 +174,7 @@ module _ (server : ℕ) (frames : ℕ → List Octets) (todo : List (ℕ × Phas
     numbers_so : (u : ℕ) → numbers e u ≡ numbers (desk_of s) u
     numbers_so u = numbers_stay t (desk_of s) e beside job (waits_now job) has.2 here refl u
 
-    change : Change t job.number (failing_as (x ∷ xs)) y (desk_of s) e n n (dues w) (dues w)
+    change : Change c t job.number (failing_as (x ∷ xs)) y (desk_of s) e n n (dues w) (dues w)
     change = record {
       jobs = beside;
       timers = λ i u ne at. (at, refl);
@@ -188,7 +189,7 @@ module _ (server : ℕ) (frames : ℕ → List Octets) (todo : List (ℕ × Phas
       failed = λ i u ne at l. elim l [ inl e ↦ absurd (other i u ne at e) | inr l ↦ l ];
       own = λ u j at same. T.apart t u job j has.2 at (sym same);
       number = λ j at. ap (λ (j : Job Request). j.number) (same_job (entry_at t s.jobs) j job at has.2);
-      fits = λ j at. (let q : waits_now job ≡ j = same_job (e.jobs t) (waits_now job) j here at in (subst (λ j. JobFits y e n (dues w) t j) q fits, sym (ap (λ (j : Job Request). j.number) q)));
+      fits = λ j at. (let q : waits_now job ≡ j = same_job (e.jobs t) (waits_now job) j here at in (subst (λ j. JobFits c y e n (dues w) t j) q fits, sym (ap (λ (j : Job Request). j.number) q)));
       asked = λ a at. (waits_now job, here);
       own_timers = λ i at. (let o = T.timers i t at in (
         waits_now job,
@@ -210,7 +211,7 @@ module _ (server : ℕ) (frames : ℕ → List Octets) (todo : List (ℕ × Phas
         other : (i u : ℕ) → (t ≡ u → ⊥) → entry_at i s.inner ≡ Some u → x.ticket ≡ i → ⊥
         other i u ne at same = let z : Some t ≡ Some u = sym is ∙ (ap (λ i. entry_at i s.inner) same ∙ at) in ne (cc)
 
-        fits : JobFits y e n (dues w) t (waits_now job)
+        fits : JobFits c y e n (dues w) t (waits_now job)
         fits = record { ask = its.ask; is = its.is; request = its.request; octets = its.octets; end = its.end; over = its.over; stage = IsToHand (inl (refl, sym broken)) refl (inr broken) }
 
         own_todo : (phase : Phase) → IsLoose t phase ((t, Broken) ∷ todo) → (j : Job Request) × (a : Asker) × (e.jobs t ≡ Some j) × (j.stage ≡ Waiting) × (n.asks j.number ≡ Some a) × (a.phase ≡ phase) × ((phase ≡ Free) ⊎ (phase ≡ Broken))
@@ -220,11 +221,11 @@ module _ (server : ℕ) (frames : ℕ → List Octets) (todo : List (ℕ × Phas
     nowhere : (p : ℕ) → IsAway p (n.asks job.number)
     nowhere p = away_so p (n.asks job.number) its.ask its.is (λ h. subst (IsThere p) broken h)
 
-    in_hand : Stands y e after n frames w
+    in_hand : Stands c y e after n frames w
     in_hand = record {
       server = record {
-        tables = changed t job.number (failing_as (x ∷ xs)) y (desk_of s) e n n frames (dues w) (dues w) w.ticket w.ticket T change;
-        links = λ p. kept_link t job.number (failing_as (x ∷ xs)) y (desk_of s) e n n frames (dues w) (dues w) w.ticket w.ticket T change frames p refl refl refl (nowhere p) (nowhere p) (λ l i at own. refl) (le_refl w.ticket) (st.server.links p);
+        tables = changed c t job.number (failing_as (x ∷ xs)) y (desk_of s) e n n frames (dues w) (dues w) w.ticket w.ticket T change;
+        links = λ p. kept_link c t job.number (failing_as (x ∷ xs)) y (desk_of s) e n n frames (dues w) (dues w) w.ticket w.ticket T change frames p refl refl refl (nowhere p) (nowhere p) (λ l i at own. refl) (le_refl w.ticket) (st.server.links p);
         watched = st.server.watched;
       };
       order = record {
@@ -239,21 +240,21 @@ module _ (server : ℕ) (frames : ℕ → List Octets) (todo : List (ℕ × Phas
       fair = st.fair;
     }
 
-    rests_then : Leads (Went server frames (failing_as xs) (desk_of s) n w) (backs_off t job after w)
-    rests_then = leads_as (Went server frames (failing_as xs) e n w) (Went server frames (failing_as xs) (desk_of s) n w) (backs_off t job after w)
-        (rests_so server frames t job Broken todo xs after n w in_hand (present_below t 0 w.ticket job s.jobs st.order.jobs has.2) (λ phase l. (let o = T.todo t phase l in not_waiting o.0 o.2 o.3)) (inl refl))
-        (λ r u a. went_from server frames (failing_as xs) e n w r u (desk_of s) refl refl numbers_so a)
+    rests_then : Leads (Went c server frames (failing_as xs) (desk_of s) n w) (backs_off t job after w)
+    rests_then = leads_as (Went c server frames (failing_as xs) e n w) (Went c server frames (failing_as xs) (desk_of s) n w) (backs_off t job after w)
+        (rests_so c server frames t job Broken todo xs after n w in_hand (present_below t 0 w.ticket job s.jobs st.order.jobs has.2) (λ phase l. (let o = T.todo t phase l in not_waiting o.0 o.2 o.3)) (inl refl))
+        (λ r u a. went_from c server frames (failing_as xs) e n w r u (desk_of s) refl refl numbers_so a)
 
-  pub collects_so : (posts : List Posted) (s : Server) (n : Multi) (w : View) → Stands (failing_as posts) (desk_of s) s n frames w → AreErrors posts → Leads (Went server frames (failing_as []) (desk_of s) n w) (collects posts s w)
-  collects_so [] s n w st errs = went_nowhere server frames (failing_as []) s n w st
+  pub collects_so : (posts : List Posted) (s : Server) (n : Multi) (w : View) → Stands c (failing_as posts) (desk_of s) s n frames w → AreErrors posts → Leads (Went c server frames (failing_as []) (desk_of s) n w) (collects posts s w)
+  collects_so [] s n w st errs = went_nowhere c server frames (failing_as []) s n w st
   collects_so (x ∷ xs) s n w st errs =
-      leads_on (Went server frames (failing_as xs) (desk_of s) n w) (Went server frames (failing_as []) (desk_of s) n w) (λ r u. collects xs r u) (collects_one x s w) (by (entry_at x.ticket s.inner) refl)
-      (λ r u a. leads_as (Went server frames (failing_as []) (desk_of r) a.made.state u) (Went server frames (failing_as []) (desk_of s) n w) (collects xs r u) (collects_so xs r a.made.state u a.stands errs.1)
-      (λ r2 u2 b. went_then server frames (failing_as xs) (failing_as []) (desk_of s) n w r u r2 u2 st.fair a b))
+      leads_on (Went c server frames (failing_as xs) (desk_of s) n w) (Went c server frames (failing_as []) (desk_of s) n w) (λ r u. collects xs r u) (collects_one x s w) (by (entry_at x.ticket s.inner) refl)
+      (λ r u a. leads_as (Went c server frames (failing_as []) (desk_of r) a.made.state u) (Went c server frames (failing_as []) (desk_of s) n w) (collects xs r u) (collects_so xs r a.made.state u a.stands errs.1)
+      (λ r2 u2 b. went_then c server frames (failing_as xs) (failing_as []) (desk_of s) n w r u r2 u2 st.fair a b))
     where
-      by : (o : Option ℕ) → entry_at x.ticket s.inner ≡ o → Leads (Went server frames (failing_as xs) (desk_of s) n w) (gets_at x.part (record s { inner = frees x.ticket s.inner }) w o)
-      by None e = subst (λ (inner : List (ℕ × ℕ)). Leads (Went server frames (failing_as xs) (desk_of s) n w) (Some (record s { inner = inner }, w))) (sym (frees_nothing x.ticket s.inner e)) (went_nowhere server frames (failing_as xs) s n w (one_less x xs s n w st e))
+      by : (o : Option ℕ) → entry_at x.ticket s.inner ≡ o → Leads (Went c server frames (failing_as xs) (desk_of s) n w) (gets_at x.part (record s { inner = frees x.ticket s.inner }) w o)
+      by None e = subst (λ (inner : List (ℕ × ℕ)). Leads (Went c server frames (failing_as xs) (desk_of s) n w) (Some (record s { inner = inner }, w))) (sym (frees_nothing x.ticket s.inner e)) (went_nowhere c server frames (failing_as xs) s n w (one_less x xs s n w st e))
       by (Some t) e =
-          subst (λ (o : Option (Job Request)). Leads (Went server frames (failing_as xs) (desk_of s) n w) (gets t x.part (record s { inner = frees x.ticket s.inner }) w o)) (sym (has x xs s n w st t e).2)
-          (subst (λ b. Leads (Went server frames (failing_as xs) (desk_of s) n w) (gets_part b t (has x xs s n w st t e).0 x.part (record s { inner = frees x.ticket s.inner; jobs = frees t s.jobs }) w)) (sym errs.0)
+          subst (λ (o : Option (Job Request)). Leads (Went c server frames (failing_as xs) (desk_of s) n w) (gets t x.part (record s { inner = frees x.ticket s.inner }) w o)) (sym (has x xs s n w st t e).2)
+          (subst (λ b. Leads (Went c server frames (failing_as xs) (desk_of s) n w) (gets_part b t (has x xs s n w st t e).0 x.part (record s { inner = frees x.ticket s.inner; jobs = frees t s.jobs }) w)) (sym errs.0)
           (rests_then x xs s n w st t e))

@@ -40,7 +40,7 @@ use Rattle.proof_multi.proofs.Tying.{stands_of, still_early}
 module _ (c : Conf) (s : ℕ) where
   -- Octets come at p
 
-  module _ (u : Streams) (v : View) (a : Served) (p : ℕ) (o : Octets) (t : IsUntold s (Bytes p o) u (sight v) a) (fair : IsFair v) (early : AreEarly (desk_of u.tables) (sight v)) (calm : v.more ≡ false) where
+  module _ (u : Streams) (v : View) (a : Served) (p : ℕ) (o : Octets) (t : IsUntold c s (Bytes p o) u (sight v) a) (fair : IsFair v) (early : AreEarly (desk_of u.tables) (sight v)) (calm : v.more ≡ false) where
     abbrev d : Desk
     d = desk_of u.tables
 
@@ -48,27 +48,27 @@ module _ (c : Conf) (s : ℕ) where
     m = a.server.by_stream
 
     abbrev Goal : Streams → View → Type 0
-    Goal x y = Tells (served c) (TiedAs s) names_of owns (Chain (served c) s v.place a) u v (MayLeave (Bytes p o)) x y
+    Goal x y = Tells (served c) (TiedAs c s) names_of owns (Chain (served c) s v.place a) u v (MayLeave (Bytes p o)) x y
 
     abbrev Of : Server → View → Type 0
     Of r y = Goal (record u { tables = r }) y
 
-    stands : Stands nothing_under_way d u.tables m (frames_at a.place []) v
+    stands : Stands c nothing_under_way d u.tables m (frames_at a.place []) v
     stands = stands0 c s u v a (Bytes p o) t fair early calm
 
-    no_conn : entry_at p u.tables.connections ≡ None → LinkFits d m (frames_at a.place []) (dues v) v.ticket p → m.conns p ≡ None
+    no_conn : entry_at p u.tables.connections ≡ None → LinkFits c d m (frames_at a.place []) (dues v) v.ticket p → m.conns p ≡ None
     no_conn none (IsNone x y away) = y
     no_conn none (IsSome l x at link) = absurd (let z : None ≡ Some l = sym none ∙ at in cc)
 
     module _ (l : Link Request) (is : entry_at p u.tables.connections ≡ Some l) where
-      found : (x : Conn) × IsLinkAt p (names_at d) l m x (frames_at a.place [] p) (dues v) v.ticket
-      found = link_at d m (frames_at a.place []) (dues v) v.ticket p l (stands.server.links p) is
+      found : (x : Conn) × IsLinkAt c p (names_at d) l m x (frames_at a.place [] p) (dues v) v.ticket
+      found = link_at c d m (frames_at a.place []) (dues v) v.ticket p l (stands.server.links p) is
 
       abbrev x : Conn
       x = found.0
 
-      link : IsLinkAt p (names_at d) l m x [] (dues v) v.ticket
-      link = subst (λ fs. IsLinkAt p (names_at d) l m x fs (dues v) v.ticket) (frames_none s a.place p) found.1
+      link : IsLinkAt c p (names_at d) l m x [] (dues v) v.ticket
+      link = subst (λ fs. IsLinkAt c p (names_at d) l m x fs (dues v) v.ticket) (frames_none c s a.place p) found.1
 
       abbrev fs : List Octets
       fs = (fed x.got o).frames
@@ -88,10 +88,10 @@ module _ (c : Conf) (s : ℕ) where
       fair_u : IsFair (lent v)
       fair_u = record { order = fair.order; words = fair.words }
 
-      comes : Leads (HasRead p (names_at d) m1 x1 l1 (lent v) fs) (plain_step for_one for_several (told (Bytes p o)) l (lent v))
-      comes = links_read.comes p (names_at d) m x l (lent v) link fair_u o
+      comes : Leads (HasRead c p (names_at d) m1 x1 l1 (lent v) fs) (plain_step for_one for_several (told (Bytes p o)) l (lent v))
+      comes = (links_read c).comes p (names_at d) m x l (lent v) link fair_u o
 
-      line1 : IsLineAt p (names_at d) l.line m1 x1 (dues v) v.ticket
+      line1 : IsLineAt c p (names_at d) l.line m1 x1 (dues v) v.ticket
       line1 = record {
         conn = with_here p (Some x1) m.conns;
         seated = link.line.seated;
@@ -99,13 +99,13 @@ module _ (c : Conf) (s : ℕ) where
       }
 
       other_frames : (q : ℕ) → (p ≡ q → ⊥) → frames_at p fs q ≡ frames_at a.place [] q
-      other_frames q ne = frames_there p q fs ne ∙ sym (frames_none s a.place q)
+      other_frames q ne = frames_there p q fs ne ∙ sym (frames_none c s a.place q)
 
-      work0 : AtWork p l x u.tables m (frames_at a.place []) v (dues v)
+      work0 : AtWork c p l x u.tables m (frames_at a.place []) v (dues v)
       work0 = record { tables = stands.server.tables; links = λ q ne. stands.server.links q; watched = stands.server.watched; order = stands.order; fair = fair; is = is; line = link.line }
 
-      work1 : AtWork p l x1 u.tables m1 (frames_at p fs) v (dues v)
-      work1 = work_on p l x x1 u.tables m m1 (frames_at a.place []) (frames_at p fs) v (dues v) work0 refl (λ q ne. with_there p (Some x1) m.conns q ne) refl refl other_frames line1
+      work1 : AtWork c p l x1 u.tables m1 (frames_at p fs) v (dues v)
+      work1 = work_on c p l x x1 u.tables m m1 (frames_at a.place []) (frames_at p fs) v (dues v) work0 refl (λ q ne. with_there p (Some x1) m.conns q ne) refl refl other_frames line1
 
       kept : Keeps l1.octets fs x1.got
       kept = kept_is_read.more l.octets o x.got link.keeps
@@ -115,8 +115,8 @@ module _ (c : Conf) (s : ℕ) where
       none_read none k y is_k is_y =
           subst (λ (y : View). Leads Of (returns (one_stream for_one) p (taken (one_stream for_one) p l u.tables) v (k, y))) (sym is_y)
           (subst (λ (k : Link Request). Leads Of (returns (one_stream for_one) p (taken (one_stream for_one) p l u.tables) v (k, lent v))) (sym is_k)
-          (leads_as (Went s (frames_at p fs) nothing_under_way d m1 v) Of (returns (one_stream for_one) p (taken (one_stream for_one) p l u.tables) v (l1, lent v))
-          (kept_call s p l x u.tables m (frames_at a.place []) v (dues v) work0 (frames_at p fs) other_frames m1 v.outs (still v.place m1) (Rests v.place m1) refl refl
+          (leads_as (Went c s (frames_at p fs) nothing_under_way d m1 v) Of (returns (one_stream for_one) p (taken (one_stream for_one) p l u.tables) v (l1, lent v))
+          (kept_call c s p l x u.tables m (frames_at a.place []) v (dues v) work0 (frames_at p fs) other_frames m1 v.outs (still v.place m1) (Rests v.place m1) refl refl
           m1 (lent v) l1 x1 refl (λ q ne. with_there p (Some x1) m.conns q ne) refl refl (timed_same l.line.stage (lent v) fair_u)
           (record { place = link.place; timeout = link.timeout; line = line1; settled = link.settled; keeps = subst (λ gs. Keeps l1.octets gs x1.got) (sym (frames_here p fs)) kept })
           refl refl refl refl (sym (append-nil v.outs)) (λ q. q))
@@ -138,7 +138,7 @@ module _ (c : Conf) (s : ℕ) where
                 count = ap length none;
                 at = inl refl;
                 row = inl refl;
-                told = (still_early d (desk_of r) v z fair early g.on g.owned, nobodys_foreign s Tick g.made.state tt);
+                told = (still_early d (desk_of r) v z fair early g.on g.owned, nobodys_foreign c s Tick g.made.state tt);
               };
               goes_on = g.on;
               owned = g.owned;
@@ -150,7 +150,7 @@ module _ (c : Conf) (s : ℕ) where
       fewer i j k le lt = omega arith
 
       -- they complete some
-      some_read : (f : Octets) (gs : List Octets) → fs ≡ f ∷ gs → (k : Link Request) (y : View) → HasRead p (names_at d) m1 x1 l1 (lent v) (f ∷ gs) k y → Leads Of (returns (one_stream for_one) p (taken (one_stream for_one) p l u.tables) v (k, y))
+      some_read : (f : Octets) (gs : List Octets) → fs ≡ f ∷ gs → (k : Link Request) (y : View) → HasRead c p (names_at d) m1 x1 l1 (lent v) (f ∷ gs) k y → Leads Of (returns (one_stream for_one) p (taken (one_stream for_one) p l u.tables) v (k, y))
       some_read f gs some k y read =
           leads_as (FromFrames c s p (length gs) u v b) Of (returns (one_stream for_one) p (taken (one_stream for_one) p l u.tables) v (k, y))
           (reads_so c s p u v fair early calm t.stream.server t.stream.settings t.stream.takes b t.stream.clock t.stream.dgram refl tt l x1 (frames_at p fs) work1 f gs some l1 refl link.place link.timeout
@@ -175,14 +175,14 @@ module _ (c : Conf) (s : ℕ) where
             };
           })
 
-      read_so : (gs : List Octets) → fs ≡ gs → (k : Link Request) (y : View) → HasRead p (names_at d) m1 x1 l1 (lent v) gs k y → Leads Of (returns (one_stream for_one) p (taken (one_stream for_one) p l u.tables) v (k, y))
+      read_so : (gs : List Octets) → fs ≡ gs → (k : Link Request) (y : View) → HasRead c p (names_at d) m1 x1 l1 (lent v) gs k y → Leads Of (returns (one_stream for_one) p (taken (one_stream for_one) p l u.tables) v (k, y))
       read_so [] e k y (ReadsNone _ _ is_k is_y) = none_read e k y is_k is_y
       read_so (f ∷ gs) e k y read = some_read f gs e k y read
 
       comes_so : Leads Of (option_and_then (returns (one_stream for_one) p (taken (one_stream for_one) p l u.tables) v) (plain_step for_one for_several (told (Bytes p o)) l (lent v)))
       comes_so = by (plain_step for_one for_several (told (Bytes p o)) l (lent v)) comes
         where
-          by : (h : Option (Link Request × View)) → Leads (HasRead p (names_at d) m1 x1 l1 (lent v) fs) h → Leads Of (option_and_then (returns (one_stream for_one) p (taken (one_stream for_one) p l u.tables) v) h)
+          by : (h : Option (Link Request × View)) → Leads (HasRead c p (names_at d) m1 x1 l1 (lent v) fs) h → Leads Of (option_and_then (returns (one_stream for_one) p (taken (one_stream for_one) p l u.tables) v) h)
           by None h = tt
           by (Some y) h = read_so fs refl y.0 y.1 h
 
@@ -195,7 +195,7 @@ module _ (c : Conf) (s : ℕ) where
 
   -- One more frame is taken at p
 
-  module _ (u : Streams) (v : View) (a : Served) (p n : ℕ) (t : IsTold s p (suc n) u (sight v) a) (fair : IsFair v) (early : AreEarly (desk_of u.tables) (sight v)) (calm : v.more ≡ false) where
+  module _ (u : Streams) (v : View) (a : Served) (p n : ℕ) (t : IsTold c s p (suc n) u (sight v) a) (fair : IsFair v) (early : AreEarly (desk_of u.tables) (sight v)) (calm : v.more ≡ false) where
     abbrev fd : Desk
     fd = desk_of u.tables
 
@@ -203,7 +203,7 @@ module _ (c : Conf) (s : ℕ) where
     fm = a.server.by_stream
 
     abbrev Next : Streams → View → Type 0
-    Next x y = Tells (served c) (TiedAs s) names_of owns (Chain (served c) s v.place a) u v (λ q left. (q ≡ p) × (left ≤ n)) x y
+    Next x y = Tells (served c) (TiedAs c s) names_of owns (Chain (served c) s v.place a) u v (λ q left. (q ≡ p) × (left ≤ n)) x y
 
     abbrev Nexts : Server → View → Type 0
     Nexts r y = Next (record u { tables = r }) y
@@ -217,8 +217,8 @@ module _ (c : Conf) (s : ℕ) where
     idle : IsNobodys a.pending
     idle = elim t.row [ inl e ↦ absurd (not_none e) | inr e ↦ e ]
 
-    stands1 : Stands nothing_under_way fd u.tables fm (frames_at a.place a.frames) v
-    stands1 = stands_of s u v a t.stream fair
+    stands1 : Stands c nothing_under_way fd u.tables fm (frames_at a.place a.frames) v
+    stands1 = stands_of c s u v a t.stream fair
 
     here : frames_at a.place a.frames p ≡ a.frames
     here = ap (λ q. frames_at q a.frames p) at_p ∙ frames_here p a.frames
@@ -227,13 +227,13 @@ module _ (c : Conf) (s : ℕ) where
     there q ne = ap (λ r. frames_at r a.frames q) at_p ∙ frames_there p q a.frames ne
 
     -- the connection is no more
-    none_there : LinkFits fd fm (frames_at a.place a.frames) (dues v) v.ticket p → entry_at p u.tables.connections ≡ None → fm.conns p ≡ None
+    none_there : LinkFits c fd fm (frames_at a.place a.frames) (dues v) v.ticket p → entry_at p u.tables.connections ≡ None → fm.conns p ≡ None
     none_there (IsNone x y away) none = y
     none_there (IsSome l x at link) none = absurd (let z : None ≡ Some l = sym none ∙ at in cc)
 
-    dropped_link : (q : ℕ) → fm.conns p ≡ None → LinkFits fd fm (frames_at a.place a.frames) (dues v) v.ticket q → LinkFits fd fm (frames_at a.place []) (dues v) v.ticket q
+    dropped_link : (q : ℕ) → fm.conns p ≡ None → LinkFits c fd fm (frames_at a.place a.frames) (dues v) v.ticket q → LinkFits c fd fm (frames_at a.place []) (dues v) v.ticket q
     dropped_link q none (IsNone x y away) = IsNone x y away
-    dropped_link q none (IsSome l x at link) = IsSome l x at (subst (λ o. IsLinkAt q (names_at fd) l fm x o (dues v) v.ticket) (there q (λ e. let z : None ≡ Some x = sym none ∙ (ap fm.conns e ∙ link.line.conn) in cc) ∙ sym (frames_none s a.place q)) link)
+    dropped_link q none (IsSome l x at link) = IsSome l x at (subst (λ o. IsLinkAt c q (names_at fd) l fm x o (dues v) v.ticket) (there q (λ e. let z : None ≡ Some x = sym none ∙ (ap fm.conns e ∙ link.line.conn) in cc) ∙ sym (frames_none c s a.place q)) link)
 
     drops_so : fm.conns p ≡ None → Next u v
     drops_so none = record {
@@ -254,7 +254,7 @@ module _ (c : Conf) (s : ℕ) where
           count = refl;
           at = inl refl;
           row = inl refl;
-          told = (early, nobodys_foreign s a.pending fm idle);
+          told = (early, nobodys_foreign c s a.pending fm idle);
         };
         goes_on = goes_nowhere v fair;
         owned = λ i own. inl own;
@@ -263,19 +263,19 @@ module _ (c : Conf) (s : ℕ) where
     }
 
     module _ (l : Link Request) (is : entry_at p u.tables.connections ≡ Some l) where
-      found_there : (x : Conn) × IsLinkAt p (names_at fd) l fm x (frames_at a.place a.frames p) (dues v) v.ticket
-      found_there = link_at fd fm (frames_at a.place a.frames) (dues v) v.ticket p l (stands1.server.links p) is
+      found_there : (x : Conn) × IsLinkAt c p (names_at fd) l fm x (frames_at a.place a.frames p) (dues v) v.ticket
+      found_there = link_at c fd fm (frames_at a.place a.frames) (dues v) v.ticket p l (stands1.server.links p) is
 
       abbrev y0 : Conn
       y0 = found_there.0
 
-      link_there : IsLinkAt p (names_at fd) l fm y0 a.frames (dues v) v.ticket
-      link_there = subst (λ fs. IsLinkAt p (names_at fd) l fm y0 fs (dues v) v.ticket) here found_there.1
+      link_there : IsLinkAt c p (names_at fd) l fm y0 a.frames (dues v) v.ticket
+      link_there = subst (λ fs. IsLinkAt c p (names_at fd) l fm y0 fs (dues v) v.ticket) here found_there.1
 
-      work : AtWork p l y0 u.tables fm (frames_at a.place a.frames) v (dues v)
+      work : AtWork c p l y0 u.tables fm (frames_at a.place a.frames) v (dues v)
       work = record { tables = stands1.server.tables; links = λ q ne. stands1.server.links q; watched = stands1.server.watched; order = stands1.order; fair = fair; is = is; line = link_there.line }
 
-      read_there : (gs : List Octets) → a.frames ≡ gs → (k : Link Request) (y : View) → HasRead p (names_at fd) fm y0 l (lent v) gs k y → Leads Nexts (returns (one_stream for_one) p (taken (one_stream for_one) p l u.tables) v (k, y))
+      read_there : (gs : List Octets) → a.frames ≡ gs → (k : Link Request) (y : View) → HasRead c p (names_at fd) fm y0 l (lent v) gs k y → Leads Nexts (returns (one_stream for_one) p (taken (one_stream for_one) p l u.tables) v (k, y))
       read_there [] e k y read = absurd (not_none (sym t.count ∙ ap length e))
       read_there (f ∷ gs) e k y read =
           leads_as (FromFrames c s p (length gs) u v a) Nexts (returns (one_stream for_one) p (taken (one_stream for_one) p l u.tables) v (k, y))
@@ -305,9 +305,9 @@ module _ (c : Conf) (s : ℕ) where
           as_many i j k le e = omega arith
 
       more_so : Leads Nexts (option_and_then (returns (one_stream for_one) p (taken (one_stream for_one) p l u.tables) v) (plain_step for_one for_several (more_at p) l (lent v)))
-      more_so = by (plain_step for_one for_several (more_at p) l (lent v)) (links_read.more p (names_at fd) fm y0 l (lent v) a.frames link_there (record { order = fair.order; words = fair.words }))
+      more_so = by (plain_step for_one for_several (more_at p) l (lent v)) ((links_read c).more p (names_at fd) fm y0 l (lent v) a.frames link_there (record { order = fair.order; words = fair.words }))
         where
-          by : (h : Option (Link Request × View)) → Leads (HasRead p (names_at fd) fm y0 l (lent v) a.frames) h → Leads Nexts (option_and_then (returns (one_stream for_one) p (taken (one_stream for_one) p l u.tables) v) h)
+          by : (h : Option (Link Request × View)) → Leads (HasRead c p (names_at fd) fm y0 l (lent v) a.frames) h → Leads Nexts (option_and_then (returns (one_stream for_one) p (taken (one_stream for_one) p l u.tables) v) h)
           by None h = tt
           by (Some y) h = read_there a.frames refl y.0 y.1 h
 

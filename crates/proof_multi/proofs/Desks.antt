@@ -20,6 +20,7 @@ use Rattle.proof_parts.specs.Seats.{IsAway, IdFits, IsFree, IsHeld, WasGivenUp, 
 use Rattle.proof_parts.proofs.Keys.{with_again, with_same}
 use Rattle.proof_parts.proofs.Tables.{rises_below, frees_path}
 use Rattle.proof_multi.specs.Servers.{Desk, Server, desk_of, numbers, names_at, under, IsThere}
+use Rattle.right_trace.specs.Trace.{Conf}
 
 -- It is at a place, or away.
 
@@ -134,8 +135,8 @@ taken_out t job s lo hi sorted is = ap (λ (f : ℕ → Option (Job Request)). r
 abbrev pub StaysThere : (p : ℕ) (o n : Option Asker) → Type 0
 StaysThere p o n = (n ≡ o) ⊎ (IsAway p o × IsAway p n)
 
-module _ (p : ℕ) (l : SingleLine) (names after : ℕ → Option ℕ) (m n : Multi) (x : Conn) (d e : ℕ → Option ℕ) (ticket next : ℕ)
-    (line : IsLineAt p names l m x d ticket)
+module _ (c : Conf) (p : ℕ) (l : SingleLine) (names after : ℕ → Option ℕ) (m n : Multi) (x : Conn) (d e : ℕ → Option ℕ) (ticket next : ℕ)
+    (line : IsLineAt c p names l m x d ticket)
     (conns : n.conns p ≡ m.conns p)
     (asks : (k : ℕ) → StaysThere p (m.asks k) (n.asks k))
     (named : (i k : ℕ) (a : Asker) → names i ≡ Some k → m.asks k ≡ Some a → IsThere p a.phase → after i ≡ Some k)
@@ -173,12 +174,12 @@ module _ (p : ℕ) (l : SingleLine) (names after : ℕ → Option ℕ) (m n : Mu
     apart = apart;
   }
 
-  stage : StageFits d l.idle_time l.stage x.mode → StageFits e l.idle_time l.stage x.mode
+  stage : StageFits c d l.idle_time l.stage x.mode → StageFits c e l.idle_time l.stage x.mode
   stage (IsNew f g) = IsNew f g
   stage (IsActive t since f g h) = IsActive t since f g (due t (ap timer_of f) ∙ h)
   stage (IsIdle t since f g h) = IsIdle t since f g (due t (ap timer_of f) ∙ h)
 
-  pub line_stays : IsLineAt p after l n x e next
+  pub line_stays : IsLineAt c p after l n x e next
   line_stays = record {
     conn = conns ∙ line.conn;
     seated = seated;
@@ -195,13 +196,13 @@ module _ (p : ℕ) (l : SingleLine) (names after : ℕ → Option ℕ) (m n : Mu
     };
   }
 
-pub link_stays : (p : ℕ) (l : Link Request) (names after : ℕ → Option ℕ) (m n : Multi) (x : Conn) (frames : List Octets) (d e : ℕ → Option ℕ) (ticket next : ℕ) → IsLinkAt p names l m x frames d ticket
+pub link_stays : (c : Conf) (p : ℕ) (l : Link Request) (names after : ℕ → Option ℕ) (m n : Multi) (x : Conn) (frames : List Octets) (d e : ℕ → Option ℕ) (ticket next : ℕ) → IsLinkAt c p names l m x frames d ticket
     → n.conns p ≡ m.conns p → ((k : ℕ) → StaysThere p (m.asks k) (n.asks k)) → ((i k : ℕ) (a : Asker) → names i ≡ Some k → m.asks k ≡ Some a → IsThere p a.phase → after i ≡ Some k)
-    → ((i j k : ℕ) → after i ≡ Some k → after j ≡ Some k → i ≡ j) → ((i : ℕ) → timer_of l.line.stage ≡ Some i → e i ≡ d i) → ticket ≤ next → IsLinkAt p after l n x frames e next
-link_stays p l names after m n x frames d e ticket next link conns asks named apart due later = record {
+    → ((i j k : ℕ) → after i ≡ Some k → after j ≡ Some k → i ≡ j) → ((i : ℕ) → timer_of l.line.stage ≡ Some i → e i ≡ d i) → ticket ≤ next → IsLinkAt c p after l n x frames e next
+link_stays c p l names after m n x frames d e ticket next link conns asks named apart due later = record {
   place = link.place;
   timeout = link.timeout;
-  line = line_stays p l.line names after m n x d e ticket next link.line conns asks named apart due later;
+  line = line_stays c p l.line names after m n x d e ticket next link.line conns asks named apart due later;
   settled = link.settled;
   keeps = link.keeps;
 }

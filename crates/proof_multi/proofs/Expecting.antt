@@ -28,9 +28,10 @@ use Rattle.proof_multi.proofs.Going.{Went, waits_now}
 use Rattle.proof_multi.proofs.Hands.{InHand, hand_of, puts_beside, puts_here, numbers_stay, same_job}
 use Rattle.proof_multi.proofs.Resting.{rests_so}
 use Rattle.proof_multi.proofs.Waitings.{put_here, put_listed, listed_put, rises_put}
+use Rattle.right_trace.specs.Trace.{Conf}
 
-module _ (server : ℕ) (frames : ℕ → List Octets) (t : ℕ) (job : Job Request) (todo : List (ℕ × Phase)) (failed : List Posted) (s : Server) (m : Multi) (v : View)
-    (st : Stands (record { todo = (t, Free) ∷ todo; failed = failed }) (desk_with t (waits_now job) s) s m frames v) (below : t < v.ticket) (once : (phase : Phase) → IsLoose t phase todo → ⊥) where
+module _ (c : Conf) (server : ℕ) (frames : ℕ → List Octets) (t : ℕ) (job : Job Request) (todo : List (ℕ × Phase)) (failed : List Posted) (s : Server) (m : Multi) (v : View)
+    (st : Stands c (record { todo = (t, Free) ∷ todo; failed = failed }) (desk_with t (waits_now job) s) s m frames v) (below : t < v.ticket) (once : (phase : Phase) → IsLoose t phase todo → ⊥) where
   abbrev y : UnderWay
   y = record { todo = (t, Free) ∷ todo; failed = failed }
 
@@ -40,8 +41,8 @@ module _ (server : ℕ) (frames : ℕ → List Octets) (t : ℕ) (job : Job Requ
   abbrev d : Desk
   d = desk_with t (waits_now job) s
 
-  h : InHand t job Free y s m v
-  h = hand_of frames t job Free todo y s m v refl st
+  h : InHand c t job Free y s m v
+  h = hand_of c frames t job Free todo y s m v refl st
 
   abbrev a : Asker
   a = h.its.ask
@@ -57,7 +58,7 @@ module _ (server : ℕ) (frames : ℕ → List Octets) (t : ℕ) (job : Job Requ
     abbrev n : Multi
     n = record (move job.number a Expecting m) { opening = x }
 
-    fits : JobFits z (desk_of to) n (dues v) t job2
+    fits : JobFits c z (desk_of to) n (dues v) t job2
     fits = record {
       ask = moved a Expecting;
       is = with_here job.number (Some (moved a Expecting)) m.asks;
@@ -68,7 +69,7 @@ module _ (server : ℕ) (frames : ℕ → List Octets) (t : ℕ) (job : Job Requ
       stage = AtWaiting refl refl (put_here t s.waiting);
     }
 
-    change : Change t job.number y z d (desk_of to) m n (dues v) (dues v)
+    change : Change c t job.number y z d (desk_of to) m n (dues v) (dues v)
     change = record {
       jobs = λ u ne. puts_beside t job2 (Some job2) s.jobs u ne;
       timers = λ i u ne is. (is, refl);
@@ -84,7 +85,7 @@ module _ (server : ℕ) (frames : ℕ → List Octets) (t : ℕ) (job : Job Requ
       own = h.own;
       number = h.number;
       fits = λ j is. (let e : job2 ≡ j = same_job (entry_at t (puts t job2 s.jobs)) job2 j (puts_here t job2 s.jobs) is in
-          (subst (λ j. JobFits z (desk_of to) n (dues v) t j) e fits, sym (ap (λ (j : Job Request). j.number) e)));
+          (subst (λ j. JobFits c z (desk_of to) n (dues v) t j) e fits, sym (ap (λ (j : Job Request). j.number) e)));
       asked = λ b is. (job2, puts_here t job2 s.jobs);
       own_timers = λ i is. (job2, puts_here t job2 s.jobs, inl (h.ends i is));
       own_inner = λ i is. absurd (h.inner i is);
@@ -103,10 +104,10 @@ module _ (server : ℕ) (frames : ℕ → List Octets) (t : ℕ) (job : Job Requ
             let b = st.server.tables.failing i j posted (name_is d i q.0 q.1 q.2 was ∙ ap Some q.4) in
             (b.0, with_there job.number (Some (moved a Expecting)) m.asks j (λ e. other (h.own q.0 q.1 was (q.4 ∙ sym e))) ∙ b.1, b.2)
 
-    server_waits : IsServer z (desk_of to) n frames (dues v) v.ticket
+    server_waits : IsServer c z (desk_of to) n frames (dues v) v.ticket
     server_waits = record {
-      tables = changed t job.number y z d (desk_of to) m n frames (dues v) (dues v) v.ticket v.ticket st.server.tables change;
-      links = λ p. kept_link t job.number y z d (desk_of to) m n frames (dues v) (dues v) v.ticket v.ticket st.server.tables change frames p refl refl refl (h.away p)
+      tables = changed c t job.number y z d (desk_of to) m n frames (dues v) (dues v) v.ticket v.ticket st.server.tables change;
+      links = λ p. kept_link c t job.number y z d (desk_of to) m n frames (dues v) (dues v) v.ticket v.ticket st.server.tables change frames p refl refl refl (h.away p)
           (away_so p (n.asks job.number) (moved a Expecting) (with_here job.number (Some (moved a Expecting)) m.asks) (λ q. q)) (λ l i is own. refl) (le_refl v.ticket) (st.server.links p);
       watched = st.server.watched;
     }
@@ -129,10 +130,10 @@ module _ (server : ℕ) (frames : ℕ → List Octets) (t : ℕ) (job : Job Requ
         least n = omega arith
 
   -- a place opens: it waits for that
-  expects_so : (p : ℕ) → s.opening ≡ Some p → Went server frames z d m v (waits t job s) v
+  expects_so : (p : ℕ) → s.opening ≡ Some p → Went c server frames z d m v (waits t job s) v
   expects_so p is = record {
     made = _;
-    runs = runs_one server v.now v.place m Nothing (n s.opening m.opening st.server.tables.opening) (Expects job.number a p h.its.is h.phase (sym st.server.tables.opening ∙ is));
+    runs = runs_one c server v.now v.place m Nothing (n s.opening m.opening st.server.tables.opening) (Expects job.number a p h.its.is h.phase (sym st.server.tables.opening ∙ is));
     posts = refl;
     outs = sym (append-nil v.outs);
     place = refl;
@@ -148,10 +149,10 @@ module _ (server : ℕ) (frames : ℕ → List Octets) (t : ℕ) (job : Job Requ
 
   -- one is opened
   opens_one : s.opening ≡ None → ((p : ℕ) (x : Conn) → m.conns p ≡ Some x → IsFull x)
-      → Went server frames z d m v (record (waits t job s) { opening = Some v.place }) (asks (OpenStream v.place server) (record v { place = v.place + 1 }))
+      → Went c server frames z d m v (record (waits t job s) { opening = Some v.place }) (asks (OpenStream v.place server) (record v { place = v.place + 1 }))
   opens_one none full = record {
     made = _;
-    runs = runs_one server v.now v.place m (Puts (OpenStream v.place server)) (n (Some v.place) (Some v.place) refl) (Opens job.number a h.its.is h.phase (sym st.server.tables.opening ∙ none) full);
+    runs = runs_one c server v.now v.place m (Puts (OpenStream v.place server)) (n (Some v.place) (Some v.place) refl) (Opens job.number a h.its.is h.phase (sym st.server.tables.opening ∙ none) full);
     posts = refl;
     outs = refl;
     place = next v.place;
@@ -182,20 +183,20 @@ module _ (server : ℕ) (frames : ℕ → List Octets) (t : ℕ) (job : Job Requ
       over n = omega arith
 
   -- no connection has room
-  pub goes_on_so : ((p : ℕ) (x : Conn) → m.conns p ≡ Some x → IsFull x) → Leads (Went server frames z d m v) (goes_on (one_stream for_one) server t job s v s.opening)
+  pub goes_on_so : ((p : ℕ) (x : Conn) → m.conns p ≡ Some x → IsFull x) → Leads (Went c server frames z d m v) (goes_on (one_stream for_one) server t job s v s.opening)
   goes_on_so full = by s.opening refl
     where
-      by_room : (b : Bool) → s.opening ≡ None → Leads (Went server frames z d m v) (option_and_then (λ w. Some (record (waits t job s) { opening = Some v.place }, asks (OpenStream v.place server) w)) (if b then Some (record v { place = v.place + 1 }) else None))
+      by_room : (b : Bool) → s.opening ≡ None → Leads (Went c server frames z d m v) (option_and_then (λ w. Some (record (waits t job s) { opening = Some v.place }, asks (OpenStream v.place server) w)) (if b then Some (record v { place = v.place + 1 }) else None))
       by_room true e = opens_one e full
       by_room false e = tt
 
       calm_before : (i j k : ℕ) → nat_lt i j ≡ true → j ≤ k → i < k
       calm_before i j k e le = grind (arith, nat_tests)
 
-      by_calm : (b : Bool) → nat_lt v.now s.calm ≡ b → s.opening ≡ None → Leads (Went server frames z d m v) (if b then backs_off t job s v else opens (one_stream for_one) server t job s v)
-      by_calm true f e = rests_so server frames t job Free todo failed s m v st below once (inr (refl, calm_before v.now s.calm m.calm f st.server.tables.calm))
+      by_calm : (b : Bool) → nat_lt v.now s.calm ≡ b → s.opening ≡ None → Leads (Went c server frames z d m v) (if b then backs_off t job s v else opens (one_stream for_one) server t job s v)
+      by_calm true f e = rests_so c server frames t job Free todo failed s m v st below once (inr (refl, calm_before v.now s.calm m.calm f st.server.tables.calm))
       by_calm false f e = by_room (can_draw v.place) e
 
-      by : (o : Option ℕ) → s.opening ≡ o → Leads (Went server frames z d m v) (goes_on (one_stream for_one) server t job s v o)
+      by : (o : Option ℕ) → s.opening ≡ o → Leads (Went c server frames z d m v) (goes_on (one_stream for_one) server t job s v o)
       by (Some p) e = expects_so p e
       by None e = by_calm (nat_lt v.now s.calm) refl e

@@ -12,7 +12,7 @@ use Rattle.client_request.specs.declared.event.What.TheVariants.{Ask, Opened, Op
 use Rattle.client_stream.specs.declared.request.QueuedRequest.{QueuedRequest as Queued}
 use Rattle.client_multi.specs.Links.{Link}
 use Rattle.client_multi.specs.MultiStream.{started}
-use Rattle.client_settings.specs.MultiStream.{default_settings}
+use Rattle.right_settings.specs.Given.{streams_of}
 use Rattle.client_multi.specs.declared.multi_stream.job.Job.{Job}
 use Rattle.client_multi.specs.declared.multi_stream.job.Stage.{Stage}
 use Rattle.right_trace.specs.Messages.{Octets}
@@ -33,10 +33,11 @@ use Rattle.proof_multi.specs.Tied.{Streams, IsStream, IsUntold, AreEarly, TiedAs
 use Rattle.proof_multi.proofs.Calling.{owned_set}
 use Rattle.proof_multi.proofs.Desks.{away_none, number_of}
 use Rattle.proof_multi.proofs.Retimed.{server_retimed, order_up}
+use Rattle.right_trace.specs.Trace.{Conf}
 
-module _ (s : ℕ) where
-  pub begins_fresh : (x : Sight) → x.now ≡ 0 → TiedAs s (Told 0 0) (started s default_settings) x unserved
-  begins_fresh x now = record {
+module _ (conf : Conf) (s : ℕ) where
+  pub begins_fresh : (several : ℕ) (x : Sight) → x.now ≡ 0 → TiedAs conf s (Told 0 0) (started s (streams_of several conf)) x unserved
+  begins_fresh several x now = record {
     stream = record {
       server = refl;
       settings = refl;
@@ -67,24 +68,24 @@ module _ (s : ℕ) where
     told = ((λ i due o e. absurd (elim o [ inl q ↦ (let z : None ≡ Some q.0 = q.1 in cc) | inr q ↦ (let z : None ≡ Some q.1 = q.2 in cc) ])), λ q e. absurd (let z : false ≡ true = e in cc));
   }
 
-  stream_same : (u : Streams) (x y : Sight) (a : Served) → IsStream s u x a → y.now ≡ x.now → ((i : ℕ) → owns u i → y.dues i ≡ x.dues i) → x.timer ≤ y.timer → x.ticket ≤ y.ticket → x.place ≤ y.place → IsStream s u y a
+  stream_same : (u : Streams) (x y : Sight) (a : Served) → IsStream conf s u x a → y.now ≡ x.now → ((i : ℕ) → owns u i → y.dues i ≡ x.dues i) → x.timer ≤ y.timer → x.ticket ≤ y.ticket → x.place ≤ y.place → IsStream conf s u y a
   stream_same u x y a i now due timer ticket place = record {
     server = i.server;
     settings = i.settings;
     takes = i.takes;
     clock = i.clock ∙ sym now;
     dgram = i.dgram;
-    ties = server_retimed nothing_under_way (desk_of u.tables) a.server.by_stream x.dues y.dues (frames_at a.place a.frames) x.ticket y.ticket due ticket i.ties;
+    ties = server_retimed conf nothing_under_way (desk_of u.tables) a.server.by_stream x.dues y.dues (frames_at a.place a.frames) x.ticket y.ticket due ticket i.ties;
     order = order_up u.tables x y i.order timer ticket place;
   }
 
   early_same : (u : Streams) (x y : Sight) → AreEarly (desk_of u.tables) x → y.now ≡ x.now → ((i : ℕ) → owns u i → y.dues i ≡ x.dues i) → AreEarly (desk_of u.tables) y
   early_same u x y early now due i d o set = subst (λ n. n < d) (sym now) (early i d o (sym (due i o) ∙ set))
 
-  untold_same : (w : What) (u : Streams) (x y : Sight) (a : Served) → IsUntold s w u x a → y.now ≡ x.now → ((i : ℕ) → owns u i → y.dues i ≡ x.dues i) → x.timer ≤ y.timer → x.ticket ≤ y.ticket → x.place ≤ y.place → IsUntold s w u y a
+  untold_same : (w : What) (u : Streams) (x y : Sight) (a : Served) → IsUntold conf s w u x a → y.now ≡ x.now → ((i : ℕ) → owns u i → y.dues i ≡ x.dues i) → x.timer ≤ y.timer → x.ticket ≤ y.ticket → x.place ≤ y.place → IsUntold conf s w u y a
   untold_same w u x y a t now due timer ticket place = record { stream = stream_same u x y a t.stream now due timer ticket place; pending = t.pending; taken = t.taken; frames = t.frames; quiet = t.quiet }
 
-  pub stays_same : (phase : Phase) (u : Streams) (x y : Sight) (a : Served) → TiedAs s phase u x a → y.now ≡ x.now → ((i : ℕ) → owns u i → y.dues i ≡ x.dues i) → x.timer ≤ y.timer → x.ticket ≤ y.ticket → x.place ≤ y.place → TiedAs s phase u y a
+  pub stays_same : (phase : Phase) (u : Streams) (x y : Sight) (a : Served) → TiedAs conf s phase u x a → y.now ≡ x.now → ((i : ℕ) → owns u i → y.dues i ≡ x.dues i) → x.timer ≤ y.timer → x.ticket ≤ y.ticket → x.place ≤ y.place → TiedAs conf s phase u y a
   stays_same (Untold w) u x y a t now due timer ticket place = untold_same w u x y a t now due timer ticket place
   stays_same (Passed w) u x y a t now due timer ticket place = record { untold = untold_same w u x y a t.untold now due timer ticket place; early = early_same u x y t.early now due; apart = t.apart }
   stays_same (Told p n) u x y a t now due timer ticket place = record {
@@ -95,31 +96,31 @@ module _ (s : ℕ) where
     told = (early_same u x y t.told.0 now due, t.told.1);
   }
 
-  pub stream_of : (phase : Phase) (u : Streams) (x : Sight) (a : Served) → TiedAs s phase u x a → IsStream s u x a
+  pub stream_of : (phase : Phase) (u : Streams) (x : Sight) (a : Served) → TiedAs conf s phase u x a → IsStream conf s u x a
   stream_of (Untold w) u x a t = t.stream
   stream_of (Told p n) u x a t = t.stream
   stream_of (Passed w) u x a t = t.untold.stream
 
   -- none of its timers is due once the event was told
-  pub none_due : (phase : Phase) (u : Streams) (x : Sight) (a : Served) → WasTold phase → TiedAs s phase u x a → AreEarly (desk_of u.tables) x
+  pub none_due : (phase : Phase) (u : Streams) (x : Sight) (a : Served) → WasTold phase → TiedAs conf s phase u x a → AreEarly (desk_of u.tables) x
   none_due (Untold w) u x a was t = absurd was
   none_due (Told p n) u x a was t = t.told.0
   none_due (Passed w) u x a was t = t.early
 
-  pub has_set : (phase : Phase) (u : Streams) (x : Sight) (a : Served) (i : ℕ) → TiedAs s phase u x a → owns u i → (due : ℕ) × (x.dues i ≡ Some due)
-  has_set phase u x a i t o = owned_set nothing_under_way (desk_of u.tables) a.server.by_stream (frames_at a.place a.frames) x.dues x.ticket (stream_of phase u x a t).ties i o
+  pub has_set : (phase : Phase) (u : Streams) (x : Sight) (a : Served) (i : ℕ) → TiedAs conf s phase u x a → owns u i → (due : ℕ) × (x.dues i ≡ Some due)
+  has_set phase u x a i t o = owned_set conf nothing_under_way (desk_of u.tables) a.server.by_stream (frames_at a.place a.frames) x.dues x.ticket (stream_of phase u x a t).ties i o
 
   pub no_tryer : (g : Dgrams) (k : ℕ) → g ≡ no_datagram → g.held k ≡ None
   no_tryer g k e = ap (λ (g : Dgrams). g.held k) e
 
-  pub is_named : (phase : Phase) (u : Streams) (x : Sight) (a : Served) (i k : ℕ) → TiedAs s phase u x a → names_of u i ≡ Some k → (i < x.ticket) × (holds a k ≡ true)
+  pub is_named : (phase : Phase) (u : Streams) (x : Sight) (a : Served) (i k : ℕ) → TiedAs conf s phase u x a → names_of u i ≡ Some k → (i < x.ticket) × (holds a k ≡ true)
   is_named phase u x a i k t named =
       let st = stream_of phase u x a t in
       let o = number_of (entry_at i u.tables.jobs) k named in
       let j = st.ties.tables.jobs i o.0 o.1 in
       (present_below i 0 x.ticket o.0 u.tables.jobs st.order.jobs o.1, ap₂ (λ (b : Option Tryer) (c : Option Asker). is_some b || is_some c) (no_tryer a.server.by_dgram k st.dgram) (ap a.server.by_stream.asks (sym o.2) ∙ j.is))
 
-  pub is_held : (phase : Phase) (u : Streams) (x : Sight) (a : Served) (k : ℕ) → TiedAs s phase u x a → holds a k ≡ true → (i : ℕ) × (names_of u i ≡ Some k)
+  pub is_held : (phase : Phase) (u : Streams) (x : Sight) (a : Served) (k : ℕ) → TiedAs conf s phase u x a → holds a k ≡ true → (i : ℕ) × (names_of u i ≡ Some k)
   is_held phase u x a k t held = by (a.server.by_stream.asks k) refl
     where
       by : (o : Option Asker) → a.server.by_stream.asks k ≡ o → (i : ℕ) × (names_of u i ≡ Some k)
@@ -138,7 +139,7 @@ module _ (s : ℕ) where
   same_frames : (p : ℕ) (fs : List Octets) → fs ≡ [] → frames_at p fs ≡ frames_at 0 []
   same_frames p fs e = fun_ext (λ q. ap (λ (fs : List Octets). frames_at p fs q) e ∙ (frames_none p q ∙ sym (frames_none 0 q)))
 
-  link_begun : (d : Desk) (m : Multi) (frames : ℕ → List Octets) (f : ℕ → Option ℕ) (ticket p : ℕ) → LinkFits d m frames f ticket p → LinkFits d (begin_row m) frames f ticket p
+  link_begun : (d : Desk) (m : Multi) (frames : ℕ → List Octets) (f : ℕ → Option ℕ) (ticket p : ℕ) → LinkFits conf d m frames f ticket p → LinkFits conf d (begin_row m) frames f ticket p
   link_begun d m frames f ticket p (IsNone a b away) = IsNone a (ap unheard b) away
   link_begun d m frames f ticket p (IsSome l x a link) = IsSome l (record x { heard = false }) a (record {
     place = link.place;
@@ -152,7 +153,7 @@ module _ (s : ℕ) where
     keeps = link.keeps;
   })
 
-  server_begun : (d : Desk) (m : Multi) (frames : ℕ → List Octets) (f : ℕ → Option ℕ) (ticket : ℕ) → IsServer nothing_under_way d m frames f ticket → IsServer nothing_under_way d (begin_row m) frames f ticket
+  server_begun : (d : Desk) (m : Multi) (frames : ℕ → List Octets) (f : ℕ → Option ℕ) (ticket : ℕ) → IsServer conf nothing_under_way d m frames f ticket → IsServer conf nothing_under_way d (begin_row m) frames f ticket
   server_begun d m frames f ticket i = record {
     tables = record {
       jobs = λ t job e. (let j = i.tables.jobs t job e in record { ask = j.ask; is = j.is; request = j.request; octets = j.octets; end = j.end; over = j.over; stage = j.stage });
@@ -178,12 +179,12 @@ module _ (s : ℕ) where
       not_zero n e = grind arith
 
   -- no frame is left
-  none_left : (phase : Phase) (u : Streams) (x : Sight) (a : Served) → MayEnd phase → TiedAs s phase u x a → a.frames ≡ []
+  none_left : (phase : Phase) (u : Streams) (x : Sight) (a : Served) → MayEnd phase → TiedAs conf s phase u x a → a.frames ≡ []
   none_left (Untold w) u x a end t = t.frames
   none_left (Told p n) u x a end t = none_of a.frames (t.count ∙ end)
   none_left (Passed w) u x a end t = t.untold.frames
 
-  pub row_begins : (phase : Phase) (u : Streams) (x : Sight) (a : Served) (e : Event) → MayEnd phase → TiedAs s phase u x a → TiedAs s (Untold e.what) u (record x { now = max e.moment.0 x.now }) (row_begun e a)
+  pub row_begins : (phase : Phase) (u : Streams) (x : Sight) (a : Served) (e : Event) → MayEnd phase → TiedAs conf s phase u x a → TiedAs conf s (Untold e.what) u (record x { now = max e.moment.0 x.now }) (row_begun e a)
   row_begins phase u x a e end t = record {
     stream = (let i = stream_of phase u x a t in record {
       server = i.server;
@@ -191,7 +192,7 @@ module _ (s : ℕ) where
       takes = i.takes;
       clock = ap (max e.moment.0) i.clock;
       dgram = i.dgram;
-      ties = subst (λ (fs : ℕ → List Octets). IsServer nothing_under_way (desk_of u.tables) (begin_row a.server.by_stream) fs x.dues x.ticket) (same_frames a.place a.frames (none_left phase u x a end t))
+      ties = subst (λ (fs : ℕ → List Octets). IsServer conf nothing_under_way (desk_of u.tables) (begin_row a.server.by_stream) fs x.dues x.ticket) (same_frames a.place a.frames (none_left phase u x a end t))
           (server_begun (desk_of u.tables) a.server.by_stream (frames_at a.place a.frames) x.dues x.ticket i.ties);
       order = order_up u.tables x (record x { now = max e.moment.0 x.now }) i.order (le_refl x.timer) (le_refl x.ticket) (le_refl x.place);
     });
@@ -207,7 +208,7 @@ module _ (s : ℕ) where
 
   -- It rests
 
-  ignores : (w : What) → IsIgnored w no_datagram
+  ignores : (w : What) → IsIgnored conf w no_datagram
   ignores (Ask r) = tt
   ignores (Opened p) = λ t. (let e = t.2 in cc)
   ignores (OpenFailed p f) = λ t. (let e = t.2 in cc)
@@ -222,8 +223,8 @@ module _ (s : ℕ) where
   ignores (Ended p) = tt
   ignores Tick = tt
 
-  pub ignored : (w : What) (g : Dgrams) → g ≡ no_datagram → IsIgnored w g
-  ignored w g e = subst (IsIgnored w) (sym e) (ignores w)
+  pub ignored : (w : What) (g : Dgrams) → g ≡ no_datagram → IsIgnored conf w g
+  ignored w g e = subst (IsIgnored conf w) (sym e) (ignores w)
 
   pub nobodys_foreign : (w : What) (m : Multi) → IsNobodys w → IsForeign w m
   nobodys_foreign (Ask r) m n = λ q e. absurd (let z : false ≡ true = e in cc)
@@ -279,7 +280,7 @@ module _ (s : ℕ) where
   apart_foreign (Ended p) a apart = λ q e. subst (λ p. a.server.by_stream.conns p ≡ None) (same_place p q e) (no_conn a p (apart p refl))
   apart_foreign Tick a apart = λ q e. absurd (let z : false ≡ true = e in cc)
 
-  module _ (u : Streams) (v : View) (a : Served) (i : IsStream s u (sight v) a) (early : AreEarly (desk_of u.tables) (sight v)) where
+  module _ (u : Streams) (v : View) (a : Served) (i : IsStream conf s u (sight v) a) (early : AreEarly (desk_of u.tables) (sight v)) where
     abbrev m : Multi
     m = a.server.by_stream
 
@@ -287,7 +288,7 @@ module _ (s : ℕ) where
     d = desk_of u.tables
 
     -- the job of a request
-    job_of : (k : ℕ) (e : Asker) → m.asks k ≡ Some e → (t : ℕ) × (job : Job Request) × (j : JobFits nothing_under_way d m (dues v) t job) × (j.ask ≡ e)
+    job_of : (k : ℕ) (e : Asker) → m.asks k ≡ Some e → (t : ℕ) × (job : Job Request) × (j : JobFits conf nothing_under_way d m (dues v) t job) × (j.ask ≡ e)
     job_of k e at =
         let o = i.ties.tables.asked k e at in
         let j = i.ties.tables.jobs o.0 o.1 o.2 in
@@ -311,14 +312,14 @@ module _ (s : ℕ) where
     rests_until t until stage phase (IsToHand l w h) e = absurd l
 
     -- the connection that the machine has at a place
-    link_of : (p : ℕ) (x : Conn) → m.conns p ≡ Some x → LinkFits d m (frames_at a.place a.frames) (dues v) v.ticket p → (l : Link Request) × IsLinkAt p (names_at d) l m x (frames_at a.place a.frames p) (dues v) v.ticket × (d.links p ≡ Some l)
+    link_of : (p : ℕ) (x : Conn) → m.conns p ≡ Some x → LinkFits conf d m (frames_at a.place a.frames) (dues v) v.ticket p → (l : Link Request) × IsLinkAt conf p (names_at d) l m x (frames_at a.place a.frames p) (dues v) v.ticket × (d.links p ≡ Some l)
     link_of p x at (IsNone b c away) = absurd (let z : None ≡ Some x = sym c ∙ at in cc)
-    link_of p x at (IsSome l y b link) = (l, subst (λ x. IsLinkAt p (names_at d) l m x (frames_at a.place a.frames p) (dues v) v.ticket) (let z : Some y ≡ Some x = sym link.line.conn ∙ at in cc) link, b)
+    link_of p x at (IsSome l y b link) = (l, subst (λ x. IsLinkAt conf p (names_at d) l m x (frames_at a.place a.frames p) (dues v) v.ticket) (let z : Some y ≡ Some x = sym link.line.conn ∙ at in cc) link, b)
 
-    pub in_time : (k : ℕ) (e : Asker) → m.asks k ≡ Some e → v.now < e.since + stream_timeout
-    in_time k e at = let j = job_of k e at in subst (λ (e : Asker). v.now < e.since + stream_timeout) j.3 (early (j.1).end ((j.2).ask.since + stream_timeout) (inl (j.0, (j.2).end)) (j.2).over)
+    pub in_time : (k : ℕ) (e : Asker) → m.asks k ≡ Some e → v.now < e.since + stream_timeout conf
+    in_time k e at = let j = job_of k e at in subst (λ (e : Asker). v.now < e.since + stream_timeout conf) j.3 (early (j.1).end ((j.2).ask.since + stream_timeout conf) (inl (j.0, (j.2).end)) (j.2).over)
 
-    rests_now : Rests v.now a.server
+    rests_now : Rests conf v.now a.server
     rests_now = record {
       waiting = λ k t e q. absurd (no_try k t e);
       reading = λ k t p id n e q. absurd (no_try k t e);
@@ -343,25 +344,25 @@ module _ (s : ℕ) where
         below_one : (n b : ℕ) → n < b + 1 → n ≤ b
         below_one n b lt = omega arith
 
-        active : (p : ℕ) (l : Link Request) → d.links p ≡ Some l → (x : Conn) (since : ℕ) → x.mode ≡ Active since → LineStageFits (dues v) l.line.idle_time l.line.stage x.mode → v.now ≤ since + response_timeout
+        active : (p : ℕ) (l : Link Request) → d.links p ≡ Some l → (x : Conn) (since : ℕ) → x.mode ≡ Active since → LineStageFits conf (dues v) l.line.idle_time l.line.stage x.mode → v.now ≤ since + response_timeout conf
         active p l is x since md (IsNew f g) = absurd (let z = sym g ∙ md in cc)
-        active p l is x since md (IsActive t at f g h) = below_one v.now (since + response_timeout) (early t (since + response_timeout + 1) (inr (p, l, is, ap timer_of f)) (h ∙ ap (λ n. Some (n + response_timeout + 1)) (let z : Active at ≡ Active since = sym g ∙ md in cc)))
+        active p l is x since md (IsActive t at f g h) = below_one v.now (since + response_timeout conf) (early t (since + response_timeout conf + 1) (inr (p, l, is, ap timer_of f)) (h ∙ ap (λ n. Some (n + response_timeout conf + 1)) (let z : Active at ≡ Active since = sym g ∙ md in cc)))
         active p l is x since md (IsIdle t at f g h) = absurd (let z = sym g ∙ md in cc)
 
-        idles : (p : ℕ) (l : Link Request) → d.links p ≡ Some l → (x : Conn) (since : ℕ) → x.mode ≡ Idle since → l.line.idle_time ≡ x.idle → LineStageFits (dues v) l.line.idle_time l.line.stage x.mode → v.now < since + x.idle
+        idles : (p : ℕ) (l : Link Request) → d.links p ≡ Some l → (x : Conn) (since : ℕ) → x.mode ≡ Idle since → l.line.idle_time ≡ x.idle → LineStageFits conf (dues v) l.line.idle_time l.line.stage x.mode → v.now < since + x.idle
         idles p l is x since md idle (IsNew f g) = absurd (let z = sym g ∙ md in cc)
         idles p l is x since md idle (IsActive t at f g h) = absurd (let z = sym g ∙ md in cc)
         idles p l is x since md idle (IsIdle t at f g h) = early t (since + x.idle) (inr (p, l, is, ap timer_of f)) (h ∙ ap₂ (λ n k. Some (n + k)) (let z : Idle at ≡ Idle since = sym g ∙ md in let q : at ≡ since = cc in q) idle)
 
   -- the event concerns no connection that is there
-  nothing_pending : (phase : Phase) (u : Streams) (x : Sight) (a : Served) → MayEnd phase → TiedAs s phase u x a → IsForeign a.pending a.server.by_stream
+  nothing_pending : (phase : Phase) (u : Streams) (x : Sight) (a : Served) → MayEnd phase → TiedAs conf s phase u x a → IsForeign a.pending a.server.by_stream
   nothing_pending (Untold w) u x a end t = nobodys_foreign a.pending a.server.by_stream (subst IsNobodys (sym t.pending) end)
   nothing_pending (Told p n) u x a end t = t.told.1
   nothing_pending (Passed w) u x a end t = subst (λ w. IsForeign w a.server.by_stream) (sym t.untold.pending) (apart_foreign w a t.apart)
 
-  pub it_rests : (phase : Phase) (u : Streams) (v : View) (a : Served) → MayEnd phase → AreEarly (desk_of u.tables) (sight v) → TiedAs s phase u (sight v) a → RestsNow a
+  pub it_rests : (phase : Phase) (u : Streams) (v : View) (a : Served) → MayEnd phase → AreEarly (desk_of u.tables) (sight v) → TiedAs conf s phase u (sight v) a → RestsNow conf a
   it_rests phase u v a end early t = (let i = stream_of phase u (sight v) a t in record {
-    rests = subst (λ n. Rests n a.server) (sym i.clock) (rests_now u v a i early);
+    rests = subst (λ n. Rests conf n a.server) (sym i.clock) (rests_now u v a i early);
     frames = none_left phase u (sight v) a end t;
     ignored = ignored a.pending a.server.by_dgram i.dgram;
     foreign = nothing_pending phase u (sight v) a end t;

@@ -46,11 +46,12 @@ use Rattle.proof_multi.proofs.Leaving.{Dropped, leaves_so}
 use Rattle.proof_multi.proofs.Retimed.{tables_retimed, link_retimed, server_retimed, order_up}
 use Rattle.proof_multi.proofs.Serving.{Gone, went_gone}
 use Rattle.proof_multi.proofs.Stepping.{AtWork, ended_call, kept_call, quiet_end}
+use Rattle.right_trace.specs.Trace.{Conf}
 
 -- a move that puts nothing out comes before
-pub move_before : (server : ℕ) (frames : ℕ → List Octets) (d e : Desk) (m n : Multi) (v : View) (t : Server) (w : View) → ((next : ℕ) → multi.Moves server v.now next m Nothing n) → ((i : ℕ) → Owns e i → Owns d i) → ((u : ℕ) → numbers e u ≡ numbers d u) → (NoneHeard m → NoneHeard n)
-    → Went server frames nothing_under_way e n v t w → Went server frames nothing_under_way d m v t w
-move_before server frames d e m n v t w moves owns named quiet b = record {
+pub move_before : (c : Conf) (server : ℕ) (frames : ℕ → List Octets) (d e : Desk) (m n : Multi) (v : View) (t : Server) (w : View) → ((next : ℕ) → multi.Moves c server v.now next m Nothing n) → ((i : ℕ) → Owns e i → Owns d i) → ((u : ℕ) → numbers e u ≡ numbers d u) → (NoneHeard m → NoneHeard n)
+    → Went c server frames nothing_under_way e n v t w → Went c server frames nothing_under_way d m v t w
+move_before c server frames d e m n v t w moves owns named quiet b = record {
   made = then_act (made_by v.place Nothing n) b.made;
   runs = Runs_on v.place m Nothing n b.made (moves v.place) b.runs;
   posts = b.posts;
@@ -66,7 +67,7 @@ move_before server frames d e m n v t w moves owns named quiet b = record {
   quiet = λ q. b.quiet (quiet q);
 }
 
-module _ (server : ℕ) (frames : ℕ → List Octets) (s : Server) (m : Multi) (v0 : View) (st : Stands nothing_under_way (desk_of s) s m frames v0) (i at : ℕ) (set : dues v0 i ≡ Some at) (late : at ≤ v0.now) (quiet : (t : ℕ) → entry_at i s.timers ≡ Some t → NoneHeard m) where
+module _ (c : Conf) (server : ℕ) (frames : ℕ → List Octets) (s : Server) (m : Multi) (v0 : View) (st : Stands c nothing_under_way (desk_of s) s m frames v0) (i at : ℕ) (set : dues v0 i ≡ Some at) (late : at ≤ v0.now) (quiet : (t : ℕ) → entry_at i s.timers ≡ Some t → NoneHeard m) where
   abbrev d : Desk
   d = desk_of s
 
@@ -80,9 +81,9 @@ module _ (server : ℕ) (frames : ℕ → List Octets) (s : Server) (m : Multi) 
   due_there j ne = dues_without v0 i j st.fair ∙ with_there i None (dues v0) j ne
 
   abbrev P : Server → View → Type 0
-  P t w = Gone server frames (numbers d) d m v t w
+  P t w = Gone c server frames (numbers d) d m v t w
 
-  abbrev T : AreTables nothing_under_way d m (dues v0)
+  abbrev T : AreTables c nothing_under_way d m (dues v0)
   T = st.server.tables
 
   -- one of a request
@@ -90,7 +91,7 @@ module _ (server : ℕ) (frames : ℕ → List Octets) (s : Server) (m : Multi) 
     abbrev k : ℕ
     k = job.number
 
-    its : JobFits nothing_under_way d m (dues v0) t job
+    its : JobFits c nothing_under_way d m (dues v0) t job
     its = T.jobs t job is
 
     abbrev less : Server
@@ -98,19 +99,19 @@ module _ (server : ℕ) (frames : ℕ → List Octets) (s : Server) (m : Multi) 
 
     -- Its time is over
     over : i ≡ job.end → Leads P (times_out (one_stream for_one) t job less v)
-    over e = subst (λ i. Leads (λ r w. Gone server frames (numbers d) d m (record v0 { timers = cancelled i v0.timers }) r w) (times_out (one_stream for_one) t job (record s { timers = frees i s.timers; jobs = frees t s.jobs }) (record v0 { timers = cancelled i v0.timers }))) (sym e)
-        (by (leaves (one_stream for_one) t job.stage (record s { jobs = frees t s.jobs; timers = frees job.end s.timers }) end_v) (leaves_so server frames s m v0 st t job is))
+    over e = subst (λ i. Leads (λ r w. Gone c server frames (numbers d) d m (record v0 { timers = cancelled i v0.timers }) r w) (times_out (one_stream for_one) t job (record s { timers = frees i s.timers; jobs = frees t s.jobs }) (record v0 { timers = cancelled i v0.timers }))) (sym e)
+        (by (leaves (one_stream for_one) t job.stage (record s { jobs = frees t s.jobs; timers = frees job.end s.timers }) end_v) (leaves_so c server frames s m v0 st t job is))
       where
         end_v : View
         end_v = record v0 { timers = cancelled job.end v0.timers }
 
-        is_over : its.ask.since + stream_timeout ≤ v0.now
-        is_over = let z : Some at ≡ Some (its.ask.since + stream_timeout) = sym set ∙ (ap (dues v0) e ∙ its.over) in let q : at ≡ its.ask.since + stream_timeout = cc in subst (λ n. n ≤ v0.now) q late
+        is_over : its.ask.since + stream_timeout c ≤ v0.now
+        is_over = let z : Some at ≡ Some (its.ask.since + stream_timeout c) = sym set ∙ (ap (dues v0) e ∙ its.over) in let q : at ≡ its.ask.since + stream_timeout c = cc in subst (λ n. n ≤ v0.now) q late
 
-        gone : (r : Server) (w : View) → Dropped t k frames d m end_v r w → Gone server frames (numbers d) d m end_v r (answers t (Err errors.StreamReadTimeout) w)
+        gone : (r : Server) (w : View) → Dropped c t k frames d m end_v r w → Gone c server frames (numbers d) d m end_v r (answers t (Err errors.StreamReadTimeout) w)
         gone r w g = record {
           made = _;
-          runs = runs_one server v0.now v0.place m (GivesIt k (Err errors.StreamReadTimeout)) (drop k m) (TimesOut k its.ask its.is is_over);
+          runs = runs_one c server v0.now v0.place m (GivesIt k (Err errors.StreamReadTimeout)) (drop k m) (TimesOut k its.ask its.is is_over);
           outs = g.outs ∙ sym (append-nil v0.outs);
           place = g.place;
           board = record { ticket = t; part = Err errors.StreamReadTimeout; is_stale = false } ∷ [];
@@ -124,7 +125,7 @@ module _ (server : ℕ) (frames : ℕ → List Octets) (s : Server) (m : Multi) 
           quiet = λ q. q;
         }
 
-        by : (o : Option (Server × View)) → Leads (Dropped t k frames d m end_v) o → Leads (λ r w. Gone server frames (numbers d) d m end_v r w) (option_and_then (λ x. Some (x.0, answers t (Err errors.StreamReadTimeout) x.1)) o)
+        by : (o : Option (Server × View)) → Leads (Dropped c t k frames d m end_v) o → Leads (λ r w. Gone c server frames (numbers d) d m end_v r w) (option_and_then (λ x. Some (x.0, answers t (Err errors.StreamReadTimeout) x.1)) o)
         by None l = tt
         by (Some y) l = gone y.0 y.1 l
 
@@ -167,10 +168,10 @@ module _ (server : ℕ) (frames : ℕ → List Octets) (s : Server) (m : Multi) 
       only : (other : Job Request) → entry_at t s.jobs ≡ Some other → other.stage ≡ Resting i
       only other q = ap (λ (j : Job Request). j.stage) (same_job (entry_at t s.jobs) other job q is) ∙ rest
 
-      fits : JobFits z e n (dues v) t (waits_now job)
+      fits : JobFits c z e n (dues v) t (waits_now job)
       fits = let o = timer_on job.end t not_end its.end in record { ask = moved its.ask Free; is = moved_is; request = its.request; octets = its.octets; end = o.0; over = o.1 ∙ its.over; stage = IsToHand (inl (refl, refl)) refl (inl refl) }
 
-      change : Change t k nothing_under_way z d e m n (dues v0) (dues v)
+      change : Change c t k nothing_under_way z d e m n (dues v0) (dues v)
       change = record {
         jobs = beside;
         timers = λ j u ne tm. timer_on j u (λ q. ne (let x : Some t ≡ Some u = sym own ∙ (ap (λ j. entry_at j s.timers) q ∙ tm) in cc)) tm;
@@ -185,7 +186,7 @@ module _ (server : ℕ) (frames : ℕ → List Octets) (s : Server) (m : Multi) 
         failed = λ j u ne q l. l;
         own = λ u j q same. T.apart t u job j is q (sym same);
         number = λ j q. ap (λ (j : Job Request). j.number) (same_job (entry_at t s.jobs) j job q is);
-        fits = λ j q. (let x : waits_now job ≡ j = same_job (e.jobs t) (waits_now job) j here q in (subst (λ j. JobFits z e n (dues v) t j) x fits, sym (ap (λ (j : Job Request). j.number) x)));
+        fits = λ j q. (let x : waits_now job ≡ j = same_job (e.jobs t) (waits_now job) j here q in (subst (λ j. JobFits c z e n (dues v) t j) x fits, sym (ap (λ (j : Job Request). j.number) x)));
         asked = λ a q. (waits_now job, here);
         own_timers = λ j tm. (let o = timer_back j t tm in let q = T.timers j t o.1 in (
           waits_now job,
@@ -209,11 +210,11 @@ module _ (server : ℕ) (frames : ℕ → List Octets) (s : Server) (m : Multi) 
       link_timer : (p : ℕ) (l : Link Request) (j : ℕ) → entry_at p s.connections ≡ Some l → timer_of l.line.stage ≡ Some j → i ≡ j → ⊥
       link_timer p l j q mine same = let b = st.server.watched p l j q mine in let x : None ≡ Some t = sym b.1 ∙ (ap (λ j. entry_at j s.timers) (sym same) ∙ own) in cc
 
-      in_hand : Stands z e less n frames v
+      in_hand : Stands c z e less n frames v
       in_hand = record {
         server = record {
-          tables = changed t k nothing_under_way z d e m n frames (dues v0) (dues v) v0.ticket v0.ticket T change;
-          links = λ p. kept_link t k nothing_under_way z d e m n frames (dues v0) (dues v) v0.ticket v0.ticket T change frames p refl refl refl (nowhere p) (away_so p (n.asks k) (moved its.ask Free) moved_is (λ q. q)) (λ l j q mine. due_there j (link_timer p l j q mine)) (le_refl v0.ticket) (st.server.links p);
+          tables = changed c t k nothing_under_way z d e m n frames (dues v0) (dues v) v0.ticket v0.ticket T change;
+          links = λ p. kept_link c t k nothing_under_way z d e m n frames (dues v0) (dues v) v0.ticket v0.ticket T change frames p refl refl refl (nowhere p) (away_so p (n.asks k) (moved its.ask Free) moved_is (λ q. q)) (λ l j q mine. due_there j (link_timer p l j q mine)) (le_refl v0.ticket) (st.server.links p);
           watched = λ p l j q mine. (let b = st.server.watched p l j q mine in (b.0, at_frees i j 0 v0.timers.next s.timers st.order.timers ∙ (with_there i None (λ j. entry_at j s.timers) j (link_timer p l j q mine) ∙ b.1)));
         };
         order = record { jobs = sorted_frees t 0 v0.ticket s.jobs st.order.jobs; timers = sorted_frees i 0 v0.timers.next s.timers st.order.timers; inner = st.order.inner; waiting = st.order.waiting; connections = st.order.connections; watches = st.order.watches; opening = st.order.opening };
@@ -227,13 +228,13 @@ module _ (server : ℕ) (frames : ℕ → List Octets) (s : Server) (m : Multi) 
       owns_so j (inl o) = inl (o.0, (timer_back j o.0 o.1).1)
       owns_so j (inr o) = inr o
 
-      goes_on_now : (next : ℕ) → multi.Moves server v.now next m Nothing n
+      goes_on_now : (next : ℕ) → multi.Moves c server v.now next m Nothing n
       goes_on_now next = GoesOnNow k its.ask found.0 its.is found.1 (let x : Some at ≡ Some found.0 = sym set ∙ found.2 in let y : at ≡ found.0 = cc in subst (λ n. n ≤ v0.now) y late)
 
       again : Leads P (hands (one_stream for_one) server t job less v)
-      again = leads_as (Went server frames nothing_under_way e n v) P (hands (one_stream for_one) server t job less v)
-          (hands_so server frames t job [] less n v in_hand (present_below t 0 v0.ticket job s.jobs st.order.jobs is) (λ phase l. l) (quiet t own))
-          (λ r w b. went_gone server frames d m v r w (move_before server frames d e m n v r w goes_on_now owns_so numbers_so (λ q. q) b))
+      again = leads_as (Went c server frames nothing_under_way e n v) P (hands (one_stream for_one) server t job less v)
+          (hands_so c server frames t job [] less n v in_hand (present_below t 0 v0.ticket job s.jobs st.order.jobs is) (λ phase l. l) (quiet t own))
+          (λ r w b. went_gone c server frames d m v r w (move_before c server frames d e m n v r w goes_on_now owns_so numbers_so (λ q. q) b))
 
     own_fires : (job.end ≡ i) ⊎ (job.stage ≡ Resting i) → Leads P (fires (one_stream for_one) server i t job less v)
     own_fires which = by (i == job.end) refl
@@ -250,24 +251,24 @@ module _ (server : ℕ) (frames : ℕ → List Octets) (s : Server) (m : Multi) 
 
   -- one of others
   not_its : (Owns d i → ⊥) → Leads P (Some (s, v))
-  not_its free = went_gone server frames d m v s v (went_nowhere server frames nothing_under_way s m v (record {
-    server = server_retimed nothing_under_way d m (dues v0) (dues v) frames v0.ticket v0.ticket (λ j o. due_there j (λ e. free (subst (Owns d) (sym e) o))) (le_refl v0.ticket) st.server;
+  not_its free = went_gone c server frames d m v s v (went_nowhere c server frames nothing_under_way s m v (record {
+    server = server_retimed c nothing_under_way d m (dues v0) (dues v) frames v0.ticket v0.ticket (λ j o. due_there j (λ e. free (subst (Owns d) (sym e) o))) (le_refl v0.ticket) st.server;
     order = order_up s (sight v0) (sight v) st.order (le_refl v0.timers.next) (le_refl v0.ticket) (le_refl v0.place);
     fair = fair_v;
   }))
 
   -- one that a connection may have
   module _ (none : entry_at i s.timers ≡ None) (p : ℕ) (watch : entry_at i s.watches ≡ Some p) (l : Link Request) (is : entry_at p s.connections ≡ Some l) where
-    found_link : (x : Conn) × IsLinkAt p (names_at d) l m x (frames p) (dues v0) v0.ticket
-    found_link = link_at d m frames (dues v0) v0.ticket p l (st.server.links p) is
+    found_link : (x : Conn) × IsLinkAt c p (names_at d) l m x (frames p) (dues v0) v0.ticket
+    found_link = link_at c d m frames (dues v0) v0.ticket p l (st.server.links p) is
 
     abbrev x : Conn
     x = found_link.0
 
-    work : AtWork p l x s m frames v (dues v0)
+    work : AtWork c p l x s m frames v (dues v0)
     work = record {
-      tables = tables_retimed nothing_under_way d m (dues v0) (dues v) (λ j t tm. due_there j (λ e. let z : None ≡ Some t = sym none ∙ (ap (λ j. entry_at j s.timers) e ∙ tm) in cc)) T;
-      links = λ q ne. link_retimed nothing_under_way d m (dues v0) (dues v) frames v0.ticket v0.ticket q T
+      tables = tables_retimed c nothing_under_way d m (dues v0) (dues v) (λ j t tm. due_there j (λ e. let z : None ≡ Some t = sym none ∙ (ap (λ j. entry_at j s.timers) e ∙ tm) in cc)) T;
+      links = λ q ne. link_retimed c nothing_under_way d m (dues v0) (dues v) frames v0.ticket v0.ticket q T
           (λ k j at_q mine. due_there j (λ e. (let b = st.server.watched q k j at_q mine in let z : Some p ≡ Some q = sym watch ∙ (ap (λ j. entry_at j s.watches) e ∙ b.0) in ne (cc)))) (le_refl v0.ticket) (st.server.links q);
       watched = st.server.watched;
       order = order_up s (sight v0) (sight v) st.order (le_refl v0.timers.next) (le_refl v0.ticket) (le_refl v0.place);
@@ -282,33 +283,33 @@ module _ (server : ℕ) (frames : ℕ → List Octets) (s : Server) (m : Multi) 
     fair_u : IsFair u0
     fair_u = record { order = st.fair.order; words = st.fair.words }
 
-    fired : Leads (HasFired server p (names_at d) m x l.line (lent v)) (line_fires p i l.line (lent v) l.line.stage)
-    fired = line_fires_so server p (names_at d) m x l.line u0 found_link.1.line fair_u found_link.1.settled i at set late
+    fired : Leads (HasFired c server p (names_at d) m x l.line (lent v)) (line_fires p i l.line (lent v) l.line.stage)
+    fired = line_fires_so c server p (names_at d) m x l.line u0 found_link.1.line fair_u found_link.1.settled i at set late
 
-    left : (t : SingleLine) (w : View) → HasFired server p (names_at d) m x l.line (lent v) t w → Leads (Went server frames nothing_under_way d m v) (returns (one_stream for_one) p (taken (one_stream for_one) p l s) v (record l { line = t; octets = octets_left t.stage l.octets }, w))
+    left : (t : SingleLine) (w : View) → HasFired c server p (names_at d) m x l.line (lent v) t w → Leads (Went c server frames nothing_under_way d m v) (returns (one_stream for_one) p (taken (one_stream for_one) p l s) v (record l { line = t; octets = octets_left t.stage l.octets }, w))
     left t w (IsOthers line same_line same_view) =
-        subst (λ (w : View). Leads (Went server frames nothing_under_way d m v) (returns (one_stream for_one) p (taken (one_stream for_one) p l s) v (record l { line = t; octets = octets_left t.stage l.octets }, w))) (sym same_view)
-        (subst (λ (t : SingleLine). Leads (Went server frames nothing_under_way d m v) (returns (one_stream for_one) p (taken (one_stream for_one) p l s) v (record l { line = t; octets = octets_left t.stage l.octets }, lent v))) (sym same_line)
-        (kept_call server p l x s m frames v (dues v0) work frames (λ q ne. refl) m v.outs (still v.place m) (Rests v.place m) refl refl
+        subst (λ (w : View). Leads (Went c server frames nothing_under_way d m v) (returns (one_stream for_one) p (taken (one_stream for_one) p l s) v (record l { line = t; octets = octets_left t.stage l.octets }, w))) (sym same_view)
+        (subst (λ (t : SingleLine). Leads (Went c server frames nothing_under_way d m v) (returns (one_stream for_one) p (taken (one_stream for_one) p l s) v (record l { line = t; octets = octets_left t.stage l.octets }, lent v))) (sym same_line)
+        (kept_call c server p l x s m frames v (dues v0) work frames (λ q ne. refl) m v.outs (still v.place m) (Rests v.place m) refl refl
         m (lent v) (record l { octets = octets_left l.line.stage l.octets }) x refl (λ q ne. refl) refl refl (timed_same l.line.stage (lent v) (record { order = fair_v.order; words = fair_v.words }))
-        (record { place = found_link.1.place; timeout = found_link.1.timeout; line = line; settled = found_link.1.settled; keeps = subst (λ o. Keeps o (frames p) x.got) (sym (open_octets l (is_open (dues v0) l.line.idle_time l.line.stage x.mode found_link.1.line.fits.stage))) found_link.1.keeps })
+        (record { place = found_link.1.place; timeout = found_link.1.timeout; line = line; settled = found_link.1.settled; keeps = subst (λ o. Keeps o (frames p) x.got) (sym (open_octets l (is_open c (dues v0) l.line.idle_time l.line.stage x.mode found_link.1.line.fits.stage))) found_link.1.keeps })
         refl refl refl refl (sym (append-nil v.outs)) (λ q. q)))
       where
         open_octets : (l : Link Request) → has_ended l.line.stage ≡ false → octets_left l.line.stage l.octets ≡ l.octets
         open_octets l e = ap (λ b. if b then [] else l.octets) e
     left t w (EndsByTimer moves e is_ended) =
-        ended_call server p l x s m frames v (dues v0) work frames (λ q ne. refl) m v.outs _ (runs_one server v.now v.place m (Puts (Close p)) (end_at p m) (moves v.place)) refl refl
+        ended_call c server p l x s m frames v (dues v0) work frames (λ q ne. refl) m v.outs _ (runs_one c server v.now v.place m (Puts (Close p)) (end_at p m) (moves v.place)) refl refl
         w (record l { line = t; octets = octets_left t.stage l.octets }) e is_ended refl e.outs (quiet_end p m)
 
-    link_fires : Leads (Went server frames nothing_under_way d m v) (calls (one_stream for_one) p ((one_stream for_one).calls.step (due_timer i)) s v (Some l))
-    link_fires = subst (λ b. Leads (Went server frames nothing_under_way d m v) (option_and_then (returns (one_stream for_one) p (taken (one_stream for_one) p l s) v)
+    link_fires : Leads (Went c server frames nothing_under_way d m v) (calls (one_stream for_one) p ((one_stream for_one).calls.step (due_timer i)) s v (Some l))
+    link_fires = subst (λ b. Leads (Went c server frames nothing_under_way d m v) (option_and_then (returns (one_stream for_one) p (taken (one_stream for_one) p l s) v)
         (if b then Some (l, lent v) else option_and_then (λ y. Some (record l { line = y.0; octets = octets_left y.0.stage l.octets }, y.1)) (line_fires l.place i l.line (lent v) l.line.stage))))
-        (sym (is_open (dues v0) l.line.idle_time l.line.stage x.mode found_link.1.line.fits.stage))
-        (subst (λ q. Leads (Went server frames nothing_under_way d m v) (option_and_then (returns (one_stream for_one) p (taken (one_stream for_one) p l s) v)
+        (sym (is_open c (dues v0) l.line.idle_time l.line.stage x.mode found_link.1.line.fits.stage))
+        (subst (λ q. Leads (Went c server frames nothing_under_way d m v) (option_and_then (returns (one_stream for_one) p (taken (one_stream for_one) p l s) v)
         (option_and_then (λ y. Some (record l { line = y.0; octets = octets_left y.0.stage l.octets }, y.1)) (line_fires q i l.line (lent v) l.line.stage)))) (sym found_link.1.place)
         (by (line_fires p i l.line (lent v) l.line.stage) fired))
       where
-        by : (o : Option (SingleLine × View)) → Leads (HasFired server p (names_at d) m x l.line (lent v)) o → Leads (Went server frames nothing_under_way d m v) (option_and_then (returns (one_stream for_one) p (taken (one_stream for_one) p l s) v) (option_and_then (λ y. Some (record l { line = y.0; octets = octets_left y.0.stage l.octets }, y.1)) o))
+        by : (o : Option (SingleLine × View)) → Leads (HasFired c server p (names_at d) m x l.line (lent v)) o → Leads (Went c server frames nothing_under_way d m v) (option_and_then (returns (one_stream for_one) p (taken (one_stream for_one) p l s) v) (option_and_then (λ y. Some (record l { line = y.0; octets = octets_left y.0.stage l.octets }, y.1)) o))
         by None h = tt
         by (Some y) h = left y.0 y.1 h
 
@@ -321,7 +322,7 @@ module _ (server : ℕ) (frames : ℕ → List Octets) (s : Server) (m : Multi) 
 
       at_place : entry_at i s.timers ≡ None → (p : ℕ) → entry_at i s.watches ≡ Some p → (o : Option (Link Request)) → entry_at p s.connections ≡ o → Leads P (calls (one_stream for_one) p ((one_stream for_one).calls.step (due_timer i)) s v o)
       at_place none p watch None e = not_its (free_of none (λ q l at_q mine. (let b = st.server.watched q l i at_q mine in let z : Some p ≡ Some q = sym watch ∙ b.0 in let w : p ≡ q = cc in let y : None ≡ Some l = sym e ∙ (ap (λ p. entry_at p s.connections) w ∙ at_q) in cc)))
-      at_place none p watch (Some l) e = leads_as (Went server frames nothing_under_way d m v) P (calls (one_stream for_one) p ((one_stream for_one).calls.step (due_timer i)) s v (Some l)) (link_fires none p watch l e) (λ r w g. went_gone server frames d m v r w g)
+      at_place none p watch (Some l) e = leads_as (Went c server frames nothing_under_way d m v) P (calls (one_stream for_one) p ((one_stream for_one).calls.step (due_timer i)) s v (Some l)) (link_fires none p watch l e) (λ r w g. went_gone c server frames d m v r w g)
 
       by_watch : entry_at i s.timers ≡ None → (o : Option ℕ) → entry_at i s.watches ≡ o → Leads P (hears_at (one_stream for_one) (due_timer i) s v o)
       by_watch none None e = not_its (free_of none (λ q l at_q mine. (let b = st.server.watched q l i at_q mine in let z : None ≡ Some q = sym e ∙ b.0 in cc)))

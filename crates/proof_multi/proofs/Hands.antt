@@ -21,6 +21,7 @@ use Rattle.proof_parts.proofs.Tables.{at_puts}
 use Rattle.proof_multi.specs.Servers.{Desk, Server, numbers, UnderWay, IsListed, IsLoose, IsThere, under, JobFits, LinkFits, IsNone, IsSome, Stands}
 use Rattle.proof_multi.proofs.Desks.{desk_with, away_so}
 use Rattle.proof_multi.proofs.Going.{waits_now}
+use Rattle.right_trace.specs.Trace.{Conf}
 
 pub same_job : (o : Option (Job Request)) (a b : Job Request) → o ≡ Some a → o ≡ Some b → a ≡ b
 same_job o a b e f = let g : Some a ≡ Some b = sym e ∙ f in cc
@@ -47,16 +48,16 @@ numbers_stay t d e beside a b was is same u = each_number (λ u. numbers e u ≡
     (ap (option_map (λ (job : Job Request). job.number)) is ∙ (ap Some same ∙ sym (ap (option_map (λ (job : Job Request). job.number)) was)))
     (λ u ne. ap (option_map (λ (job : Job Request). job.number)) (beside u ne)) u
 
-pub line_due : (f : ℕ → Option ℕ) (idle : ℕ) (at : LineStage) (mode : Mode) (i : ℕ) → LineStageFits f idle at mode → timer_of at ≡ Some i → (due : ℕ) × (f i ≡ Some due)
-line_due f idle at mode i (IsNew e g) own = absurd (let z = sym (ap timer_of e) ∙ own in cc)
-line_due f idle at mode i (IsActive timer since e g h) own = (_, ap f (let z : Some timer ≡ Some i = sym (ap timer_of e) ∙ own in let s : timer ≡ i = cc in sym s) ∙ h)
-line_due f idle at mode i (IsIdle timer since e g h) own = (_, ap f (let z : Some timer ≡ Some i = sym (ap timer_of e) ∙ own in let s : timer ≡ i = cc in sym s) ∙ h)
+pub line_due : (c : Conf) (f : ℕ → Option ℕ) (idle : ℕ) (at : LineStage) (mode : Mode) (i : ℕ) → LineStageFits c f idle at mode → timer_of at ≡ Some i → (due : ℕ) × (f i ≡ Some due)
+line_due c f idle at mode i (IsNew e g) own = absurd (let z = sym (ap timer_of e) ∙ own in cc)
+line_due c f idle at mode i (IsActive timer since e g h) own = (_, ap f (let z : Some timer ≡ Some i = sym (ap timer_of e) ∙ own in let s : timer ≡ i = cc in sym s) ∙ h)
+line_due c f idle at mode i (IsIdle timer since e g h) own = (_, ap f (let z : Some timer ≡ Some i = sym (ap timer_of e) ∙ own in let s : timer ≡ i = cc in sym s) ∙ h)
 
 -- the timer of a connection is set
-pub link_due : (d : Desk) (m : Multi) (frames : ℕ → List Octets) (f : ℕ → Option ℕ) (ticket p : ℕ) (l : Link Request) (i : ℕ) → LinkFits d m frames f ticket p → d.links p ≡ Some l → timer_of l.line.stage ≡ Some i → (due : ℕ) × (f i ≡ Some due)
-link_due d m frames f ticket p l i (IsNone a b away) is own = absurd (let z = sym a ∙ is in cc)
-link_due d m frames f ticket p l i (IsSome k x a link) is own =
-    line_due f k.line.idle_time k.line.stage x.mode i link.line.fits.stage (ap (λ (l : Link Request). timer_of l.line.stage) (same_link (d.links p) k l a is) ∙ own)
+pub link_due : (c : Conf) (d : Desk) (m : Multi) (frames : ℕ → List Octets) (f : ℕ → Option ℕ) (ticket p : ℕ) (l : Link Request) (i : ℕ) → LinkFits c d m frames f ticket p → d.links p ≡ Some l → timer_of l.line.stage ≡ Some i → (due : ℕ) × (f i ≡ Some due)
+link_due c d m frames f ticket p l i (IsNone a b away) is own = absurd (let z = sym a ∙ is in cc)
+link_due c d m frames f ticket p l i (IsSome k x a link) is own =
+    line_due c f k.line.idle_time k.line.stage x.mode i link.line.fits.stage (ap (λ (l : Link Request). timer_of l.line.stage) (same_link (d.links p) k l a is) ∙ own)
 
 -- a timer that is set has a number that was drawn
 pub not_next : (v : View) (i due : ℕ) → IsFair v → dues v i ≡ Some due → v.timers.next ≡ i → ⊥
@@ -65,9 +66,9 @@ not_next v i due fair set e = let none = none_next v i fair (at_most v.timers.ne
     at_most : (a b : ℕ) → a ≡ b → a ≤ b
     at_most a b e = omega arith
 
-pub record InHand (t : ℕ) (job : Job Request) (ph : Phase) (y : UnderWay) (s : Server) (m : Multi) (v : View) : Type 0 where
+pub record InHand (c : Conf) (t : ℕ) (job : Job Request) (ph : Phase) (y : UnderWay) (s : Server) (m : Multi) (v : View) : Type 0 where
   pub here : (desk_with t (waits_now job) s).jobs t ≡ Some (waits_now job)
-  pub its : JobFits y (desk_with t (waits_now job) s) m (dues v) t (waits_now job)
+  pub its : JobFits c y (desk_with t (waits_now job) s) m (dues v) t (waits_now job)
   pub phase : its.ask.phase ≡ ph
   pub loose : (ph ≡ Free) ⊎ (ph ≡ Broken)
   pub away : (p : ℕ) → IsAway p (m.asks job.number)
@@ -77,14 +78,14 @@ pub record InHand (t : ℕ) (job : Job Request) (ph : Phase) (y : UnderWay) (s :
   pub own : (u : ℕ) (other : Job Request) → (desk_with t (waits_now job) s).jobs u ≡ Some other → other.number ≡ job.number → t ≡ u
   pub number : (other : Job Request) → (desk_with t (waits_now job) s).jobs t ≡ Some other → other.number ≡ job.number
 
-module _ (frames : ℕ → List Octets) (t : ℕ) (job : Job Request) (ph : Phase) (todo : List (ℕ × Phase)) (y : UnderWay) (s : Server) (m : Multi) (v : View) (is_y : y.todo ≡ (t, ph) ∷ todo) (st : Stands y (desk_with t (waits_now job) s) s m frames v) where
+module _ (c : Conf) (frames : ℕ → List Octets) (t : ℕ) (job : Job Request) (ph : Phase) (todo : List (ℕ × Phase)) (y : UnderWay) (s : Server) (m : Multi) (v : View) (is_y : y.todo ≡ (t, ph) ∷ todo) (st : Stands c y (desk_with t (waits_now job) s) s m frames v) where
   abbrev d : Desk
   d = desk_with t (waits_now job) s
 
   here : d.jobs t ≡ Some (waits_now job)
   here = with_here t (Some (waits_now job)) (λ j. entry_at j s.jobs)
 
-  its : JobFits y d m (dues v) t (waits_now job)
+  its : JobFits c y d m (dues v) t (waits_now job)
   its = st.server.tables.jobs t (waits_now job) here
 
   todo_of : (j : Job Request) × (a : Asker) × (d.jobs t ≡ Some j) × (j.stage ≡ Waiting) × (m.asks j.number ≡ Some a) × (a.phase ≡ ph) × ((ph ≡ Free) ⊎ (ph ≡ Broken))
@@ -99,7 +100,7 @@ module _ (frames : ℕ → List Octets) (t : ℕ) (job : Job Request) (ph : Phas
   none_there : (p : ℕ) → IsAway p (m.asks job.number)
   none_there p = away_so p (m.asks job.number) its.ask its.is (λ h. elim todo_of.6 [ inl b ↦ subst (IsThere p) (phase ∙ b) h | inr b ↦ subst (IsThere p) (phase ∙ b) h ])
 
-  pub hand_of : InHand t job ph y s m v
+  pub hand_of : InHand c t job ph y s m v
   hand_of = record {
     here = here;
     its = its;

@@ -13,7 +13,7 @@ use Rattle.client_stream.specs.Plain.{has_ended}
 use Rattle.client_settings.specs.Stream.{Settings as StreamSettings}
 use Rattle.client_multi.specs.Links.{Link, one_stream}
 use Rattle.client_multi.specs.MultiStream.{tells, returns, taken, lent}
-use Rattle.client_settings.specs.MultiStream.{Settings, default_settings}
+use Rattle.client_settings.specs.MultiStream.{Settings}
 use Rattle.right_trace.specs.Messages.{Octets}
 use Rattle.right_trace.specs.Time.{response_timeout, stream_timeout}
 use Rattle.right_trace.specs.Trace.{Conf}
@@ -38,6 +38,7 @@ use Rattle.proof_multi.proofs.Serving.{stream_moved, lift, runs_chain, chain_the
 use Rattle.proof_multi.proofs.Stepping.{AtWork}
 use Rattle.proof_multi.proofs.Telling.{ToldOf, Passes, Takes_it, said, told_so}
 use Rattle.proof_multi.proofs.Tying.{stands_of, still_early}
+use Rattle.right_settings.specs.Given.{streams_of}
 
 pub few : (n : ℕ) → 0 ≤ n
 few n = omega arith
@@ -77,23 +78,23 @@ frames_there p q fs ne = ap (λ b. if b then fs else []) (other p q ne)
     other p q ne = grind (arith, nat_tests)
 
 -- no request is at its timeout where none of the timers is due
-in_time_by : (d : Desk) (m : Multi) (v : View) → AreTables nothing_under_way d m (dues v) → AreEarly d (sight v) → (k : ℕ) (e : Asker) → m.asks k ≡ Some e → v.now < e.since + stream_timeout
-in_time_by d m v t early k e at =
+in_time_by : (c : Conf) (d : Desk) (m : Multi) (v : View) → AreTables c nothing_under_way d m (dues v) → AreEarly d (sight v) → (k : ℕ) (e : Asker) → m.asks k ≡ Some e → v.now < e.since + stream_timeout c
+in_time_by c d m v t early k e at =
     let o = t.asked k e at in
     let j = t.jobs o.0 o.1 o.2 in
     let z : Some j.ask ≡ Some e = sym j.is ∙ (ap m.asks o.3 ∙ at) in
     let same : j.ask ≡ e = cc in
-    subst (λ (e : Asker). v.now < e.since + stream_timeout) same (early (o.1).end (j.ask.since + stream_timeout) (inl (o.0, j.end)) j.over)
+    subst (λ (e : Asker). v.now < e.since + stream_timeout c) same (early (o.1).end (j.ask.since + stream_timeout c) (inl (o.0, j.end)) j.over)
 
 module _ (c : Conf) (s : ℕ) where
-  pub is_in_time : (a : Served) (d : Desk) (v : View) → a.clock ≡ v.now → a.server.by_dgram ≡ no_datagram → AreTables nothing_under_way d a.server.by_stream (dues v) → AreEarly d (sight v) → IsInTime a.clock a.server
+  pub is_in_time : (a : Served) (d : Desk) (v : View) → a.clock ≡ v.now → a.server.by_dgram ≡ no_datagram → AreTables c nothing_under_way d a.server.by_stream (dues v) → AreEarly d (sight v) → IsInTime c a.clock a.server
   is_in_time a d v clock dgram t early = record {
-    sent = λ k b p id n e q. absurd (let z : None ≡ Some b = sym (no_tryer s a.server.by_dgram k dgram) ∙ e in cc);
-    asked = λ k e at. subst (λ n. n < e.since + stream_timeout) (sym clock) (in_time_by d a.server.by_stream v t early k e at);
+    sent = λ k b p id n e q. absurd (let z : None ≡ Some b = sym (no_tryer c s a.server.by_dgram k dgram) ∙ e in cc);
+    asked = λ k e at. subst (λ n. n < e.since + stream_timeout c) (sym clock) (in_time_by c d a.server.by_stream v t early k e at);
   }
 
   -- Frames of a connection that is no more are dropped.
-  pub drops_all : (place : ℕ) (fs : List Octets) (b : Served) → b.frames ≡ fs → b.server.by_stream.conns b.place ≡ None → IsInTime b.clock b.server → Chain (served c) s place b (still place (frames_left [] b.server.by_stream b))
+  pub drops_all : (place : ℕ) (fs : List Octets) (b : Served) → b.frames ≡ fs → b.server.by_stream.conns b.place ≡ None → IsInTime c b.clock b.server → Chain (served c) s place b (still place (frames_left [] b.server.by_stream b))
   drops_all place [] b e none time = subst (λ fs. Chain (served c) s place b (still place (frames_left fs b.server.by_stream b))) e (Stays place b)
   drops_all place (f ∷ fs) b e none time =
       Goes place b (does (frames_left fs b.server.by_stream b) place Nothing) (still place (frames_left [] b.server.by_stream b)) (TakesOne f fs Nothing b.server.by_stream e time (IsDropped none))
@@ -111,25 +112,25 @@ module _ (c : Conf) (s : ℕ) where
     pub left : ℕ
     pub at_most : left ≤ most
     pub more : w.more ≡ nat_lt 0 left
-    pub tied : TiedAs s (Told p left) (record u { tables = t }) (sight w) made.state
+    pub tied : TiedAs c s (Told p left) (record u { tables = t }) (sight w) made.state
     pub on : GoesOn v w
     pub owned : (i : ℕ) → Owns (desk_of t) i → Owns (desk_of u.tables) i ⊎ (v.timers.next ≤ i)
     pub others : (i due : ℕ) → (Owns (desk_of u.tables) i → ⊥) → dues v i ≡ Some due → dues w i ≡ Some due
 
-  module _ (p : ℕ) (u : Streams) (v : View) (fair : IsFair v) (early : AreEarly (desk_of u.tables) (sight v)) (calm : v.more ≡ false) (server_is : u.server ≡ s) (settings_are : u.settings ≡ default_settings) (takes_more : u.shut ≡ false)
+  module _ (p : ℕ) (u : Streams) (v : View) (fair : IsFair v) (early : AreEarly (desk_of u.tables) (sight v)) (calm : v.more ≡ false) (server_is : u.server ≡ s) (settings_are : u.settings ≡ streams_of u.settings.stream.streaming_response_timeout c) (takes_more : u.shut ≡ false)
       (b : Served) (clock : b.clock ≡ v.now) (dgram : b.server.by_dgram ≡ no_datagram) (at_p : b.place ≡ p) (idle : IsNobodys b.pending)
-      (l : Link Request) (x : Conn) (frames : ℕ → List Octets) (work : AtWork p l x u.tables b.server.by_stream frames v (dues v)) (f : Octets) (fs : List Octets) (stand : b.frames ≡ f ∷ fs) where
+      (l : Link Request) (x : Conn) (frames : ℕ → List Octets) (work : AtWork c p l x u.tables b.server.by_stream frames v (dues v)) (f : Octets) (fs : List Octets) (stand : b.frames ≡ f ∷ fs) where
     abbrev d : Desk
     d = desk_of u.tables
 
     abbrev m : Multi
     m = b.server.by_stream
 
-    time : IsInTime b.clock b.server
+    time : IsInTime c b.clock b.server
     time = is_in_time b d v clock dgram work.tables early
 
     -- the frame was taken
-    module _ (b0 e0 : Bool) (t : Server) (w : View) (g : FrameDone s p f (frames_at p fs) d m v b0 e0 t w) where
+    module _ (b0 e0 : Bool) (t : Server) (w : View) (g : FrameDone c s p f (frames_at p fs) d m v b0 e0 t w) where
       abbrev b1 : Served
       b1 = frames_left fs g.next b
 
@@ -148,11 +149,11 @@ module _ (c : Conf) (s : ℕ) where
       early_now : AreEarly (desk_of t) (sight w)
       early_now = still_early d (desk_of t) v w fair early g.on g.owned
 
-      stream_now : (gs : List Octets) → IsServer nothing_under_way (desk_of t) g.made.state (frames_at b.place gs) (dues w) w.ticket → IsStream s (record u { tables = t }) (sight w) (frames_left gs g.made.state b)
+      stream_now : (gs : List Octets) → IsServer c nothing_under_way (desk_of t) g.made.state (frames_at b.place gs) (dues w) w.ticket → IsStream c s (record u { tables = t }) (sight w) (frames_left gs g.made.state b)
       stream_now gs ties = record { server = server_is; settings = settings_are; takes = takes_more; clock = clock ∙ sym g.on.now; dgram = dgram; ties = ties; order = g.stands.order }
 
-      ties_now : IsServer nothing_under_way (desk_of t) g.made.state (frames_at b.place fs) (dues w) w.ticket
-      ties_now = subst (λ q. IsServer nothing_under_way (desk_of t) g.made.state (frames_at q fs) (dues w) w.ticket) (sym at_p) g.stands.server
+      ties_now : IsServer c nothing_under_way (desk_of t) g.made.state (frames_at b.place fs) (dues w) w.ticket
+      ties_now = subst (λ q. IsServer c nothing_under_way (desk_of t) g.made.state (frames_at q fs) (dues w) w.ticket) (sym at_p) g.stands.server
 
       -- the connection lives on
       stays_open : b0 ≡ nat_lt 0 (length fs) → FromFrames p (length fs) u v b t w
@@ -167,16 +168,16 @@ module _ (c : Conf) (s : ℕ) where
         left = length fs;
         at_most = le_refl (length fs);
         more = g.more ∙ more;
-        tied = record { stream = stream_now fs ties_now; count = refl; at = inr at_p; row = inr idle; told = (early_now, nobodys_foreign s b.pending g.made.state idle) };
+        tied = record { stream = stream_now fs ties_now; count = refl; at = inr at_p; row = inr idle; told = (early_now, nobodys_foreign c s b.pending g.made.state idle) };
         on = g.on;
         owned = g.owned;
         others = g.others;
       }
 
       -- it is closed, and the frames behind are dropped
-      link_dropped : (q : ℕ) → LinkFits (desk_of t) g.made.state (frames_at p fs) (dues w) w.ticket q → (g.made.state).conns p ≡ None → LinkFits (desk_of t) g.made.state (frames_at b.place []) (dues w) w.ticket q
+      link_dropped : (q : ℕ) → LinkFits c (desk_of t) g.made.state (frames_at p fs) (dues w) w.ticket q → (g.made.state).conns p ≡ None → LinkFits c (desk_of t) g.made.state (frames_at b.place []) (dues w) w.ticket q
       link_dropped q (IsNone h i away) none = IsNone h i away
-      link_dropped q (IsSome k y h link) none = IsSome k y h (subst (λ o. IsLinkAt q (names_at (desk_of t)) k g.made.state y o (dues w) w.ticket) (frames_there p q fs (λ e. let z : None ≡ Some y = sym none ∙ (ap (g.made.state).conns e ∙ link.line.conn) in cc) ∙ sym (frames_none s b.place q)) link)
+      link_dropped q (IsSome k y h link) none = IsSome k y h (subst (λ o. IsLinkAt c q (names_at (desk_of t)) k g.made.state y o (dues w) w.ticket) (frames_there p q fs (λ e. let z : None ≡ Some y = sym none ∙ (ap (g.made.state).conns e ∙ link.line.conn) in cc) ∙ sym (frames_none c s b.place q)) link)
 
       is_closed : (g.made.state).conns p ≡ None → b0 ≡ false → FromFrames p (length fs) u v b t w
       is_closed none more = record {
@@ -196,7 +197,7 @@ module _ (c : Conf) (s : ℕ) where
           count = refl;
           at = inl refl;
           row = inl refl;
-          told = (early_now, nobodys_foreign s b.pending g.made.state idle);
+          told = (early_now, nobodys_foreign c s b.pending g.made.state idle);
         };
         on = g.on;
         owned = g.owned;
@@ -207,21 +208,21 @@ module _ (c : Conf) (s : ℕ) where
       done_so e more = is_closed (g.closed e) more
 
     -- whatever the connection has read
-    pub reads_so : (l1 : Link Request) → l1.line ≡ l.line → l1.place ≡ p → l1.settings.response_timeout ≡ response_timeout → (same : (q : ℕ) → (p ≡ q → ⊥) → frames_at p fs q ≡ frames q)
-        → (k : Link Request) (y : View) → HasRead p (names_at d) m x l1 (lent v) (f ∷ fs) k y → Leads (FromFrames p (length fs) u v b) (returns (one_stream for_one) p (taken (one_stream for_one) p l u.tables) v (k, y))
+    pub reads_so : (l1 : Link Request) → l1.line ≡ l.line → l1.place ≡ p → l1.settings.response_timeout ≡ response_timeout c → (same : (q : ℕ) → (p ≡ q → ⊥) → frames_at p fs q ≡ frames q)
+        → (k : Link Request) (y : View) → HasRead c p (names_at d) m x l1 (lent v) (f ∷ fs) k y → Leads (FromFrames p (length fs) u v b) (returns (one_stream for_one) p (taken (one_stream for_one) p l u.tables) v (k, y))
     reads_so l1 same_line l1_place l1_time same k y (ReadsOne _ _ _ y1 _ heard said_more place settings keeps_open keeps_none) = by (has_ended k.line.stage) refl
       where
-        result : (bb : Bool) → Leads (FrameDone s p f (frames_at p fs) d m v bb (has_ended k.line.stage)) (returns (one_stream for_one) p (taken (one_stream for_one) p l u.tables) v (k, record y1 { more = bb }))
-        result bb = frame_done s p l x u.tables m frames (frames_at p fs) same v work f k y1 bb
-            (subst (λ line. HasHeard p (names_at d) m x line (lent v) f k.line y1) same_line heard)
+        result : (bb : Bool) → Leads (FrameDone c s p f (frames_at p fs) d m v bb (has_ended k.line.stage)) (returns (one_stream for_one) p (taken (one_stream for_one) p l u.tables) v (k, record y1 { more = bb }))
+        result bb = frame_done c s p l x u.tables m frames (frames_at p fs) same v work f k y1 bb
+            (subst (λ line. HasHeard c p (names_at d) m x line (lent v) f k.line y1) same_line heard)
             (place ∙ l1_place) (ap (λ (st : StreamSettings). st.response_timeout) settings ∙ l1_time) (λ e. subst (λ o. Keeps k.octets o x.got) (sym (frames_here p fs)) (keeps_open e))
 
         by : (e0 : Bool) → has_ended k.line.stage ≡ e0 → Leads (FromFrames p (length fs) u v b) (returns (one_stream for_one) p (taken (one_stream for_one) p l u.tables) v (k, y))
         by true e = subst (λ (y : View). Leads (FromFrames p (length fs) u v b) (returns (one_stream for_one) p (taken (one_stream for_one) p l u.tables) v (k, y))) (sym (said_more ∙ ap (λ bb. record y1 { more = says bb fs y1 }) e))
-            (leads_as (FrameDone s p f (frames_at p fs) d m v y1.more (has_ended k.line.stage)) (FromFrames p (length fs) u v b) (returns (one_stream for_one) p (taken (one_stream for_one) p l u.tables) v (k, record y1 { more = y1.more }))
+            (leads_as (FrameDone c s p f (frames_at p fs) d m v y1.more (has_ended k.line.stage)) (FromFrames p (length fs) u v b) (returns (one_stream for_one) p (taken (one_stream for_one) p l u.tables) v (k, record y1 { more = y1.more }))
             (result y1.more) (λ t w g. done_so y1.more (has_ended k.line.stage) t w g e (heard.more ∙ calm)))
         by false e = subst (λ (y : View). Leads (FromFrames p (length fs) u v b) (returns (one_stream for_one) p (taken (one_stream for_one) p l u.tables) v (k, y))) (sym (said_more ∙ (ap (λ bb. record y1 { more = says bb fs y1 }) e ∙ ap (λ bb. record y1 { more = bb }) (said_so fs))))
-            (leads_as (FrameDone s p f (frames_at p fs) d m v (nat_lt 0 (length fs)) (has_ended k.line.stage)) (FromFrames p (length fs) u v b) (returns (one_stream for_one) p (taken (one_stream for_one) p l u.tables) v (k, record y1 { more = nat_lt 0 (length fs) }))
+            (leads_as (FrameDone c s p f (frames_at p fs) d m v (nat_lt 0 (length fs)) (has_ended k.line.stage)) (FromFrames p (length fs) u v b) (returns (one_stream for_one) p (taken (one_stream for_one) p l u.tables) v (k, record y1 { more = nat_lt 0 (length fs) }))
             (result (nat_lt 0 (length fs))) (λ t w g. stays_open (nat_lt 0 (length fs)) (has_ended k.line.stage) t w g refl))
           where
             said_so : (fs : List Octets) → says false fs y1 ≡ nat_lt 0 (length fs)
@@ -230,7 +231,7 @@ module _ (c : Conf) (s : ℕ) where
 
   -- An event is told
 
-  module _ (u : Streams) (v : View) (a : Served) (w : What) (t : IsUntold s w u (sight v) a) (fair : IsFair v) (early : AreEarly (desk_of u.tables) (sight v)) (calm : v.more ≡ false) where
+  module _ (u : Streams) (v : View) (a : Served) (w : What) (t : IsUntold c s w u (sight v) a) (fair : IsFair v) (early : AreEarly (desk_of u.tables) (sight v)) (calm : v.more ≡ false) where
     abbrev ud : Desk
     ud = desk_of u.tables
 
@@ -241,10 +242,10 @@ module _ (c : Conf) (s : ℕ) where
     no_frames = frames_at a.place []
 
     abbrev Goal : Streams → View → Type 0
-    Goal x y = Tells (served c) (TiedAs s) names_of owns (Chain (served c) s v.place a) u v (MayLeave w) x y
+    Goal x y = Tells (served c) (TiedAs c s) names_of owns (Chain (served c) s v.place a) u v (MayLeave w) x y
 
-    pub stands0 : Stands nothing_under_way ud u.tables um no_frames v
-    stands0 = subst (λ fs. Stands nothing_under_way ud u.tables um (frames_at a.place fs) v) t.frames (stands_of s u v a t.stream fair)
+    pub stands0 : Stands c nothing_under_way ud u.tables um no_frames v
+    stands0 = subst (λ fs. Stands c nothing_under_way ud u.tables um (frames_at a.place fs) v) t.frames (stands_of c s u v a t.stream fair)
 
     -- it is of nothing here
     pub passes_so : (p : ℕ) → MayLeave w p 0 → IsForeign w um → Goal u v
@@ -253,11 +254,11 @@ module _ (c : Conf) (s : ℕ) where
       left = 0;
       may_be = may;
       more = calm ∙ sym none_more;
-      leaves = nothing_done (served c) s (TiedAs s) names_of owns u v a (Told p 0) fair (record { stream = t.stream; count = ap length t.frames; at = inl refl; row = inl refl; told = (early, subst (λ w. IsForeign w um) (sym t.pending) foreign) });
+      leaves = nothing_done (served c) s (TiedAs c s) names_of owns u v a (Told p 0) fair (record { stream = t.stream; count = ap length t.frames; at = inl refl; row = inl refl; told = (early, subst (λ w. IsForeign w um) (sym t.pending) foreign) });
     }
 
     module _ (other : (p : ℕ) (o : Octets) → w ≢ Bytes p o) where
-      taken_leaves : (r : Server) (y : View) (x : multi.Act) (n : Multi) → Takes v.now um w x n → posts_of x ≡ [] → place_after x v.place ≡ v.place → Went s no_frames nothing_under_way ud n (said v x) r y → Goal (record u { tables = r }) y
+      taken_leaves : (r : Server) (y : View) (x : multi.Act) (n : Multi) → Takes c v.now um w x n → posts_of x ≡ [] → place_after x v.place ≡ v.place → Went c s no_frames nothing_under_way ud n (said v x) r y → Goal (record u { tables = r }) y
       taken_leaves r y x n takes posts place g = record {
         at = 0;
         left = 0;
@@ -266,7 +267,7 @@ module _ (c : Conf) (s : ℕ) where
         leaves = record {
           made = then_act (does (has_taken_it (record a.server { by_stream = n }) a) v.place x) (lift (has_taken_it (record a.server { by_stream = n }) a) g.made);
           may = Goes v.place a (does (has_taken_it (record a.server { by_stream = n }) a) v.place x) (lift (has_taken_it (record a.server { by_stream = n }) a) g.made)
-              (TellsStreams x n t.taken (λ p o e. other p o (sym t.pending ∙ e)) (subst₂ (λ k e. Takes k um e x n) (sym t.stream.clock) (sym t.pending) takes) (ignored s a.pending a.server.by_dgram t.stream.dgram))
+              (TellsStreams x n t.taken (λ p o e. other p o (sym t.pending ∙ e)) (subst₂ (λ k e. Takes c k um e x n) (sym t.stream.clock) (sym t.pending) takes) (ignored c s a.pending a.server.by_dgram t.stream.dgram))
               (subst (λ q. Chain (served c) s q (has_taken_it (record a.server { by_stream = n }) a) (lift (has_taken_it (record a.server { by_stream = n }) a) g.made)) (sym place)
               (runs_chain c s v.now v.place n g.made g.runs (has_taken_it (record a.server { by_stream = n }) a) t.stream.clock refl));
           outs = g.outs ∙ append_assoc v.outs (outs_of x) g.made.outs;
@@ -279,7 +280,7 @@ module _ (c : Conf) (s : ℕ) where
             count = refl;
             at = inl refl;
             row = inl refl;
-            told = (still_early ud (desk_of r) v y fair early on g.owned, nobodys_foreign s Tick g.made.state tt);
+            told = (still_early ud (desk_of r) v y fair early on g.owned, nobodys_foreign c s Tick g.made.state tt);
           };
           goes_on = on;
           owned = g.owned;
@@ -290,13 +291,13 @@ module _ (c : Conf) (s : ℕ) where
           on : GoesOn v y
           on = record { fair = g.on.fair; now = g.on.now; timer = g.on.timer; ticket = g.on.ticket; place = g.on.place; later = g.on.later }
 
-      told_leaves : (r : Server) (y : View) → ToldOf s no_frames w u.tables um v r y → Goal (record u { tables = r }) y
+      told_leaves : (r : Server) (y : View) → ToldOf c s no_frames w u.tables um v r y → Goal (record u { tables = r }) y
       told_leaves r y (Passes foreign same_tables same_view) = subst (λ (y : View). Goal (record u { tables = r }) y) (sym same_view) (subst (λ (r : Server). Goal (record u { tables = r }) v) (sym same_tables) (passes_so 0 (may_zero w other) foreign))
       told_leaves r y (Takes_it x n takes posts place g) = taken_leaves r y x n takes posts place g
 
       pub tells_one : Leads Goal (by_streams.step (told w) u v)
-      tells_one = leads_whole (ToldOf s no_frames w u.tables um v) Goal u (tells (one_stream for_one) u.server u.settings w u.tables v)
-          (subst (λ n. Leads (ToldOf s no_frames w u.tables um v) (tells (one_stream for_one) n u.settings w u.tables v)) (sym t.stream.server)
-          (subst (λ (set : Settings). Leads (ToldOf s no_frames w u.tables um v) (tells (one_stream for_one) s set w u.tables v)) (sym t.stream.settings)
-          (told_so s no_frames u.tables um v stands0 t.quiet (λ q. frames_none s a.place q) w other)))
+      tells_one = leads_whole (ToldOf c s no_frames w u.tables um v) Goal u (tells (one_stream for_one) u.server u.settings w u.tables v)
+          (subst (λ n. Leads (ToldOf c s no_frames w u.tables um v) (tells (one_stream for_one) n u.settings w u.tables v)) (sym t.stream.server)
+          (subst (λ (set : Settings). Leads (ToldOf c s no_frames w u.tables um v) (tells (one_stream for_one) s set w u.tables v)) (sym t.stream.settings)
+          (told_so c s no_frames u.tables um v stands0 t.quiet (λ q. frames_none c s a.place q) u.settings.stream.streaming_response_timeout w other)))
           told_leaves

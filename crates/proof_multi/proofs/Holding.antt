@@ -36,14 +36,15 @@ use Rattle.proof_multi.proofs.Hands.{InHand, hand_of, puts_beside, puts_here, pu
 use Rattle.proof_multi.proofs.Returning.{returns_so}
 use Rattle.proof_multi.proofs.Rooms.{room_found, room_full, full_line}
 use Rattle.proof_multi.proofs.Seated.{is_at, there_at}
+use Rattle.right_trace.specs.Trace.{Conf}
 
 -- the connection that stands at a place
-pub link_at : (d : Desk) (m : Multi) (frames : ℕ → List Octets) (f : ℕ → Option ℕ) (ticket p : ℕ) (c : Link Request) → LinkFits d m frames f ticket p → d.links p ≡ Some c → (x : Conn) × IsLinkAt p (names_at d) c m x (frames p) f ticket
-link_at d m frames f ticket p c (IsNone a b away) is = absurd (let z : None ≡ Some c = sym a ∙ is in cc)
-link_at d m frames f ticket p c (IsSome l x a link) is = (x, subst (λ l. IsLinkAt p (names_at d) l m x (frames p) f ticket) (same_link (d.links p) l c a is) link)
+pub link_at : (conf : Conf) (d : Desk) (m : Multi) (frames : ℕ → List Octets) (f : ℕ → Option ℕ) (ticket p : ℕ) (c : Link Request) → LinkFits conf d m frames f ticket p → d.links p ≡ Some c → (x : Conn) × IsLinkAt conf p (names_at d) c m x (frames p) f ticket
+link_at conf d m frames f ticket p c (IsNone a b away) is = absurd (let z : None ≡ Some c = sym a ∙ is in cc)
+link_at conf d m frames f ticket p c (IsSome l x a link) is = (x, subst (λ l. IsLinkAt conf p (names_at d) l m x (frames p) f ticket) (same_link (d.links p) l c a is) link)
 
-module _ (server : ℕ) (frames : ℕ → List Octets) (t : ℕ) (job : Job Request) (todo : List (ℕ × Phase)) (s : Server) (m : Multi) (v : View)
-    (st : Stands (record { todo = (t, Free) ∷ todo; failed = [] }) (desk_with t (waits_now job) s) s m frames v) (below : t < v.ticket) (once : (phase : Phase) → IsLoose t phase todo → ⊥) (quiet : NoneHeard m) where
+module _ (conf : Conf) (server : ℕ) (frames : ℕ → List Octets) (t : ℕ) (job : Job Request) (todo : List (ℕ × Phase)) (s : Server) (m : Multi) (v : View)
+    (st : Stands conf (record { todo = (t, Free) ∷ todo; failed = [] }) (desk_with t (waits_now job) s) s m frames v) (below : t < v.ticket) (once : (phase : Phase) → IsLoose t phase todo → ⊥) (quiet : NoneHeard m) where
   abbrev y : UnderWay
   y = record { todo = (t, Free) ∷ todo; failed = [] }
 
@@ -53,8 +54,8 @@ module _ (server : ℕ) (frames : ℕ → List Octets) (t : ℕ) (job : Job Requ
   abbrev d : Desk
   d = desk_with t (waits_now job) s
 
-  h : InHand t job Free y s m v
-  h = hand_of frames t job Free todo y s m v refl st
+  h : InHand conf t job Free y s m v
+  h = hand_of conf frames t job Free todo y s m v refl st
 
   abbrev a : Asker
   a = h.its.ask
@@ -76,13 +77,13 @@ module _ (server : ℕ) (frames : ℕ → List Octets) (t : ℕ) (job : Job Requ
 
   -- to the connection c at p
   module _ (p : ℕ) (c : Link Request) (is : entry_at p s.connections ≡ Some c) where
-    found : (x : Conn) × IsLinkAt p (names_at d) c m x (frames p) (dues v) v.ticket
-    found = link_at d m frames (dues v) v.ticket p c (st.server.links p) is
+    found : (x : Conn) × IsLinkAt conf p (names_at d) c m x (frames p) (dues v) v.ticket
+    found = link_at conf d m frames (dues v) v.ticket p c (st.server.links p) is
 
     abbrev x : Conn
     x = found.0
 
-    link : IsLinkAt p (names_at d) c m x (frames p) (dues v) v.ticket
+    link : IsLinkAt conf p (names_at d) c m x (frames p) (dues v) v.ticket
     link = found.1
 
     abbrev job2 : Job Request
@@ -107,10 +108,10 @@ module _ (server : ℕ) (frames : ℕ → List Octets) (t : ℕ) (job : Job Requ
     moved_is : m1.asks k ≡ Some (moved a (Lined p))
     moved_is = with_here k (Some (moved a (Lined p))) m.asks
 
-    fits : JobFits z (desk_of s2) m1 (dues v) t job2
+    fits : JobFits conf z (desk_of s2) m1 (dues v) t job2
     fits = record { ask = moved a (Lined p); is = moved_is; request = h.its.request; octets = h.its.octets; end = h.its.end; over = h.its.over; stage = AtHeld p i0 refl refl (puts_here i0 t s.inner) }
 
-    change : Change t k y z d (desk_of s2) m m1 (dues v) (dues v)
+    change : Change conf t k y z d (desk_of s2) m m1 (dues v) (dues v)
     change = record {
       jobs = λ u ne. puts_beside t job2 (Some (waits_now job)) s.jobs u ne;
       timers = λ i u ne at. (at, refl);
@@ -126,7 +127,7 @@ module _ (server : ℕ) (frames : ℕ → List Octets) (t : ℕ) (job : Job Requ
       own = h.own;
       number = h.number;
       fits = λ j at. (let e : job2 ≡ j = same_job (entry_at t (puts t job2 s.jobs)) job2 j (puts_here t job2 s.jobs) at in
-          (subst (λ j. JobFits z (desk_of s2) m1 (dues v) t j) e fits, sym (ap (λ (j : Job Request). j.number) e)));
+          (subst (λ j. JobFits conf z (desk_of s2) m1 (dues v) t j) e fits, sym (ap (λ (j : Job Request). j.number) e)));
       asked = λ b at. (job2, puts_here t job2 s.jobs);
       own_timers = λ i at. (job2, puts_here t job2 s.jobs, inl (h.ends i at));
       own_inner = λ i at. elim (is_or_was i0 (Some t) (λ j. entry_at j s.inner) i t (sym (at_puts i0 t i s.inner) ∙ at)) [
@@ -140,11 +141,11 @@ module _ (server : ℕ) (frames : ℕ → List Octets) (t : ℕ) (job : Job Requ
       calm = st.server.tables.calm;
     }
 
-    tables1 : AreTables z (desk_of s2) m1 (dues v)
-    tables1 = changed t k y z d (desk_of s2) m m1 frames (dues v) (dues v) v.ticket (v.ticket + 1) st.server.tables change
+    tables1 : AreTables conf z (desk_of s2) m1 (dues v)
+    tables1 = changed conf t k y z d (desk_of s2) m m1 frames (dues v) (dues v) v.ticket (v.ticket + 1) st.server.tables change
 
-    links1 : (q : ℕ) → (p ≡ q → ⊥) → LinkFits (desk_of s2) m1 frames (dues v) (v.ticket + 1) q
-    links1 q ne = kept_link t k y z d (desk_of s2) m m1 frames (dues v) (dues v) v.ticket (v.ticket + 1) st.server.tables change frames q refl refl refl (h.away q)
+    links1 : (q : ℕ) → (p ≡ q → ⊥) → LinkFits conf (desk_of s2) m1 frames (dues v) (v.ticket + 1) q
+    links1 q ne = kept_link conf t k y z d (desk_of s2) m m1 frames (dues v) (dues v) v.ticket (v.ticket + 1) st.server.tables change frames q refl refl refl (h.away q)
         (away_so q (m1.asks k) (moved a (Lined p)) moved_is (λ e. ne e)) (λ l i at own. refl) (up v.ticket) (st.server.links q)
 
     order1 : AreOrderly s2 (record (sight v) { ticket = v.ticket + 1 })
@@ -185,31 +186,31 @@ module _ (server : ℕ) (frames : ℕ → List Octets) (t : ℕ) (job : Job Requ
     abbrev lined : SingleLine
     lined = lined_up a c.line u
 
-    lined_is : IsLineAt p (names_at (desk_of s2)) lined m1 x (dues v) (v.ticket + 1)
-    lined_is = subst (λ names. IsLineAt p names lined m1 x (dues v) (v.ticket + 1)) names_so
-        (line_lined server p c.settings link.timeout (names_at d) m x c.line u link.line fair_u k a h.its.is (h.away p) new alone refl h.its.octets heard)
+    lined_is : IsLineAt conf p (names_at (desk_of s2)) lined m1 x (dues v) (v.ticket + 1)
+    lined_is = subst (λ names. IsLineAt conf p names lined m1 x (dues v) (v.ticket + 1)) names_so
+        (line_lined conf server p c.settings link.timeout (names_at d) m x c.line u link.line fair_u k a h.its.is (h.away p) new alone refl h.its.octets heard)
 
-    pumped_so : Leads (HasPumped server p (with_at i0 (Some k) (names_at d)) m1 x lined (record u { ticket = u.ticket + 1 })) (takes_on for_one for_several p c.settings (Single a.request) c.line u)
-    pumped_so = queues_so server p c.settings link.timeout (names_at d) m x c.line u link.line fair_u k a h.its.is (h.away p) new alone refl h.its.octets heard
+    pumped_so : Leads (HasPumped conf server p (with_at i0 (Some k) (names_at d)) m1 x lined (record u { ticket = u.ticket + 1 })) (takes_on for_one for_several p c.settings (Single a.request) c.line u)
+    pumped_so = queues_so conf server p c.settings link.timeout (names_at d) m x c.line u link.line fair_u k a h.its.is (h.away p) new alone refl h.its.octets heard
 
     -- what it leaves
-    module _ (l : SingleLine) (w : View) (pumped : HasPumped server p (with_at i0 (Some k) (names_at d)) m1 x lined (record u { ticket = u.ticket + 1 }) l w) where
+    module _ (l : SingleLine) (w : View) (pumped : HasPumped conf server p (with_at i0 (Some k) (names_at d)) m1 x lined (record u { ticket = u.ticket + 1 }) l w) where
       abbrev n : Multi
       n = pumped.taken.made.state
 
       abbrev c2 : Link Request
       c2 = record c { line = l }
 
-      line2 : IsLineAt p (names_at (desk_of s2)) l n pumped.taken.conn (dues w) w.ticket
-      line2 = subst (λ names. IsLineAt p names l n pumped.taken.conn (dues w) w.ticket) names_so pumped.taken.line
+      line2 : IsLineAt conf p (names_at (desk_of s2)) l n pumped.taken.conn (dues w) w.ticket
+      line2 = subst (λ names. IsLineAt conf p names l n pumped.taken.conn (dues w) w.ticket) names_so pumped.taken.line
 
-      left : CallLeft p pumped.taken.posts frames s2 c m1 n (record v { board = []; request = k; ticket = v.ticket + 1 }) w c2
+      left : CallLeft conf p pumped.taken.posts frames s2 c m1 n (record v { board = []; request = k; ticket = v.ticket + 1 }) w c2
       left = record {
         aside = pumped.taken.beside.aside;
         going = pumped.taken.beside.going;
         conns = pumped.taken.beside.conns;
-        there = λ i j b named at there. elim (pumped.taken.seats i (is_at p (names_at (desk_of s2)) lined m1 x (dues v) (v.ticket + 1) lined_is i j b named at there)) [
-          | inl f ↦ inl (there_at p (names_at (desk_of s2)) l n pumped.taken.conn (dues w) w.ticket line2 i j named f)
+        there = λ i j b named at there. elim (pumped.taken.seats i (is_at conf p (names_at (desk_of s2)) lined m1 x (dues v) (v.ticket + 1) lined_is i j b named at there)) [
+          | inl f ↦ inl (there_at conf p (names_at (desk_of s2)) l n pumped.taken.conn (dues w) w.ticket line2 i j named f)
           | inr f ↦ inr f
         ];
         failing = subst (λ names. AreFailing names n.asks pumped.taken.posts) names_so pumped.taken.failing;
@@ -217,7 +218,7 @@ module _ (server : ℕ) (frames : ℕ → List Octets) (t : ℕ) (job : Job Requ
         opening = pumped.taken.beside.opening;
         calm = pumped.taken.beside.calm;
         new = inl (
-          is_open (dues w) l.idle_time l.stage (pumped.taken.conn).mode line2.fits.stage,
+          is_open conf (dues w) l.idle_time l.stage (pumped.taken.conn).mode line2.fits.stage,
           pumped.taken.conn,
           record {
             place = link.place;
@@ -237,12 +238,12 @@ module _ (server : ℕ) (frames : ℕ → List Octets) (t : ℕ) (job : Job Requ
           same_conn : (o : Option Conn) (a b : Conn) → o ≡ Some a → o ≡ Some b → a ≡ b
           same_conn o a b e f = let g : Some a ≡ Some b = sym e ∙ f in cc
 
-      returned : Leads (Went server frames z (desk_of s2) m1 v) (returns (one_stream for_one) p (taken (one_stream for_one) p c s2) v (c2, w))
-      returned = returns_so server p pumped.taken.posts frames frames z s2 c m1 n v w k (v.ticket + 1) c2 refl (λ q ne. refl) tables1 links1 st.server.watched order1 st.fair is left
+      returned : Leads (Went conf server frames z (desk_of s2) m1 v) (returns (one_stream for_one) p (taken (one_stream for_one) p c s2) v (c2, w))
+      returned = returns_so conf server p pumped.taken.posts frames frames z s2 c m1 n v w k (v.ticket + 1) c2 refl (λ q ne. refl) tables1 links1 st.server.watched order1 st.fair is left
           m1 v.outs pumped.taken.made refl pumped.taken.runs pumped.taken.nothing pumped.taken.outs (pumped.taken.at_place ∙ sym pumped.taken.place) pumped.taken.more (up v.ticket) quiet_left pumped.taken.put
 
     -- the move by which it joins comes before
-    joined : (r : Server) (w : View) → Went server frames z (desk_of s2) m1 v r w → Went server frames z d m v r w
+    joined : (r : Server) (w : View) → Went conf server frames z (desk_of s2) m1 v r w → Went conf server frames z d m v r w
     joined r w b = record {
       made = then_act (made_by v.place Nothing m1) b.made;
       runs = Runs_on v.place m Nothing m1 b.made (Joins k a p x h.its.is h.phase link.line.conn) b.runs;
@@ -259,28 +260,28 @@ module _ (server : ℕ) (frames : ℕ → List Octets) (t : ℕ) (job : Job Requ
       quiet = b.quiet;
     }
 
-    pub holds_so : Leads (Went server frames z d m v) (holds (one_stream for_one) t job p c (taken (one_stream for_one) p c s) v)
-    holds_so = leads_as (Went server frames z (desk_of s2) m1 v) (Went server frames z d m v) (holds (one_stream for_one) t job p c (taken (one_stream for_one) p c s) v)
+    pub holds_so : Leads (Went conf server frames z d m v) (holds (one_stream for_one) t job p c (taken (one_stream for_one) p c s) v)
+    holds_so = leads_as (Went conf server frames z (desk_of s2) m1 v) (Went conf server frames z d m v) (holds (one_stream for_one) t job p c (taken (one_stream for_one) p c s) v)
         (by (takes_on for_one for_several p c.settings (Single a.request) c.line u) refl pumped_so) joined
       where
         same_call : takes_on for_one for_several p c.settings (Single a.request) c.line u ≡ takes_on for_one for_several c.place c.settings (Single job.request) c.line u
         same_call = ap₂ (λ q r. takes_on for_one for_several q c.settings (Single r) c.line u) (sym link.place) (sym h.its.request)
 
-        by : (o : Option (SingleLine × View)) → takes_on for_one for_several p c.settings (Single a.request) c.line u ≡ o → Leads (HasPumped server p (with_at i0 (Some k) (names_at d)) m1 x lined (record u { ticket = u.ticket + 1 })) o
-            → Leads (Went server frames z (desk_of s2) m1 v) (holds (one_stream for_one) t job p c (taken (one_stream for_one) p c s) v)
-        by None e l = subst (λ (o : Option (SingleLine × View)). Leads (Went server frames z (desk_of s2) m1 v) (option_and_then (returns (one_stream for_one) p (taken (one_stream for_one) p c s2) v) (option_and_then (λ y. Some (record c { line = y.0 }, y.1)) o))) (sym e ∙ same_call) tt
-        by (Some y) e l = subst (λ (o : Option (SingleLine × View)). Leads (Went server frames z (desk_of s2) m1 v) (option_and_then (returns (one_stream for_one) p (taken (one_stream for_one) p c s2) v) (option_and_then (λ y. Some (record c { line = y.0 }, y.1)) o))) (sym e ∙ same_call) (returned y.0 y.1 l)
+        by : (o : Option (SingleLine × View)) → takes_on for_one for_several p c.settings (Single a.request) c.line u ≡ o → Leads (HasPumped conf server p (with_at i0 (Some k) (names_at d)) m1 x lined (record u { ticket = u.ticket + 1 })) o
+            → Leads (Went conf server frames z (desk_of s2) m1 v) (holds (one_stream for_one) t job p c (taken (one_stream for_one) p c s) v)
+        by None e l = subst (λ (o : Option (SingleLine × View)). Leads (Went conf server frames z (desk_of s2) m1 v) (option_and_then (returns (one_stream for_one) p (taken (one_stream for_one) p c s2) v) (option_and_then (λ y. Some (record c { line = y.0 }, y.1)) o))) (sym e ∙ same_call) tt
+        by (Some y) e l = subst (λ (o : Option (SingleLine × View)). Leads (Went conf server frames z (desk_of s2) m1 v) (option_and_then (returns (one_stream for_one) p (taken (one_stream for_one) p c s2) v) (option_and_then (λ y. Some (record c { line = y.0 }, y.1)) o))) (sym e ∙ same_call) (returned y.0 y.1 l)
 
   full : with_room (one_stream for_one) s.connections ≡ None → (p : ℕ) (x : Conn) → m.conns p ≡ Some x → IsFull x
   full none p x at = by (st.server.links p)
     where
-      by : LinkFits d m frames (dues v) v.ticket p → IsFull x
+      by : LinkFits conf d m frames (dues v) v.ticket p → IsFull x
       by (IsNone b conns away) = absurd (let q : None ≡ Some x = sym conns ∙ at in cc)
-      by (IsSome l b is link) = subst IsFull (let q : Some b ≡ Some x = sym link.line.conn ∙ at in let e : b ≡ x = cc in e) (full_line p (names_at d) l.line m b (dues v) v.ticket link.line (room_full s.connections none p l is))
+      by (IsSome l b is link) = subst IsFull (let q : Some b ≡ Some x = sym link.line.conn ∙ at in let e : b ≡ x = cc in e) (full_line conf p (names_at d) l.line m b (dues v) v.ticket link.line (room_full s.connections none p l is))
 
-  pub hands_so : Leads (Went server frames z d m v) (hands (one_stream for_one) server t job s v)
+  pub hands_so : Leads (Went conf server frames z d m v) (hands (one_stream for_one) server t job s v)
   hands_so = by (with_room (one_stream for_one) s.connections) refl
     where
-      by : (o : Option (ℕ × Link Request)) → with_room (one_stream for_one) s.connections ≡ o → Leads (Went server frames z d m v) (hands_at (one_stream for_one) server t job (without_found (one_stream for_one) o s) v o)
-      by None e = goes_on_so server frames t job todo [] s m v st below once (full e)
+      by : (o : Option (ℕ × Link Request)) → with_room (one_stream for_one) s.connections ≡ o → Leads (Went conf server frames z d m v) (hands_at (one_stream for_one) server t job (without_found (one_stream for_one) o s) v o)
+      by None e = goes_on_so conf server frames t job todo [] s m v st below once (full e)
       by (Some q) e = holds_so q.0 q.1 (room_found s.connections q e)

@@ -39,27 +39,28 @@ use Rattle.proof_multi.proofs.Hands.{same_job}
 use Rattle.proof_multi.proofs.Holding.{link_at}
 use Rattle.proof_multi.proofs.Seated.{is_at}
 use Rattle.proof_multi.proofs.Waitings.{without, listed_without, without_listed, rises_without}
+use Rattle.right_trace.specs.Trace.{Conf}
 
 -- what is left where request k of ticket t is no more: v is seen once its end's timer was taken out
-pub record Dropped (t k : ℕ) (frames : ℕ → List Octets) (d : Desk) (m : Multi) (v : View) (r : Server) (w : View) : Type 0 where
+pub record Dropped (c : Conf) (t k : ℕ) (frames : ℕ → List Octets) (d : Desk) (m : Multi) (v : View) (r : Server) (w : View) : Type 0 where
   pub outs : w.outs ≡ v.outs
   pub board : w.board ≡ v.board
   pub place : w.place ≡ v.place
   pub more : w.more ≡ v.more
-  pub stands : Stands nothing_under_way (desk_of r) r (drop k m) frames w
+  pub stands : Stands c nothing_under_way (desk_of r) r (drop k m) frames w
   pub on : GoesOn v w
   pub owned : (i : ℕ) → Owns (desk_of r) i → Owns d i
   pub others : (i due : ℕ) → (Owns d i → ⊥) → dues v i ≡ Some due → dues w i ≡ Some due
   pub named : (u : ℕ) → numbers (desk_of r) u ≡ with_at t None (numbers d) u
 
-module _ (server : ℕ) (frames : ℕ → List Octets) (s : Server) (m : Multi) (v0 : View) (st : Stands nothing_under_way (desk_of s) s m frames v0) (t : ℕ) (job : Job Request) (is : entry_at t s.jobs ≡ Some job) where
+module _ (c : Conf) (server : ℕ) (frames : ℕ → List Octets) (s : Server) (m : Multi) (v0 : View) (st : Stands c nothing_under_way (desk_of s) s m frames v0) (t : ℕ) (job : Job Request) (is : entry_at t s.jobs ≡ Some job) where
   abbrev d : Desk
   d = desk_of s
 
   abbrev k : ℕ
   k = job.number
 
-  its : JobFits nothing_under_way d m (dues v0) t job
+  its : JobFits c nothing_under_way d m (dues v0) t job
   its = st.server.tables.jobs t job is
 
   -- the view, and the tables, without the timer of its end
@@ -106,7 +107,7 @@ module _ (server : ℕ) (frames : ℕ → List Octets) (s : Server) (m : Multi) 
     abbrev to : Server
     to = record s { jobs = frees t s.jobs; timers = timers; inner = inner; waiting = waiting }
 
-    change : Change t k nothing_under_way nothing_under_way d (desk_of to) m n (dues v0) (dues w)
+    change : Change c t k nothing_under_way nothing_under_way d (desk_of to) m n (dues v0) (dues w)
     change = record {
       jobs = jobs_beside;
       timers = timers_on;
@@ -132,11 +133,11 @@ module _ (server : ℕ) (frames : ℕ → List Octets) (s : Server) (m : Multi) 
       calm = st.server.tables.calm;
     }
 
-    tables_so : AreTables nothing_under_way (desk_of to) n (dues w)
-    tables_so = changed t k nothing_under_way nothing_under_way d (desk_of to) m n frames (dues v0) (dues w) v0.ticket v0.ticket st.server.tables change
+    tables_so : AreTables c nothing_under_way (desk_of to) n (dues w)
+    tables_so = changed c t k nothing_under_way nothing_under_way d (desk_of to) m n frames (dues v0) (dues w) v0.ticket v0.ticket st.server.tables change
 
-    link_so : (p : ℕ) → IsAway p (m.asks k) → ((l : Link Request) (i : ℕ) → entry_at p s.connections ≡ Some l → timer_of l.line.stage ≡ Some i → dues w i ≡ dues v0 i) → LinkFits (desk_of to) n frames (dues w) v0.ticket p
-    link_so p away due = kept_link t k nothing_under_way nothing_under_way d (desk_of to) m n frames (dues v0) (dues w) v0.ticket v0.ticket st.server.tables change frames p refl refl refl away (away_none p (n.asks k) gone) due (le_refl v0.ticket) (st.server.links p)
+    link_so : (p : ℕ) → IsAway p (m.asks k) → ((l : Link Request) (i : ℕ) → entry_at p s.connections ≡ Some l → timer_of l.line.stage ≡ Some i → dues w i ≡ dues v0 i) → LinkFits c (desk_of to) n frames (dues w) v0.ticket p
+    link_so p away due = kept_link c t k nothing_under_way nothing_under_way d (desk_of to) m n frames (dues v0) (dues w) v0.ticket v0.ticket st.server.tables change frames p refl refl refl away (away_none p (n.asks k) gone) due (le_refl v0.ticket) (st.server.links p)
 
     watched_so : (p : ℕ) (l : Link Request) (i : ℕ) → entry_at p s.connections ≡ Some l → timer_of l.line.stage ≡ Some i → (entry_at i s.watches ≡ Some p) × (entry_at i timers ≡ None)
     watched_so p l i at own = (let b = st.server.watched p l i at own in (b.0, by (entry_at i timers) refl b.1))
@@ -147,10 +148,10 @@ module _ (server : ℕ) (frames : ℕ → List Octets) (s : Server) (m : Multi) 
 
     -- the name of another stays, and names are apart
     other_names : (i j : ℕ) → (k ≡ j → ⊥) → names_at d i ≡ Some j → names_at (desk_of to) i ≡ Some j
-    other_names = name_stays t k nothing_under_way nothing_under_way d (desk_of to) m n frames (dues v0) (dues w) v0.ticket v0.ticket st.server.tables change
+    other_names = name_stays c t k nothing_under_way nothing_under_way d (desk_of to) m n frames (dues v0) (dues w) v0.ticket v0.ticket st.server.tables change
 
     names_apart_so : (i j l : ℕ) → names_at (desk_of to) i ≡ Some l → names_at (desk_of to) j ≡ Some l → i ≡ j
-    names_apart_so = apart_now t k nothing_under_way nothing_under_way d (desk_of to) m n frames (dues v0) (dues w) v0.ticket v0.ticket st.server.tables change
+    names_apart_so = apart_now c t k nothing_under_way nothing_under_way d (desk_of to) m n frames (dues v0) (dues w) v0.ticket v0.ticket st.server.tables change
 
   -- without the timer of its end alone
   ends_on : (i u : ℕ) → (t ≡ u → ⊥) → entry_at i s.timers ≡ Some u → (entry_at i (frees job.end s.timers) ≡ Some u) × (dues v i ≡ dues v0 i)
@@ -187,7 +188,7 @@ module _ (server : ℕ) (frames : ℕ → List Octets) (s : Server) (m : Multi) 
   away_by p ne = away_so p (m.asks k) its.ask its.is ne
 
   -- It waits
-  waits_left : job.stage ≡ Waiting → its.ask.phase ≡ Expecting → Dropped t k frames d m v (record after { waiting = without t s.waiting }) v
+  waits_left : job.stage ≡ Waiting → its.ask.phase ≡ Expecting → Dropped c t k frames d m v (record after { waiting = without t s.waiting }) v
   waits_left e phase = record {
     outs = refl;
     board = refl;
@@ -247,7 +248,7 @@ module _ (server : ℕ) (frames : ℕ → List Octets) (s : Server) (m : Multi) 
     rest_dues : (p : ℕ) (l : Link Request) (i : ℕ) → entry_at p s.connections ≡ Some l → timer_of l.line.stage ≡ Some i → dues w i ≡ dues v0 i
     rest_dues p l i at mine = dues_without v i0 i fair_v ∙ (with_there i0 None (dues v) i (not_link p l i at mine i0 t own) ∙ link_dues p l i at mine)
 
-    rests_left : Dropped t k frames d m v (record after { timers = both }) w
+    rests_left : Dropped c t k frames d m v (record after { timers = both }) w
     rests_left = record {
       outs = refl;
       board = refl;
@@ -270,8 +271,8 @@ module _ (server : ℕ) (frames : ℕ → List Octets) (s : Server) (m : Multi) 
 
   -- It is at a connection
   module _ (p i0 : ℕ) (e : job.stage ≡ Held p (under i0)) (there : IsThere p its.ask.phase) (own : entry_at i0 s.inner ≡ Some t) (l : Link Request) (at_p : entry_at p s.connections ≡ Some l) where
-    found : (x : Conn) × IsLinkAt p (names_at d) l m x (frames p) (dues v0) v0.ticket
-    found = link_at d m frames (dues v0) v0.ticket p l (st.server.links p) at_p
+    found : (x : Conn) × IsLinkAt c p (names_at d) l m x (frames p) (dues v0) v0.ticket
+    found = link_at c d m frames (dues v0) v0.ticket p l (st.server.links p) at_p
 
     abbrev x : Conn
     x = found.0
@@ -296,10 +297,10 @@ module _ (server : ℕ) (frames : ℕ → List Octets) (s : Server) (m : Multi) 
     waits_held : (u : ℕ) → IsListed u s.waiting → IsListed u s.waiting × (t ≡ u → ⊥)
     waits_held = none_waits (λ q. let z : Held p (under i0) ≡ Waiting = sym e ∙ q in cc)
 
-    tables2 : AreTables nothing_under_way (desk_of s2) n (dues v)
+    tables2 : AreTables c nothing_under_way (desk_of s2) n (dues v)
     tables2 = tables_so (frees job.end s.timers) less_inner s.waiting v ends_on back inner_on inner_back (λ u ne l. l) waits_held
 
-    links2 : (q : ℕ) → (p ≡ q → ⊥) → LinkFits (desk_of s2) n frames (dues v) v0.ticket q
+    links2 : (q : ℕ) → (p ≡ q → ⊥) → LinkFits c (desk_of s2) n frames (dues v) v0.ticket q
     links2 q ne = link_so (frees job.end s.timers) less_inner s.waiting v ends_on back inner_on inner_back (λ u ne l. l) waits_held q (away_by q (λ h. ne (one_place p q its.ask.phase there h))) (link_dues q)
 
     watched2 : (q : ℕ) (l : Link Request) (i : ℕ) → entry_at q s.connections ≡ Some l → timer_of l.line.stage ≡ Some i → (entry_at i s.watches ≡ Some q) × (entry_at i (frees job.end s.timers) ≡ None)
@@ -312,7 +313,7 @@ module _ (server : ℕ) (frames : ℕ → List Octets) (s : Server) (m : Multi) 
     named = name_is d i0 t job own is
 
     seat : IsAt l.line i0
-    seat = is_at p (names_at d) l.line m x (dues v0) v0.ticket found.1.line i0 k its.ask named its.is there
+    seat = is_at c p (names_at d) l.line m x (dues v0) v0.ticket found.1.line i0 k its.ask named its.is there
 
     either : ((w : Queued Request Request) × (entry_at i0 l.line.queue ≡ Some w)) ⊎ ((entry_at i0 l.line.queue ≡ None) × (id : ℕ) × (entry_at i0 l.line.ids ≡ Some id))
     either = by (entry_at i0 l.line.queue) refl seat
@@ -325,9 +326,9 @@ module _ (server : ℕ) (frames : ℕ → List Octets) (s : Server) (m : Multi) 
     abbrev l2 : Link Request
     l2 = record l { line = gives_up i0 l.line }
 
-    line2 : IsLineAt p (names_at (desk_of s2)) (gives_up i0 l.line) n x (dues v) v0.ticket
-    line2 = line_stays p (gives_up i0 l.line) (names_at d) (names_at (desk_of s2)) n n x (dues v0) (dues v) v0.ticket v0.ticket
-        (gives_up_so p (names_at d) m x l.line v0 found.1.line i0 k named either) refl (λ j. inl refl)
+    line2 : IsLineAt c p (names_at (desk_of s2)) (gives_up i0 l.line) n x (dues v) v0.ticket
+    line2 = line_stays c p (gives_up i0 l.line) (names_at d) (names_at (desk_of s2)) n n x (dues v0) (dues v) v0.ticket v0.ticket
+        (gives_up_so c p (names_at d) m x l.line v0 found.1.line i0 k named either) refl (λ j. inl refl)
         (λ i j a nm at th. other_names (frees job.end s.timers) less_inner s.waiting v ends_on back inner_on inner_back (λ u ne l. l) waits_held i j (λ q. let z : None ≡ Some a = sym gone ∙ (ap n.asks q ∙ at) in cc) nm)
         (names_apart_so (frees job.end s.timers) less_inner s.waiting v ends_on back inner_on inner_back (λ u ne l. l) waits_held)
         (λ i mine. link_dues p l i at_p (sym (ap timer_of (same_stage l.line)) ∙ mine)) (le_refl v0.ticket)
@@ -348,7 +349,7 @@ module _ (server : ℕ) (frames : ℕ → List Octets) (s : Server) (m : Multi) 
         by false q None = found.1.settled
         by false q (Some id) = found.1.settled
 
-    left : CallLeft p [] frames s2 l n n (record v { board = []; request = v.request; ticket = v.ticket }) (lent v) l2
+    left : CallLeft c p [] frames s2 l n n (record v { board = []; request = v.request; ticket = v.ticket }) (lent v) l2
     left = record {
       aside = λ j away. refl;
       going = λ j a at. (a.phase, at);
@@ -358,7 +359,7 @@ module _ (server : ℕ) (frames : ℕ → List Octets) (s : Server) (m : Multi) 
       timed = subst (λ st. IsTimed l.line.stage st (lent v) (lent v)) (sym same_stage) (timed_same l.line.stage (lent v) (record { order = fair_v.order; words = fair_v.words }));
       opening = refl;
       calm = refl;
-      new = inl (is_open (dues v) l2.line.idle_time l2.line.stage x.mode line2.fits.stage, x, record { place = found.1.place; timeout = found.1.timeout; line = line2; settled = settled; keeps = found.1.keeps });
+      new = inl (is_open c (dues v) l2.line.idle_time l2.line.stage x.mode line2.fits.stage, x, record { place = found.1.place; timeout = found.1.timeout; line = line2; settled = settled; keeps = found.1.keeps });
     }
       where
         same_stage : (gives_up i0 l.line).stage ≡ l.line.stage
@@ -372,19 +373,19 @@ module _ (server : ℕ) (frames : ℕ → List Octets) (s : Server) (m : Multi) 
     abbrev r : Server
     r = with_connection (one_stream for_one) p l2 (taken (one_stream for_one) p l s2)
 
-    went : (x : Went server frames nothing_under_way (desk_of s2) n v r (taken_back v (lent v))) × (x.made ≡ still v.place n)
-    went = call_so server p [] frames frames nothing_under_way s2 l n n v (lent v) v.request v.ticket l2 refl (λ q ne. refl) tables2 links2 watched2 order2 fair_v
+    went : (x : Went c server frames nothing_under_way (desk_of s2) n v r (taken_back v (lent v))) × (x.made ≡ still v.place n)
+    went = call_so c server p [] frames frames nothing_under_way s2 l n n v (lent v) v.request v.ticket l2 refl (λ q ne. refl) tables2 links2 watched2 order2 fair_v
         at_p left n v.outs (still v.place n) refl (Rests v.place n) refl (sym (append-nil v.outs)) refl refl (le_refl v.ticket) (λ q. q)
 
-    stands : Stands nothing_under_way (desk_of r) r n frames v
-    stands = subst (λ (a : Act Multi). Stands nothing_under_way (desk_of r) r a.state frames v) went.1 went.0.stands
+    stands : Stands c nothing_under_way (desk_of r) r n frames v
+    stands = subst (λ (a : Act Multi). Stands c nothing_under_way (desk_of r) r a.state frames v) went.1 went.0.stands
 
     owns : (i : ℕ) → Owns (desk_of s2) i → Owns d i
     owns i (inl o) = inl (o.0, (back i o.0 o.1).0)
     owns i (inr o) = inr o
 
-    held_left : Leads (Dropped t k frames d m v) (calls_at (one_stream for_one) p ((one_stream for_one).calls.cancel (under i0)) s2 v)
-    held_left = subst (λ (o : Option (Link Request)). Leads (Dropped t k frames d m v) (calls (one_stream for_one) p ((one_stream for_one).calls.cancel (under i0)) s2 v o)) (sym at_p) (record {
+    held_left : Leads (Dropped c t k frames d m v) (calls_at (one_stream for_one) p ((one_stream for_one).calls.cancel (under i0)) s2 v)
+    held_left = subst (λ (o : Option (Link Request)). Leads (Dropped c t k frames d m v) (calls (one_stream for_one) p ((one_stream for_one).calls.cancel (under i0)) s2 v o)) (sym at_p) (record {
       outs = refl;
       board = refl;
       place = refl;
@@ -393,22 +394,22 @@ module _ (server : ℕ) (frames : ℕ → List Octets) (s : Server) (m : Multi) 
       on = goes_nowhere v fair_v;
       owned = λ i o. elim (went.0.owned i o) [
         | inl q ↦ owns i q
-        | inr le ↦ (let set = owned_set nothing_under_way (desk_of r) n frames (dues v) v.ticket stands.server i o in absurd (let z : None ≡ Some set.0 = sym (none_next v i fair_v le) ∙ set.1 in cc))
+        | inr le ↦ (let set = owned_set c nothing_under_way (desk_of r) n frames (dues v) v.ticket stands.server i o in absurd (let z : None ≡ Some set.0 = sym (none_next v i fair_v le) ∙ set.1 in cc))
       ];
       others = λ i due free at. at;
       named = λ u. went.0.named u ∙ named_so u;
     })
 
-  pub leaves_so : Leads (Dropped t k frames d m v) (leaves (one_stream for_one) t job.stage after v)
+  pub leaves_so : Leads (Dropped c t k frames d m v) (leaves (one_stream for_one) t job.stage after v)
   leaves_so = by job.stage its.ask.phase refl refl its.stage
     where
-      at_held : (p i : ℕ) → job.stage ≡ Held p (under i) → IsThere p its.ask.phase → entry_at i s.inner ≡ Some t → LinkFits d m frames (dues v0) v0.ticket p → Leads (Dropped t k frames d m v) (leaves (one_stream for_one) t (Held p (under i)) after v)
+      at_held : (p i : ℕ) → job.stage ≡ Held p (under i) → IsThere p its.ask.phase → entry_at i s.inner ≡ Some t → LinkFits c d m frames (dues v0) v0.ticket p → Leads (Dropped c t k frames d m v) (leaves (one_stream for_one) t (Held p (under i)) after v)
       at_held p i e th own (IsNone a b away) = absurd (not_both p (m.asks k) its.ask its.is (away k) th)
       at_held p i e th own (IsSome l x at link) = held_left p i e th own l at
 
-      by : (at : Stage) (phase : Phase) → job.stage ≡ at → its.ask.phase ≡ phase → StageFits nothing_under_way d (dues v0) t at phase → Leads (Dropped t k frames d m v) (leaves (one_stream for_one) t at after v)
-      by at phase e f (AtWaiting a b l) = subst (λ at. Leads (Dropped t k frames d m v) (leaves (one_stream for_one) t at after v)) (sym a) (waits_left (e ∙ a) (f ∙ b))
-      by at phase e f (AtResting i until a b own h) = subst (λ at. Leads (Dropped t k frames d m v) (leaves (one_stream for_one) t at after v)) (sym a) (rests_left i until (e ∙ a) (f ∙ b) own)
-      by at phase e f (AtHeld p i a b own) = subst (λ at. Leads (Dropped t k frames d m v) (leaves (one_stream for_one) t at after v)) (sym a) (at_held p i (e ∙ a) (subst (IsThere p) (sym f) b) own (st.server.links p))
+      by : (at : Stage) (phase : Phase) → job.stage ≡ at → its.ask.phase ≡ phase → StageFits nothing_under_way d (dues v0) t at phase → Leads (Dropped c t k frames d m v) (leaves (one_stream for_one) t at after v)
+      by at phase e f (AtWaiting a b l) = subst (λ at. Leads (Dropped c t k frames d m v) (leaves (one_stream for_one) t at after v)) (sym a) (waits_left (e ∙ a) (f ∙ b))
+      by at phase e f (AtResting i until a b own h) = subst (λ at. Leads (Dropped c t k frames d m v) (leaves (one_stream for_one) t at after v)) (sym a) (rests_left i until (e ∙ a) (f ∙ b) own)
+      by at phase e f (AtHeld p i a b own) = subst (λ at. Leads (Dropped c t k frames d m v) (leaves (one_stream for_one) t at after v)) (sym a) (at_held p i (e ∙ a) (subst (IsThere p) (sym f) b) own (st.server.links p))
       by at phase e f (HasFailed p i a b own h) = absurd h
       by at phase e f (IsToHand l w h) = absurd l

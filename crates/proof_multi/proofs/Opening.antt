@@ -9,6 +9,7 @@ use Rattle.proof_right.specs.machine.Streams.{Phase, Free, Expecting, Lined, Hol
 use Rattle.proof_parts.specs.Seats.{IsAway}
 use Rattle.proof_multi.specs.Servers.{Desk, names_at, UnderWay, nothing_under_way, IsListed, IsLoose, IsThere, under, StageFits, AtWaiting, AtResting, AtHeld, HasFailed, IsToHand, LinkFits, IsNone, IsSome, AreTables}
 use Rattle.proof_multi.proofs.Desks.{StaysThere, away_so, link_stays, names_apart}
+use Rattle.right_trace.specs.Trace.{Conf}
 
 -- those who are to be handed on, all in one phase
 abbrev pub all_as : Phase → List ℕ → List (ℕ × Phase)
@@ -36,7 +37,7 @@ there_still to p (Holding q id) t = t
 abbrev pub IsNowhere : Phase → Type 0
 IsNowhere phase = (q : ℕ) → IsThere q phase → ⊥
 
-module _ (to : Phase) (loose : (to ≡ Free) ⊎ (to ≡ Broken)) where
+module _ (c : Conf) (to : Phase) (loose : (to ≡ Free) ⊎ (to ≡ Broken)) where
   nowhere : IsNowhere to
   nowhere q t = elim loose [ inl e ↦ subst (IsThere q) e t | inr e ↦ subst (IsThere q) e t ]
 
@@ -58,7 +59,7 @@ module _ (to : Phase) (loose : (to ≡ Free) ⊎ (to ≡ Broken)) where
   pub away_still : (q : ℕ) (o : Option Asker) → IsAway q o → IsAway q (every (expected to) o)
   away_still q o away = elim (stays_so q o) [ inl e ↦ subst (IsAway q) (sym e) away | inr h ↦ h.1 ]
 
-  module _ (d e : Desk) (m n : Multi) (frames : ℕ → List Octets) (f g : ℕ → Option ℕ) (ticket : ℕ) (s : AreTables nothing_under_way d m f)
+  module _ (d e : Desk) (m n : Multi) (frames : ℕ → List Octets) (f g : ℕ → Option ℕ) (ticket : ℕ) (s : AreTables c nothing_under_way d m f)
       (jobs : e.jobs ≡ d.jobs) (timers : e.timers ≡ d.timers) (inner : e.inner ≡ d.inner) (waiting : e.waiting ≡ []) (asks : (k : ℕ) → n.asks k ≡ every (expected to) (m.asks k)) (same_dues : (i : ℕ) → g i ≡ f i)
       (opening : e.opening ≡ n.opening) (calm : e.calm ≤ n.calm) where
     abbrev z : UnderWay
@@ -88,10 +89,10 @@ module _ (to : Phase) (loose : (to ≡ Free) ⊎ (to ≡ Broken)) where
     asks_stay : (q k : ℕ) → StaysThere q (m.asks k) (n.asks k)
     asks_stay q k = subst (StaysThere q (m.asks k)) (sym (asks k)) (stays_so q (m.asks k))
 
-    pub kept_open : (q : ℕ) → e.links q ≡ d.links q → n.conns q ≡ m.conns q → LinkFits d m frames f ticket q → LinkFits e n frames g ticket q
+    pub kept_open : (q : ℕ) → e.links q ≡ d.links q → n.conns q ≡ m.conns q → LinkFits c d m frames f ticket q → LinkFits c e n frames g ticket q
     kept_open q links conns (IsNone a b away) = IsNone (links ∙ a) (conns ∙ b) (λ k. subst (IsAway q) (sym (asks k)) (away_still q (m.asks k) (away k)))
     kept_open q links conns (IsSome l x a link) = IsSome l x (links ∙ a)
-        (link_stays q l (names_at d) (names_at e) m n x (frames q) f g ticket ticket link conns (asks_stay q) (λ i j b nm is there. ap (λ (f : ℕ → Option ℕ). f i) same_names ∙ nm) (names_apart e apart has_inner) (λ i own. same_dues i) (le_refl ticket))
+        (link_stays c q l (names_at d) (names_at e) m n x (frames q) f g ticket ticket link conns (asks_stay q) (λ i j b nm is there. ap (λ (f : ℕ → Option ℕ). f i) same_names ∙ nm) (names_apart e apart has_inner) (λ i own. same_dues i) (le_refl ticket))
 
     stage : (t : ℕ) (at : Stage) (phase : Phase) → StageFits nothing_under_way d f t at phase → StageFits z e g t at (expected to phase)
     stage t at phase (AtWaiting x b l) = subst (StageFits z e g t at) (sym (ap (expected to) b)) (IsToHand (loose_as t to d.waiting l) x loose)
@@ -100,7 +101,7 @@ module _ (to : Phase) (loose : (to ≡ Free) ⊎ (to ≡ Broken)) where
     stage t at phase (HasFailed p i x b o h) = absurd h
     stage t at phase (IsToHand l w h) = absurd l
 
-    pub opens_so : AreTables z e n g
+    pub opens_so : AreTables c z e n g
     opens_so = record {
       jobs = λ t job is. (let j = s.jobs t job (old_job t job is) in record {
         ask = moved j.ask (expected to j.ask.phase);

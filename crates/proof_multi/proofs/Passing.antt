@@ -28,7 +28,7 @@ leads_on P Q None l f = tt
 leads_on P Q (Some y) l f = f y.0 y.1 l
 
 module _ (c : Conf) (s : ℕ) where
-  module _ (w : What) (u : Streams) (v : View) (a : Served) (open_now : IsOpen (Passed w) v.place) (t : IsPassed s w u (sight v) a) (fair : IsFair v) where
+  module _ (w : What) (u : Streams) (v : View) (a : Served) (open_now : IsOpen (Passed w) v.place) (t : IsPassed c s w u (sight v) a) (fair : IsFair v) where
     -- a place that it has now is none of the event
     still_apart : (d : Act Served) → Opens has_place v.place a d → (p : ℕ) → place_in w ≡ Some p → has_place d.state p ≡ false
     still_apart d o p at = by (has_place d.state p) refl
@@ -41,7 +41,7 @@ module _ (c : Conf) (s : ℕ) where
         by true e = absurd (elim (o.1 p e) [ inl was ↦ (let z : false ≡ true = sym (t.apart p at) ∙ was in cc) | inr new ↦ no_such v.place p new.0 (open_now p at) ])
 
     passed_still : (May : Act Served → Type 0) (named : ℕ → Option ℕ) → ((d : Act Served) → May d → Opens has_place v.place a d)
-        → (x : Streams) (y : View) → Leaves (served c) (TiedAs s) names_of owns May named u v (Untold w) x y → Leaves (served c) (TiedAs s) names_of owns May named u v (Passed w) x y
+        → (x : Streams) (y : View) → Leaves (served c) (TiedAs c s) names_of owns May named u v (Untold w) x y → Leaves (served c) (TiedAs c s) names_of owns May named u v (Passed w) x y
     passed_still May named opens x y l = record {
       made = l.made;
       may = l.may;
@@ -66,13 +66,13 @@ module _ (c : Conf) (s : ℕ) where
   MayStart v a r d = Begins (Starts c s v.place v.request r a) (Chain (served c) s) d
 
   abbrev HasStarted : Phase → Streams → View → Served → Request → Streams → View → Type 0
-  HasStarted phase u v a r x y = Leaves (served c) (TiedAs s) names_of owns (MayStart v a r) (with_at v.ticket (Some v.request) (names_of u)) u v phase x y
+  HasStarted phase u v a r x y = Leaves (served c) (TiedAs c s) names_of owns (MayStart v a r) (with_at v.ticket (Some v.request) (names_of u)) u v phase x y
 
   abbrev MayCancel : View → Served → (k : ℕ) → Act Served → Type 0
   MayCancel v a k d = Begins (Cancels s v.place k a) (Chain (served c) s) d × (d.posts ≡ [])
 
   abbrev HasCancelled : Phase → Streams → View → Served → (k ticket : ℕ) → Streams → View → Type 0
-  HasCancelled phase u v a k ticket x y = Leaves (served c) (TiedAs s) names_of owns (MayCancel v a k) (with_at ticket None (names_of u)) u v phase x y
+  HasCancelled phase u v a k ticket x y = Leaves (served c) (TiedAs c s) names_of owns (MayCancel v a k) (with_at ticket None (names_of u)) u v phase x y
 
   start_opens : (v : View) (a : Served) (r : Request) (d : Act Served) → MayStart v a r d → Opens has_place v.place a d
   start_opens v a r d may = begun_opens (served c) has_place (servers_open_next c) s (Starts c s v.place v.request r a) v.place a (λ d call. (servers_open_next c).starts s v.place v.request r a d call) d may
@@ -81,7 +81,7 @@ module _ (c : Conf) (s : ℕ) where
   cancel_opens v a k d may = begun_opens (served c) has_place (servers_open_next c) s (Cancels s v.place k a) v.place a (λ d call. (servers_open_next c).cancels s v.place k a d call) d may.0
 
   -- in each open phase
-  pub takes_on : use_at s c.servers ≡ Some ByStreams → (phase : Phase) (u : Streams) (v : View) (a : Served) (r : Request) → IsOpen phase v.place → TiedAs s phase u (sight v) a → IsFair v → IsOfOctets r → holds a v.request ≡ false
+  pub takes_on : use_at s c.servers ≡ Some ByStreams → (phase : Phase) (u : Streams) (v : View) (a : Served) (r : Request) → IsOpen phase v.place → TiedAs c s phase u (sight v) a → IsFair v → IsOfOctets r → holds a v.request ≡ false
       → Leads (HasStarted phase u v a r) (by_streams.send r u (asks (Start v.request s Stream) v))
   takes_on used (Untold w) u v a r calm t fair octets free = takes_on_one c s used u v a w r t fair octets free
   takes_on used (Told p n) u v a r calm t fair octets free = absurd calm
@@ -89,7 +89,7 @@ module _ (c : Conf) (s : ℕ) where
       leads_on (HasStarted (Untold w) u v a r) (HasStarted (Passed w) u v a r) (by_streams.send r u (asks (Start v.request s Stream) v)) (takes_on_one c s used u v a w r t.untold fair octets free)
       (λ x y l. passed_still w u v a calm t fair (MayStart v a r) (with_at v.ticket (Some v.request) (names_of u)) (λ d may. start_opens v a r d may) x y l)
 
-  pub gives_up : (phase : Phase) (u : Streams) (v : View) (a : Served) (r : Asked) (k : ℕ) → IsOpen phase v.place → TiedAs s phase u (sight v) a → IsFair v → names_of u r.ticket ≡ Some k → Leads (HasCancelled phase u v a k r.ticket) (by_streams.cancel r u v)
+  pub gives_up : (phase : Phase) (u : Streams) (v : View) (a : Served) (r : Asked) (k : ℕ) → IsOpen phase v.place → TiedAs c s phase u (sight v) a → IsFair v → names_of u r.ticket ≡ Some k → Leads (HasCancelled phase u v a k r.ticket) (by_streams.cancel r u v)
   gives_up (Untold w) u v a r k calm t fair named = gives_up_one c s u v a w r k t fair named
   gives_up (Told p n) u v a r k calm t fair named = absurd calm
   gives_up (Passed w) u v a r k calm t fair named = leads_on (HasCancelled (Untold w) u v a k r.ticket) (HasCancelled (Passed w) u v a k r.ticket) (by_streams.cancel r u v) (gives_up_one c s u v a w r k t.untold fair named)

@@ -13,6 +13,7 @@ use Rattle.proof_parts.specs.Octets.{IsLinkAt}
 use Rattle.proof_parts.specs.Seats.{IsAway}
 use Rattle.proof_multi.specs.Servers.{Desk, names_at, UnderWay, IsListed, IsLoose, IsThere, under, StageFits, AtWaiting, AtResting, AtHeld, HasFailed, IsToHand, JobFits, LinkFits, IsNone, IsSome, IsBroken, AreTables}
 use Rattle.proof_multi.proofs.Desks.{StaysThere, there_or_away, away_none, away_so, one_place, link_stays, name_is, names_apart}
+use Rattle.right_trace.specs.Trace.{Conf}
 
 -- What a call of the connection at p changes, which posted something: f and g say when each timer is due, before and after.
 pub record PlaceChange (p : ℕ) (posts : List Posted) (y z : UnderWay) (d e : Desk) (m n : Multi) (f g : ℕ → Option ℕ) : Type 0 where
@@ -32,7 +33,7 @@ pub record PlaceChange (p : ℕ) (posts : List Posted) (y z : UnderWay) (d e : D
   pub opening : e.opening ≡ n.opening
   pub calm : e.calm ≤ n.calm
 
-module _ (p : ℕ) (posts : List Posted) (y z : UnderWay) (d e : Desk) (m n : Multi) (frames : ℕ → List Octets) (f g : ℕ → Option ℕ) (ticket next : ℕ) (s : AreTables y d m f) (c : PlaceChange p posts y z d e m n f g) where
+module _ (conf : Conf) (p : ℕ) (posts : List Posted) (y z : UnderWay) (d e : Desk) (m n : Multi) (frames : ℕ → List Octets) (f g : ℕ → Option ℕ) (ticket next : ℕ) (s : AreTables conf y d m f) (c : PlaceChange p posts y z d e m n f g) where
   -- a request is there, or away
   either_way : (k : ℕ) → IsAway p (m.asks k) ⊎ ((a : Asker) × (m.asks k ≡ Some a) × IsThere p a.phase)
   either_way k = by (m.asks k) refl
@@ -97,11 +98,11 @@ module _ (p : ℕ) (posts : List Posted) (y z : UnderWay) (d e : Desk) (m n : Mu
   inner i u is = let o = s.inner i u (ap (λ (f : ℕ → Option ℕ). f i) (sym c.inner) ∙ is) in (o.0, o.1, new_job u o.0 o.2, o.3)
 
   -- a connection elsewhere
-  pub kept_place : (fs : ℕ → List Octets) (q : ℕ) → (p ≡ q → ⊥) → e.links q ≡ d.links q → fs q ≡ frames q → ((l : Link Request) (i : ℕ) → d.links q ≡ Some l → timer_of l.line.stage ≡ Some i → g i ≡ f i) → ticket ≤ next → LinkFits d m frames f ticket q → LinkFits e n fs g next q
+  pub kept_place : (fs : ℕ → List Octets) (q : ℕ) → (p ≡ q → ⊥) → e.links q ≡ d.links q → fs q ≡ frames q → ((l : Link Request) (i : ℕ) → d.links q ≡ Some l → timer_of l.line.stage ≡ Some i → g i ≡ f i) → ticket ≤ next → LinkFits conf d m frames f ticket q → LinkFits conf e n fs g next q
   kept_place fs q ne links same due later (IsNone a b away) = IsNone (links ∙ a) (c.conns q ne ∙ b) (λ k. elim (asks_stay q ne k) [ inl h ↦ subst (IsAway q) (sym h) (away k) | inr h ↦ h.1 ])
   kept_place fs q ne links same due later (IsSome l x a link) =
-      IsSome l x (links ∙ a) (subst (λ o. IsLinkAt q (names_at e) l n x o g next) (sym same)
-      (link_stays q l (names_at d) (names_at e) m n x (frames q) f g ticket next link (c.conns q ne) (asks_stay q ne)
+      IsSome l x (links ∙ a) (subst (λ o. IsLinkAt conf q (names_at e) l n x o g next) (sym same)
+      (link_stays conf q l (names_at d) (names_at e) m n x (frames q) f g ticket next link (c.conns q ne) (asks_stay q ne)
       (λ i j b nm is there. ap (λ (f : ℕ → Option ℕ). f i) same_names ∙ nm) (names_apart e apart inner) (λ i own. due l i a own) later))
 
   stage_stays : (t : ℕ) (at : Stage) (phase : Phase) → StageFits y d f t at phase → StageFits z e g t at phase
@@ -111,7 +112,7 @@ module _ (p : ℕ) (posts : List Posted) (y z : UnderWay) (d e : Desk) (m n : Mu
   stage_stays t at phase (HasFailed q i x b o h) = absurd (none_posted i h)
   stage_stays t at phase (IsToHand l w h) = IsToHand (subst (λ (xs : List (ℕ × Phase)). IsLoose t phase xs) (sym c.todo) l) w h
 
-  job_fits : (t : ℕ) (job : Job Request) → d.jobs t ≡ Some job → JobFits z e n g t job
+  job_fits : (t : ℕ) (job : Job Request) → d.jobs t ≡ Some job → JobFits conf z e n g t job
   job_fits t job is = elim (either_way job.number) [
     | inl away ↦ record {
       ask = j.ask;
@@ -125,10 +126,10 @@ module _ (p : ℕ) (posts : List Posted) (y z : UnderWay) (d e : Desk) (m n : Mu
     | inr h ↦ at_place (let same : Some h.0 ≡ Some j.ask = sym h.1 ∙ j.is in let ask : h.0 ≡ j.ask = cc in subst (λ (a : Asker). IsThere p a.phase) ask h.2)
   ]
     where
-      j : JobFits y d m f t job
+      j : JobFits conf y d m f t job
       j = s.jobs t job is
 
-      at_place : IsThere p j.ask.phase → JobFits z e n g t job
+      at_place : IsThere p j.ask.phase → JobFits conf z e n g t job
       at_place there =
           let x = ticket_there t job j.ask is j.stage there in
           let go = c.going job.number j.ask j.is in
@@ -149,7 +150,7 @@ module _ (p : ℕ) (posts : List Posted) (y z : UnderWay) (d e : Desk) (m n : Mu
           same_as b ph is e = let q : Some (moved j.ask ph) ≡ Some b = sym is ∙ e in let r : moved j.ask ph ≡ b = cc in sym (ap (λ (a : Asker). a.phase) r)
 
   -- the tables again
-  pub placed : AreTables z e n g
+  pub placed : AreTables conf z e n g
   placed = record {
     jobs = λ t job is. job_fits t job (old_job t job is);
     asked = λ k a is. asked k a is;

@@ -28,13 +28,14 @@ use Rattle.proof_multi.proofs.Changing.{Change, kept_link, changed}
 use Rattle.proof_multi.proofs.Desks.{desk_with, away_so, name_of, name_is}
 use Rattle.proof_multi.proofs.Going.{Went, waits_now}
 use Rattle.proof_multi.proofs.Hands.{InHand, hand_of, puts_beside, puts_here, puts_there, numbers_stay, link_due, not_next, same_job}
+use Rattle.right_trace.specs.Trace.{Conf}
 
 -- why a request may back off
 abbrev pub MayRest : Phase → Multi → View → Type 0
 MayRest ph m v = (ph ≡ Broken) ⊎ ((ph ≡ Free) × (v.now < m.calm))
 
-module _ (server : ℕ) (frames : ℕ → List Octets) (t : ℕ) (job : Job Request) (ph : Phase) (todo : List (ℕ × Phase)) (failed : List Posted) (s : Server) (m : Multi) (v : View)
-    (st : Stands (record { todo = (t, ph) ∷ todo; failed = failed }) (desk_with t (waits_now job) s) s m frames v) (below : t < v.ticket) (once : (phase : Phase) → IsLoose t phase todo → ⊥) (may : MayRest ph m v) where
+module _ (c : Conf) (server : ℕ) (frames : ℕ → List Octets) (t : ℕ) (job : Job Request) (ph : Phase) (todo : List (ℕ × Phase)) (failed : List Posted) (s : Server) (m : Multi) (v : View)
+    (st : Stands c (record { todo = (t, ph) ∷ todo; failed = failed }) (desk_with t (waits_now job) s) s m frames v) (below : t < v.ticket) (once : (phase : Phase) → IsLoose t phase todo → ⊥) (may : MayRest ph m v) where
   abbrev y : UnderWay
   y = record { todo = (t, ph) ∷ todo; failed = failed }
 
@@ -44,8 +45,8 @@ module _ (server : ℕ) (frames : ℕ → List Octets) (t : ℕ) (job : Job Requ
   abbrev d : Desk
   d = desk_with t (waits_now job) s
 
-  h : InHand t job ph y s m v
-  h = hand_of frames t job ph todo y s m v refl st
+  h : InHand c t job ph y s m v
+  h = hand_of c frames t job ph todo y s m v refl st
 
   -- it is due then
   abbrev due : ℕ
@@ -102,7 +103,7 @@ module _ (server : ℕ) (frames : ℕ → List Octets) (t : ℕ) (job : Job Requ
   old_timer : (i u : ℕ) → (t ≡ u → ⊥) → entry_at i (puts i0 t s.timers) ≡ Some u → entry_at i s.timers ≡ Some u
   old_timer i u ne is = elim (is_or_was i0 (Some t) (λ j. entry_at j s.timers) i u (sym (at_puts i0 t i s.timers) ∙ is)) [ inl b ↦ absurd (ne (let e = b.1 in cc)) | inr b ↦ b.1 ]
 
-  fits : JobFits z (desk_of to) n (dues w) t job2
+  fits : JobFits c z (desk_of to) n (dues w) t job2
   fits = record {
     ask = moved a (BackingOff due);
     is = with_here job.number (Some (moved a (BackingOff due))) m.asks;
@@ -113,7 +114,7 @@ module _ (server : ℕ) (frames : ℕ → List Octets) (t : ℕ) (job : Job Requ
     stage = AtResting i0 due refl refl (puts_here i0 t s.timers) due_here;
   }
 
-  change : Change t job.number y z d (desk_of to) m n (dues v) (dues w)
+  change : Change c t job.number y z d (desk_of to) m n (dues v) (dues w)
   change = record {
     jobs = λ u ne. puts_beside t job2 (Some (waits_now job)) s.jobs u ne;
     timers = λ i u ne is. (puts_there i0 t s.timers i (no_timer i u is) ∙ is, due_there i (no_timer i u is));
@@ -129,7 +130,7 @@ module _ (server : ℕ) (frames : ℕ → List Octets) (t : ℕ) (job : Job Requ
     own = h.own;
     number = h.number;
     fits = λ j is. (let e : job2 ≡ j = same_job (entry_at t (puts t job2 s.jobs)) job2 j (puts_here t job2 s.jobs) is in
-        (subst (λ j. JobFits z (desk_of to) n (dues w) t j) e fits, sym (ap (λ (j : Job Request). j.number) e)));
+        (subst (λ j. JobFits c z (desk_of to) n (dues w) t j) e fits, sym (ap (λ (j : Job Request). j.number) e)));
     asked = λ b is. (job2, puts_here t job2 s.jobs);
     own_timers = λ i is. (
       job2,
@@ -155,23 +156,23 @@ module _ (server : ℕ) (frames : ℕ → List Octets) (t : ℕ) (job : Job Requ
           let b = st.server.tables.failing i j posted (name_is d i o.0 o.1 o.2 was ∙ ap Some o.4) in
           (b.0, with_there job.number (Some (moved a (BackingOff due))) m.asks j (λ e. other (h.own o.0 o.1 was (o.4 ∙ sym e))) ∙ b.1, b.2)
 
-  moves : (next : ℕ) → Moves server v.now next m Nothing n
+  moves : (next : ℕ) → Moves c server v.now next m Nothing n
   moves next = elim may [
     | inl e ↦ BacksOff job.number a due h.its.is (h.phase ∙ e) later soon
     | inr e ↦ Meets job.number a due h.its.is (h.phase ∙ e.0) e.1 later soon
   ]
 
   not_own : (p : ℕ) (l : Link Request) (i : ℕ) → entry_at p s.connections ≡ Some l → timer_of l.line.stage ≡ Some i → i0 ≡ i → ⊥
-  not_own p l i is own = let o = link_due d m frames (dues v) v.ticket p l i (st.server.links p) is own in not_next v i o.0 st.fair o.1
+  not_own p l i is own = let o = link_due c d m frames (dues v) v.ticket p l i (st.server.links p) is own in not_next v i o.0 st.fair o.1
 
-  links : (p : ℕ) → LinkFits (desk_of to) n frames (dues w) v.ticket p
-  links p = kept_link t job.number y z d (desk_of to) m n frames (dues v) (dues w) v.ticket v.ticket st.server.tables change frames p refl refl refl (h.away p)
+  links : (p : ℕ) → LinkFits c (desk_of to) n frames (dues w) v.ticket p
+  links p = kept_link c t job.number y z d (desk_of to) m n frames (dues v) (dues w) v.ticket v.ticket st.server.tables change frames p refl refl refl (h.away p)
       (away_so p (n.asks job.number) (moved a (BackingOff due)) (with_here job.number (Some (moved a (BackingOff due))) m.asks) (λ q. q))
       (λ l i is own. due_there i (not_own p l i is own)) (le_refl v.ticket) (st.server.links p)
 
-  server_rests : IsServer z (desk_of to) n frames (dues w) v.ticket
+  server_rests : IsServer c z (desk_of to) n frames (dues w) v.ticket
   server_rests = record {
-    tables = changed t job.number y z d (desk_of to) m n frames (dues v) (dues w) v.ticket v.ticket st.server.tables change;
+    tables = changed c t job.number y z d (desk_of to) m n frames (dues v) (dues w) v.ticket v.ticket st.server.tables change;
     links = links;
     watched = λ p l i is own. (let o = st.server.watched p l i is own in (o.0, puts_there i0 t s.timers i (not_own p l i is own) ∙ o.1));
   }
@@ -196,10 +197,10 @@ module _ (server : ℕ) (frames : ℕ → List Octets) (t : ℕ) (job : Job Requ
       over : (n : ℕ) → n < n + 1
       over n = omega arith
 
-  went : Went server frames z d m v to w
+  went : Went c server frames z d m v to w
   went = record {
     made = _;
-    runs = runs_one server v.now v.place m Nothing n (moves v.place);
+    runs = runs_one c server v.now v.place m Nothing n (moves v.place);
     posts = refl;
     outs = sym (append-nil v.outs);
     place = refl;
@@ -219,9 +220,9 @@ module _ (server : ℕ) (frames : ℕ → List Octets) (t : ℕ) (job : Job Requ
       at_most : (a b : ℕ) → a ≡ b → a ≤ b
       at_most a b e = omega arith
 
-  pub rests_so : Leads (Went server frames z d m v) (backs_off t job s v)
+  pub rests_so : Leads (Went c server frames z d m v) (backs_off t job s v)
   rests_so = by (can_draw v.timers.next)
     where
-      by : (b : Bool) → Leads (Went server frames z d m v) (option_and_then (λ w. Some (rests t (once_more job) v.timers.next s, w)) (if b then Some w else None))
+      by : (b : Bool) → Leads (Went c server frames z d m v) (option_and_then (λ w. Some (rests t (once_more job) v.timers.next s, w)) (if b then Some w else None))
       by true = went
       by false = tt

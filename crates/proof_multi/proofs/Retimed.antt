@@ -11,8 +11,9 @@ use Rattle.proof_parts.specs.Sights.{Sight}
 use Rattle.proof_parts.proofs.Tables.{rises_below}
 use Rattle.proof_multi.specs.Servers.{Desk, Server, AreOrderly, names_at, UnderWay, StageFits, AtWaiting, AtResting, AtHeld, HasFailed, IsToHand, LinkFits, IsNone, IsSome, AreTables, IsServer, Owns}
 use Rattle.proof_multi.proofs.Desks.{link_stays, names_apart}
+use Rattle.right_trace.specs.Trace.{Conf}
 
-module _ (y : UnderWay) (d : Desk) (m : Multi) (f g : ℕ → Option ℕ) where
+module _ (c : Conf) (y : UnderWay) (d : Desk) (m : Multi) (f g : ℕ → Option ℕ) where
   stage_so : ((i t : ℕ) → d.timers i ≡ Some t → g i ≡ f i) → (t : ℕ) (at : Stage) (phase : Phase) → StageFits y d f t at phase → StageFits y d g t at phase
   stage_so due t at phase (AtWaiting a b l) = AtWaiting a b l
   stage_so due t at phase (AtResting i until a b o h) = AtResting i until a b o (due i t o ∙ h)
@@ -20,7 +21,7 @@ module _ (y : UnderWay) (d : Desk) (m : Multi) (f g : ℕ → Option ℕ) where
   stage_so due t at phase (HasFailed p i a b o h) = HasFailed p i a b o h
   stage_so due t at phase (IsToHand l w h) = IsToHand l w h
 
-  pub tables_retimed : ((i t : ℕ) → d.timers i ≡ Some t → g i ≡ f i) → AreTables y d m f → AreTables y d m g
+  pub tables_retimed : ((i t : ℕ) → d.timers i ≡ Some t → g i ≡ f i) → AreTables c y d m f → AreTables c y d m g
   tables_retimed due s = record {
     jobs = λ t job is. (let j = s.jobs t job is in record { ask = j.ask; is = j.is; request = j.request; octets = j.octets; end = j.end; over = due job.end t j.end ∙ j.over; stage = stage_so due t job.stage j.ask.phase j.stage });
     asked = s.asked;
@@ -34,11 +35,11 @@ module _ (y : UnderWay) (d : Desk) (m : Multi) (f g : ℕ → Option ℕ) where
     calm = s.calm;
   }
 
-  pub link_retimed : (frames : ℕ → List Octets) (ticket next p : ℕ) → AreTables y d m f → ((l : Link Request) (i : ℕ) → d.links p ≡ Some l → timer_of l.line.stage ≡ Some i → g i ≡ f i) → ticket ≤ next → LinkFits d m frames f ticket p → LinkFits d m frames g next p
+  pub link_retimed : (frames : ℕ → List Octets) (ticket next p : ℕ) → AreTables c y d m f → ((l : Link Request) (i : ℕ) → d.links p ≡ Some l → timer_of l.line.stage ≡ Some i → g i ≡ f i) → ticket ≤ next → LinkFits c d m frames f ticket p → LinkFits c d m frames g next p
   link_retimed frames ticket next p s due later (IsNone a b away) = IsNone a b away
-  link_retimed frames ticket next p s due later (IsSome l x a link) = IsSome l x a (link_stays p l (names_at d) (names_at d) m m x (frames p) f g ticket next link refl (λ k. inl refl) (λ i j b nm is there. nm) (names_apart d s.apart s.inner) (λ i own. due l i a own) later)
+  link_retimed frames ticket next p s due later (IsSome l x a link) = IsSome l x a (link_stays c p l (names_at d) (names_at d) m m x (frames p) f g ticket next link refl (λ k. inl refl) (λ i j b nm is there. nm) (names_apart d s.apart s.inner) (λ i own. due l i a own) later)
 
-  pub server_retimed : (frames : ℕ → List Octets) (ticket next : ℕ) → ((i : ℕ) → Owns d i → g i ≡ f i) → ticket ≤ next → IsServer y d m frames f ticket → IsServer y d m frames g next
+  pub server_retimed : (frames : ℕ → List Octets) (ticket next : ℕ) → ((i : ℕ) → Owns d i → g i ≡ f i) → ticket ≤ next → IsServer c y d m frames f ticket → IsServer c y d m frames g next
   server_retimed frames ticket next due later s = record {
     tables = tables_retimed (λ i t at. due i (inl (t, at))) s.tables;
     links = λ p. link_retimed frames ticket next p s.tables (λ l i at own. due i (inr (p, l, at, own))) later (s.links p);

@@ -15,6 +15,7 @@ use Rattle.proof_parts.specs.Lines.{SingleLine, seats_of, IsLineAt}
 use Rattle.proof_parts.specs.Seats.{IdFits, IsFree, IsHeld, WasGivenUp}
 use Rattle.proof_parts.proofs.HeldIds.{entries_count}
 use Rattle.proof_parts.proofs.Tables.{rises_below}
+use Rattle.right_trace.specs.Trace.{Conf}
 
 abbrev pub Links : Type 0
 Links = List (ℕ × Link Request)
@@ -92,8 +93,8 @@ unfolding all_ids
 all_small n lt = omega arith
 
 -- a connection whose ids are all held is full
-pub full_line : (p : ℕ) (names : ℕ → Option ℕ) (s : SingleLine) (m : Multi) (x : Conn) (f : ℕ → Option ℕ) (ticket : ℕ) → IsLineAt p names s m x f ticket → (length s.held.held == 32768) ≡ true → IsFull x
-full_line p names s m x f ticket line e = counted all_ids id_count (all_small s.held.mark line.fits.order.small) (same (length s.held.held) e ∙ so_many)
+pub full_line : (c : Conf) (p : ℕ) (names : ℕ → Option ℕ) (s : SingleLine) (m : Multi) (x : Conn) (f : ℕ → Option ℕ) (ticket : ℕ) → IsLineAt c p names s m x f ticket → (length s.held.held == 32768) ≡ true → IsFull x
+full_line c p names s m x f ticket line e = counted all_ids id_count (all_small s.held.mark line.fits.order.small) (same (length s.held.held) e ∙ so_many)
   where
     same : (n : ℕ) → (n == 32768) ≡ true → n ≡ 32768
     same n e = grind (arith, nat_tests)

@@ -8,8 +8,9 @@ use Rattle.proof_parts.specs.Connections.{IsAt}
 use Rattle.proof_parts.specs.Lines.{SingleLine, seats_of, IsLineAt}
 use Rattle.proof_parts.specs.Seats.{IdFits, IsFree, IsHeld, WasGivenUp}
 use Rattle.proof_multi.specs.Servers.{IsThere}
+use Rattle.right_trace.specs.Trace.{Conf}
 
-module _ (p : ℕ) (names : ℕ → Option ℕ) (s : SingleLine) (m : Multi) (x : Conn) (f : ℕ → Option ℕ) (ticket : ℕ) (line : IsLineAt p names s m x f ticket) where
+module _ (c : Conf) (p : ℕ) (names : ℕ → Option ℕ) (s : SingleLine) (m : Multi) (x : Conn) (f : ℕ → Option ℕ) (ticket : ℕ) (line : IsLineAt c p names s m x f ticket) where
   id_of : (id i : ℕ) (w : Request) → entry_at id s.held.held ≡ Some (Waits i w) → IdFits p names (seats_of s m.asks x.ids) id → entry_at i s.ids ≡ Some id
   id_of id i w h (IsFree g wr) = absurd (let z = sym g ∙ h in cc)
   id_of id i w h (IsHeld j k u y g wr rq nm is sent) = ap (λ i. entry_at i s.ids) (let z : Some (Waits i w) ≡ Some (Waits j u) = sym h ∙ g in let q : i ≡ j = cc in q) ∙ is

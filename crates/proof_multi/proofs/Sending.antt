@@ -9,7 +9,8 @@ use Rattle.client_request.specs.Timers.{with_timer, can_draw}
 use Rattle.client_request.specs.View.{View}
 use Rattle.client_multi.specs.Links.{Link, one_stream}
 use Rattle.client_multi.specs.MultiStream.{takes, hands}
-use Rattle.client_settings.specs.MultiStream.{default_settings}
+use Rattle.right_settings.specs.Given.{streams_of}
+use Rattle.proof_right.proofs.Received.{waits_on}
 use Rattle.client_multi.specs.declared.multi_stream.job.Job.{Job}
 use Rattle.client_multi.specs.declared.multi_stream.job.Stage.TheVariants.{Waiting}
 use Rattle.right_trace.specs.Messages.{Octets}
@@ -29,24 +30,21 @@ use Rattle.proof_multi.proofs.Desks.{desk_with, away_none, away_so}
 use Rattle.proof_multi.proofs.Going.{Went, leads_as}
 use Rattle.proof_multi.proofs.Hands.{puts_here, puts_there, link_due, not_next, same_job}
 use Rattle.proof_multi.proofs.Holding.{hands_so}
-
-thirty_seconds : 30000000 ≡ stream_timeout
-unfolding stream_timeout
-thirty_seconds = refl
+use Rattle.right_trace.specs.Trace.{Conf}
 
 -- request k, which is r, is handed to the machine at moment n
 abbrev pub taken_in : (k n : ℕ) → Request → Multi → Multi
 taken_in k n r m = record m { asks = with_at k (Some (record { request = r; since = n; phase = Free })) m.asks }
 
 -- What is left once a request was taken on.
-pub record Sent (server : ℕ) (frames : ℕ → List Octets) (r : Request) (d : Desk) (m : Multi) (v : View) (t : Server) (w : View) : Type 0 where
+pub record Sent (c : Conf) (server : ℕ) (frames : ℕ → List Octets) (r : Request) (d : Desk) (m : Multi) (v : View) (t : Server) (w : View) : Type 0 where
   pub made : Act Multi
-  pub runs : Runs server v.now v.place (taken_in v.request v.now r m) made
+  pub runs : Runs c server v.now v.place (taken_in v.request v.now r m) made
   pub posts : made.posts ≡ []
   pub outs : w.outs ≡ v.outs ++ made.outs
   pub place : w.place ≡ made.place
   pub board : w.board ≡ v.board
-  pub stands : Stands nothing_under_way (desk_of t) t made.state frames w
+  pub stands : Stands c nothing_under_way (desk_of t) t made.state frames w
   pub on : GoesOn v w
   pub drawn : v.ticket < w.ticket
   pub more : w.more ≡ v.more
@@ -55,11 +53,11 @@ pub record Sent (server : ℕ) (frames : ℕ → List Octets) (r : Request) (d :
   pub named : (u : ℕ) → numbers (desk_of t) u ≡ with_at v.ticket (Some v.request) (numbers d) u
   pub quiet : NoneHeard m → NoneHeard made.state
 
-module _ (server : ℕ) (frames : ℕ → List Octets) (s : Server) (m : Multi) (v : View) (st : Stands nothing_under_way (desk_of s) s m frames v) (quiet : NoneHeard m) (r : Request) (octets : IsOfOctets r) (free : m.asks v.request ≡ None) where
+module _ (c : Conf) (server : ℕ) (frames : ℕ → List Octets) (s : Server) (m : Multi) (v : View) (st : Stands c nothing_under_way (desk_of s) s m frames v) (quiet : NoneHeard m) (r : Request) (octets : IsOfOctets r) (free : m.asks v.request ≡ None) where
   abbrev d : Desk
   d = desk_of s
 
-  abbrev T : AreTables nothing_under_way d m (dues v)
+  abbrev T : AreTables c nothing_under_way d m (dues v)
   T = st.server.tables
 
   abbrev k : ℕ
@@ -72,7 +70,7 @@ module _ (server : ℕ) (frames : ℕ → List Octets) (s : Server) (m : Multi) 
   i0 = v.timers.next
 
   abbrev due : ℕ
-  due = v.now + 30000000
+  due = v.now + stream_timeout c
 
   abbrev job : Job Request
   job = record { number = k; request = r; back_offs = 0; end = i0; stage = Waiting }
@@ -105,10 +103,10 @@ module _ (server : ℕ) (frames : ℕ → List Octets) (s : Server) (m : Multi) 
   least n = omega arith
 
   later : v.now < due
-  later = more v.now
+  later = more v.now (stream_timeout c) (waits_on c)
     where
-      more : (n : ℕ) → n < n + 30000000
-      more n = omega arith
+      more : (n t : ℕ) → 999 < t → n < n + t
+      more n t long = omega arith
 
   none : entry_at t0 s.jobs ≡ None
   none = absent_above 0 t0 t0 s.jobs (le_refl t0) st.order.jobs
@@ -137,13 +135,13 @@ module _ (server : ℕ) (frames : ℕ → List Octets) (s : Server) (m : Multi) 
   asked_is : n.asks k ≡ Some a
   asked_is = with_here k (Some a) m.asks
 
-  fits : JobFits z e n (dues w1) t0 job
-  fits = record { ask = a; is = asked_is; request = refl; octets = octets; end = puts_here i0 t0 s.timers; over = due_here ∙ ap (λ x. Some (v.now + x)) thirty_seconds; stage = IsToHand (inl (refl, refl)) refl (inl refl) }
+  fits : JobFits c z e n (dues w1) t0 job
+  fits = record { ask = a; is = asked_is; request = refl; octets = octets; end = puts_here i0 t0 s.timers; over = due_here; stage = IsToHand (inl (refl, refl)) refl (inl refl) }
 
   old_timer : (i u : ℕ) → entry_at i (puts i0 t0 s.timers) ≡ Some u → ((i0 ≡ i) × (t0 ≡ u)) ⊎ (entry_at i s.timers ≡ Some u)
   old_timer i u tm = elim (is_or_was i0 (Some t0) (λ j. entry_at j s.timers) i u (sym (at_puts i0 t0 i s.timers) ∙ tm)) [ inl b ↦ inl (b.0, (let q = b.1 in cc)) | inr b ↦ inr b.1 ]
 
-  change : Change t0 k nothing_under_way z d e m n (dues v) (dues w1)
+  change : Change c t0 k nothing_under_way z d e m n (dues v) (dues w1)
   change = record {
     jobs = beside;
     timers = λ i u ne tm. (puts_there i0 t0 s.timers i (not_new i u tm) ∙ tm, due_there i (not_new i u tm));
@@ -158,7 +156,7 @@ module _ (server : ℕ) (frames : ℕ → List Octets) (s : Server) (m : Multi) 
     failed = λ i u ne q l. l;
     own = λ u j q same. (let x = T.jobs u j q in absurd (let y : None ≡ Some x.ask = sym free ∙ (ap m.asks (sym same) ∙ x.is) in cc));
     number = λ j q. absurd (no_job j q);
-    fits = λ j q. (let x : job ≡ j = same_job (e.jobs t0) job j here q in (subst (λ j. JobFits z e n (dues w1) t0 j) x fits, sym (ap (λ (j : Job Request). j.number) x)));
+    fits = λ j q. (let x : job ≡ j = same_job (e.jobs t0) job j here q in (subst (λ j. JobFits c z e n (dues w1) t0 j) x fits, sym (ap (λ (j : Job Request). j.number) x)));
     asked = λ b q. (job, here);
     own_timers = λ i tm. elim (old_timer i t0 tm) [ inl b ↦ (job, here, inl b.0) | inr b ↦ (let o = T.timers i t0 b in absurd (no_job o.0 o.1)) ];
     own_inner = λ i q. (let o = T.inner i t0 q in absurd (no_job o.0 o.2));
@@ -170,16 +168,16 @@ module _ (server : ℕ) (frames : ℕ → List Octets) (s : Server) (m : Multi) 
   }
 
   not_link : (p : ℕ) (l : Link Request) (i : ℕ) → entry_at p s.connections ≡ Some l → timer_of l.line.stage ≡ Some i → i0 ≡ i → ⊥
-  not_link p l i q mine = let o = link_due d m frames (dues v) v.ticket p l i (st.server.links p) q mine in not_next v i o.0 st.fair o.1
+  not_link p l i q mine = let o = link_due c d m frames (dues v) v.ticket p l i (st.server.links p) q mine in not_next v i o.0 st.fair o.1
 
   on1 : GoesOn v w1
   on1 = let g = goes_set v due later st.fair in record { fair = record { order = g.fair.order; words = g.fair.words }; now = refl; timer = g.timer; ticket = up t0; place = le_refl v.place; later = g.later }
 
-  stands : Stands z e s1 n frames w1
+  stands : Stands c z e s1 n frames w1
   stands = record {
     server = record {
-      tables = changed t0 k nothing_under_way z d e m n frames (dues v) (dues w1) v.ticket (v.ticket + 1) T change;
-      links = λ p. kept_link t0 k nothing_under_way z d e m n frames (dues v) (dues w1) v.ticket (v.ticket + 1) T change frames p refl refl refl (away_none p (m.asks k) free) (away_so p (n.asks k) a asked_is (λ q. q))
+      tables = changed c t0 k nothing_under_way z d e m n frames (dues v) (dues w1) v.ticket (v.ticket + 1) T change;
+      links = λ p. kept_link c t0 k nothing_under_way z d e m n frames (dues v) (dues w1) v.ticket (v.ticket + 1) T change frames p refl refl refl (away_none p (m.asks k) free) (away_so p (n.asks k) a asked_is (λ q. q))
           (λ l i q mine. due_there i (not_link p l i q mine)) (up v.ticket) (st.server.links p);
       watched = λ p l i q mine. (let b = st.server.watched p l i q mine in (b.0, puts_there i0 t0 s.timers i (not_link p l i q mine) ∙ b.1));
     };
@@ -195,10 +193,10 @@ module _ (server : ℕ) (frames : ℕ → List Octets) (s : Server) (m : Multi) 
     fair = on1.fair;
   }
 
-  handed : Leads (Went server frames nothing_under_way e n w1) (hands (one_stream for_one) server t0 job s1 w1)
-  handed = hands_so server frames t0 job [] s1 n w1 stands (over t0) (λ phase l. l) quiet
+  handed : Leads (Went c server frames nothing_under_way e n w1) (hands (one_stream for_one) server t0 job s1 w1)
+  handed = hands_so c server frames t0 job [] s1 n w1 stands (over t0) (λ phase l. l) quiet
 
-  sent : (t : Server) (w : View) → Went server frames nothing_under_way e n w1 t w → Sent server frames r d m v t w
+  sent : (t : Server) (w : View) → Went c server frames nothing_under_way e n w1 t w → Sent c server frames r d m v t w
   sent t w b = record {
     made = b.made;
     runs = b.runs;
@@ -234,13 +232,13 @@ module _ (server : ℕ) (frames : ℕ → List Octets) (s : Server) (m : Multi) 
           (ap (option_map (λ (j : Job Request). j.number)) here ∙ sym (with_here t0 (Some k) (numbers d)))
           (λ u ne. ap (option_map (λ (j : Job Request). j.number)) (beside u ne) ∙ sym (with_there t0 (Some k) (numbers d) u ne)) u
 
-  pub sends_so : Leads (Sent server frames r d m v) (takes (one_stream for_one) server default_settings false r s v)
-  sends_so = by_ticket (can_draw v.ticket)
+  pub sends_so : (several : ℕ) → Leads (Sent c server frames r d m v) (takes (one_stream for_one) server (streams_of several c) false r s v)
+  sends_so several = by_ticket (can_draw v.ticket)
     where
-      by_timer : (b : Bool) → Leads (Sent server frames r d m v) (option_and_then (λ w. hands (one_stream for_one) server t0 job s1 w) (if b then Some w1 else None))
+      by_timer : (b : Bool) → Leads (Sent c server frames r d m v) (option_and_then (λ w. hands (one_stream for_one) server t0 job s1 w) (if b then Some w1 else None))
       by_timer false = tt
-      by_timer true = leads_as (Went server frames nothing_under_way e n w1) (Sent server frames r d m v) (hands (one_stream for_one) server t0 job s1 w1) handed sent
+      by_timer true = leads_as (Went c server frames nothing_under_way e n w1) (Sent c server frames r d m v) (hands (one_stream for_one) server t0 job s1 w1) handed sent
 
-      by_ticket : (b : Bool) → Leads (Sent server frames r d m v) (option_and_then (λ w. option_and_then (λ u. hands (one_stream for_one) server t0 (record { number = w.request; request = r; back_offs = 0; end = w.timers.next; stage = Waiting }) (record s { timers = puts w.timers.next t0 s.timers }) u) (if can_draw w.timers.next then Some (record w { timers = with_timer (w.now + 30000000) w.timers }) else None)) (if b then Some (record v { ticket = t0 + 1 }) else None))
+      by_ticket : (b : Bool) → Leads (Sent c server frames r d m v) (option_and_then (λ w. option_and_then (λ u. hands (one_stream for_one) server t0 (record { number = w.request; request = r; back_offs = 0; end = w.timers.next; stage = Waiting }) (record s { timers = puts w.timers.next t0 s.timers }) u) (if can_draw w.timers.next then Some (record w { timers = with_timer (w.now + stream_timeout c) w.timers }) else None)) (if b then Some (record v { ticket = t0 + 1 }) else None))
       by_ticket false = tt
       by_ticket true = by_timer (can_draw v.timers.next)

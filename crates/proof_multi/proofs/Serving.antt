@@ -26,10 +26,10 @@ abbrev pub lift : Served → Act Multi → Act Served
 lift a made = record { state = stream_moved made.state a; place = made.place; outs = made.outs; posts = made.posts }
 
 module _ (c : Conf) (s : ℕ) where
-  pub runs_chain : (n place : ℕ) (m : Multi) (made : Act Multi) → Runs s n place m made → (a : Served) → a.clock ≡ n → a.server.by_stream ≡ m → Chain (served c) s place a (lift a made)
+  pub runs_chain : (n place : ℕ) (m : Multi) (made : Act Multi) → Runs c s n place m made → (a : Served) → a.clock ≡ n → a.server.by_stream ≡ m → Chain (served c) s place a (lift a made)
   runs_chain n _ _ _ (Rests place m) a clock is = subst (λ m. Chain (served c) s place a (lift a (still place m))) is (Stays place a)
   runs_chain n _ _ _ (Runs_on place m x k e move rest) a clock is =
-      Goes place a (does (stream_moved k a) place x) (lift (stream_moved k a) e) (ByStream x k (subst (λ n. multi.Moves s n place a.server.by_stream x k) (sym clock) (subst (λ m. multi.Moves s n place m x k) (sym is) move)))
+      Goes place a (does (stream_moved k a) place x) (lift (stream_moved k a) e) (ByStream x k (subst (λ n. multi.Moves c s n place a.server.by_stream x k) (sym clock) (subst (λ m. multi.Moves c s n place m x k) (sym is) move)))
       (runs_chain n (place_after x place) k e rest (stream_moved k a) clock refl)
 
   pub chain_then : (place : ℕ) (a : Served) (d e : Act Served) → Chain (served c) s place a d → Chain (served c) s d.place d.state e → Chain (served c) s place a (then_act d e)
@@ -42,16 +42,16 @@ module _ (c : Conf) (s : ℕ) where
       same_act d e state place outs posts = λ i. record { state = state i; place = place i; outs = outs i; posts = posts i }
 
 -- What a call leaves that may give results: `named` has the numbers before.
-pub record Gone (server : ℕ) (frames : ℕ → List Octets) (named : ℕ → Option ℕ) (d : Desk) (m : Multi) (v : View) (t : Server) (w : View) : Type 0 where
+pub record Gone (c : Conf) (server : ℕ) (frames : ℕ → List Octets) (named : ℕ → Option ℕ) (d : Desk) (m : Multi) (v : View) (t : Server) (w : View) : Type 0 where
   pub made : Act Multi
-  pub runs : Runs server v.now v.place m made
+  pub runs : Runs c server v.now v.place m made
   pub outs : w.outs ≡ v.outs ++ made.outs
   pub place : w.place ≡ made.place
   pub board : List Posted
   pub put : w.board ≡ v.board ++ board
   pub gives : Gives named board made.posts (numbers (desk_of t))
   pub more : w.more ≡ v.more
-  pub stands : Stands nothing_under_way (desk_of t) t made.state frames w
+  pub stands : Stands c nothing_under_way (desk_of t) t made.state frames w
   pub on : GoesOn v w
   pub owned : (i : ℕ) → Owns (desk_of t) i → Owns d i ⊎ (v.timers.next ≤ i)
   pub others : (i due : ℕ) → (Owns d i → ⊥) → dues v i ≡ Some due → dues w i ≡ Some due
@@ -61,8 +61,8 @@ pub gives_none : (named left : ℕ → Option ℕ) (posts : List Post) → posts
 gives_none named left [] e same = same
 gives_none named left (x ∷ xs) e same = absurd (cc)
 
-abbrev pub went_gone : (server : ℕ) (frames : ℕ → List Octets) (d : Desk) (m : Multi) (v : View) (t : Server) (w : View) → Went server frames nothing_under_way d m v t w → Gone server frames (numbers d) d m v t w
-went_gone server frames d m v t w a = record {
+abbrev pub went_gone : (c : Conf) (server : ℕ) (frames : ℕ → List Octets) (d : Desk) (m : Multi) (v : View) (t : Server) (w : View) → Went c server frames nothing_under_way d m v t w → Gone c server frames (numbers d) d m v t w
+went_gone c server frames d m v t w a = record {
   made = a.made;
   runs = a.runs;
   outs = a.outs;
@@ -79,8 +79,8 @@ went_gone server frames d m v t w a = record {
 }
 
 -- the same for the part
-pub gone_leaves : (c : Conf) (s : ℕ) (frames : ℕ → List Octets) (named : ℕ → Option ℕ) (u : Streams) (m : Multi) (v : View) (a : Served) (phase : Phase) (May : Act Served → Type 0) (t : Server) (w : View) → (g : Gone s frames named (desk_of u.tables) m v t w)
-    → May (lift a g.made) → TiedAs s phase (record u { tables = t }) (sight w) (stream_moved g.made.state a) → Leaves (served c) (TiedAs s) names_of owns May named u v phase (record u { tables = t }) w
+pub gone_leaves : (c : Conf) (s : ℕ) (frames : ℕ → List Octets) (named : ℕ → Option ℕ) (u : Streams) (m : Multi) (v : View) (a : Served) (phase : Phase) (May : Act Served → Type 0) (t : Server) (w : View) → (g : Gone c s frames named (desk_of u.tables) m v t w)
+    → May (lift a g.made) → TiedAs c s phase (record u { tables = t }) (sight w) (stream_moved g.made.state a) → Leaves (served c) (TiedAs c s) names_of owns May named u v phase (record u { tables = t }) w
 gone_leaves c s frames named u m v a phase May t w g may tied = record {
   made = lift a g.made;
   may = may;
@@ -101,5 +101,5 @@ leads_whole P Q u None l f = tt
 leads_whole P Q u (Some y) l f = f y.0 y.1 l
 
 -- it is server s still
-pub stream_still : (s : ℕ) (u : Streams) (x : Sight) (a : Served) (t : Server) (m : Multi) (w : View) → IsStream s u x a → w.now ≡ x.now → Stands nothing_under_way (desk_of t) t m (frames_at a.place a.frames) w → IsStream s (record u { tables = t }) (sight w) (stream_moved m a)
-stream_still s u x a t m w i now st = record { server = i.server; settings = i.settings; takes = i.takes; clock = i.clock ∙ sym now; dgram = i.dgram; ties = st.server; order = st.order }
+pub stream_still : (c : Conf) (s : ℕ) (u : Streams) (x : Sight) (a : Served) (t : Server) (m : Multi) (w : View) → IsStream c s u x a → w.now ≡ x.now → Stands c nothing_under_way (desk_of t) t m (frames_at a.place a.frames) w → IsStream c s (record u { tables = t }) (sight w) (stream_moved m a)
+stream_still c s u x a t m w i now st = record { server = i.server; settings = i.settings; takes = i.takes; clock = i.clock ∙ sym now; dgram = i.dgram; ties = st.server; order = st.order }

@@ -28,6 +28,7 @@ use Rattle.proof_parts.proofs.FrameReads.{kept_is_read}
 use Rattle.proof_parts.proofs.Tables.{put_back}
 use Rattle.proof_multi.specs.Servers.{Server, desk_of, names_at, LinkFits, IsNone, IsSome}
 use Rattle.proof_multi.specs.Tied.{Streams, by_streams, frames_at, IsStream, owns}
+use Rattle.right_trace.specs.Trace.{Conf}
 
 itself : (p q : ℕ) → q ≡ p → (q == p) ≡ true
 itself p q e = grind (arith, nat_tests)
@@ -41,7 +42,7 @@ no_frame octets got k = by (has_frame octets) refl
     by false e = e
 
 -- What stays as it is
-module _ (s : ℕ) (u : Streams) (x : Sight) (a : Served) (st : IsStream s u x a) where
+module _ (conf : Conf) (s : ℕ) (u : Streams) (x : Sight) (a : Served) (st : IsStream conf s u x a) where
   abbrev d : Server
   d = u.tables
 
@@ -54,16 +55,16 @@ module _ (s : ℕ) (u : Streams) (x : Sight) (a : Served) (st : IsStream s u x a
   none_there : (p : ℕ) → m.conns p ≡ None → entry_at p d.connections ≡ None
   none_there p none = by (st.ties.links p)
     where
-      by : LinkFits (desk_of d) m frames x.dues x.ticket p → entry_at p d.connections ≡ None
+      by : LinkFits conf (desk_of d) m frames x.dues x.ticket p → entry_at p d.connections ≡ None
       by (IsNone e f away) = e
       by (IsSome l c at link) = absurd (let z : None ≡ Some c = sym none ∙ link.line.conn in cc)
 
-  link_of : (p : ℕ) (l : Link Request) → entry_at p d.connections ≡ Some l → (c : Conn) × IsLinkAt p (names_at (desk_of d)) l m c (frames p) x.dues x.ticket
+  link_of : (p : ℕ) (l : Link Request) → entry_at p d.connections ≡ Some l → (c : Conn) × IsLinkAt conf p (names_at (desk_of d)) l m c (frames p) x.dues x.ticket
   link_of p l is = by (st.ties.links p)
     where
-      by : LinkFits (desk_of d) m frames x.dues x.ticket p → (c : Conn) × IsLinkAt p (names_at (desk_of d)) l m c (frames p) x.dues x.ticket
+      by : LinkFits conf (desk_of d) m frames x.dues x.ticket p → (c : Conn) × IsLinkAt conf p (names_at (desk_of d)) l m c (frames p) x.dues x.ticket
       by (IsNone e f away) = absurd (let z : None ≡ Some l = sym e ∙ is in cc)
-      by (IsSome k c at link) = (c, subst (λ k. IsLinkAt p (names_at (desk_of d)) k m c (frames p) x.dues x.ticket) (let z : Some k ≡ Some l = sym at ∙ is in cc) link)
+      by (IsSome k c at link) = (c, subst (λ k. IsLinkAt conf p (names_at (desk_of d)) k m c (frames p) x.dues x.ticket) (let z : Some k ≡ Some l = sym at ∙ is in cc) link)
 
   -- nothing was done
   unchanged : (v : View) (o : After Request (Link Request)) → o ≡ Some (d, v) → with_tables u o ≡ Some (u, v)
@@ -100,11 +101,11 @@ module _ (s : ℕ) (u : Streams) (x : Sight) (a : Served) (st : IsStream s u x a
 
   -- A connection that does nothing is put back where it was
   module _ (p : ℕ) (l : Link Request) (is : entry_at p d.connections ≡ Some l) where
-    abbrev link : (c : Conn) × IsLinkAt p (names_at (desk_of d)) l m c (frames p) x.dues x.ticket
+    abbrev link : (c : Conn) × IsLinkAt conf p (names_at (desk_of d)) l m c (frames p) x.dues x.ticket
     link = link_of p l is
 
     live : has_ended l.line.stage ≡ false
-    live = is_open x.dues l.line.idle_time l.line.stage (link.0).mode link.1.line.fits.stage
+    live = is_open conf x.dues l.line.idle_time l.line.stage (link.0).mode link.1.line.fits.stage
 
     same_watches : (o : Option ℕ) → ((i : ℕ) → o ≡ Some i → entry_at i d.watches ≡ Some p) → watched p o (unwatched o d.watches) ≡ d.watches
     same_watches None w = refl

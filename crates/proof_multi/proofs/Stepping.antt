@@ -29,6 +29,7 @@ use Rattle.proof_multi.proofs.Going.{Went}
 use Rattle.proof_multi.proofs.Placing.{PlaceChange, kept_place, placed}
 use Rattle.proof_multi.proofs.Returning.{returns_so}
 use Rattle.proof_multi.proofs.Seated.{is_at, there_at}
+use Rattle.right_trace.specs.Trace.{Conf}
 
 -- The end of a connection
 
@@ -83,18 +84,18 @@ quiet_end p m q r x at = each_number (λ r. (x : Conn) → (end_at p m).conns r 
     (λ r ne x at. q r x (sym (with_there p None m.conns r ne) ∙ at)) r x at
 
 -- The connection l at p, whose call is under way: f says when timers were due before it.
-pub record AtWork (p : ℕ) (l : Link Request) (x : Conn) (s : Server) (m : Multi) (frames : ℕ → List Octets) (v : View) (f : ℕ → Option ℕ) : Type 0 where
-  pub tables : AreTables nothing_under_way (desk_of s) m (dues v)
-  pub links : (q : ℕ) → (p ≡ q → ⊥) → LinkFits (desk_of s) m frames (dues v) v.ticket q
+pub record AtWork (conf : Conf) (p : ℕ) (l : Link Request) (x : Conn) (s : Server) (m : Multi) (frames : ℕ → List Octets) (v : View) (f : ℕ → Option ℕ) : Type 0 where
+  pub tables : AreTables conf nothing_under_way (desk_of s) m (dues v)
+  pub links : (q : ℕ) → (p ≡ q → ⊥) → LinkFits conf (desk_of s) m frames (dues v) v.ticket q
   pub watched : (q : ℕ) (k : Link Request) (i : ℕ) → entry_at q s.connections ≡ Some k → timer_of k.line.stage ≡ Some i → (entry_at i s.watches ≡ Some q) × (entry_at i s.timers ≡ None)
   pub order : AreOrderly s (sight v)
   pub fair : IsFair v
   pub is : entry_at p s.connections ≡ Some l
-  pub line : IsLineAt p (names_at (desk_of s)) l.line m x f v.ticket
+  pub line : IsLineAt conf p (names_at (desk_of s)) l.line m x f v.ticket
 
 -- the tables are the same where the machine's requests are
-pub same_tables : (p : ℕ) (d : Desk) (m n : Multi) (f : ℕ → Option ℕ) → n.asks ≡ m.asks → ((q : ℕ) → (p ≡ q → ⊥) → n.conns q ≡ m.conns q) → n.opening ≡ m.opening → n.calm ≡ m.calm → AreTables nothing_under_way d m f → PlaceChange p [] nothing_under_way nothing_under_way d d m n f f
-same_tables p d m n f asks conns opening calm t = record {
+pub same_tables : (conf : Conf) (p : ℕ) (d : Desk) (m n : Multi) (f : ℕ → Option ℕ) → n.asks ≡ m.asks → ((q : ℕ) → (p ≡ q → ⊥) → n.conns q ≡ m.conns q) → n.opening ≡ m.opening → n.calm ≡ m.calm → AreTables conf nothing_under_way d m f → PlaceChange p [] nothing_under_way nothing_under_way d d m n f f
+same_tables conf p d m n f asks conns opening calm t = record {
   todo = refl;
   before = refl;
   failed = refl;
@@ -113,12 +114,12 @@ same_tables p d m n f asks conns opening calm t = record {
 }
 
 -- a call is under way still, where the machine changed at its place alone
-pub work_on : (p : ℕ) (l : Link Request) (x y : Conn) (s : Server) (m n : Multi) (frames fs : ℕ → List Octets) (v : View) (f : ℕ → Option ℕ) → AtWork p l x s m frames v f → n.asks ≡ m.asks → ((q : ℕ) → (p ≡ q → ⊥) → n.conns q ≡ m.conns q) → n.opening ≡ m.opening → n.calm ≡ m.calm
-    → ((q : ℕ) → (p ≡ q → ⊥) → fs q ≡ frames q) → IsLineAt p (names_at (desk_of s)) l.line n y f v.ticket → AtWork p l y s n fs v f
-work_on p l x y s m n frames fs v f a asks conns opening calm same line =
-    let c = same_tables p (desk_of s) m n (dues v) asks conns opening calm a.tables in record {
-      tables = placed p [] nothing_under_way nothing_under_way (desk_of s) (desk_of s) m n frames (dues v) (dues v) v.ticket v.ticket a.tables c;
-      links = λ q ne. kept_place p [] nothing_under_way nothing_under_way (desk_of s) (desk_of s) m n frames (dues v) (dues v) v.ticket v.ticket a.tables c fs q ne refl (same q ne) (λ k i at own. refl) (le_refl v.ticket) (a.links q ne);
+pub work_on : (conf : Conf) (p : ℕ) (l : Link Request) (x y : Conn) (s : Server) (m n : Multi) (frames fs : ℕ → List Octets) (v : View) (f : ℕ → Option ℕ) → AtWork conf p l x s m frames v f → n.asks ≡ m.asks → ((q : ℕ) → (p ≡ q → ⊥) → n.conns q ≡ m.conns q) → n.opening ≡ m.opening → n.calm ≡ m.calm
+    → ((q : ℕ) → (p ≡ q → ⊥) → fs q ≡ frames q) → IsLineAt conf p (names_at (desk_of s)) l.line n y f v.ticket → AtWork conf p l y s n fs v f
+work_on conf p l x y s m n frames fs v f a asks conns opening calm same line =
+    let c = same_tables conf p (desk_of s) m n (dues v) asks conns opening calm a.tables in record {
+      tables = placed conf p [] nothing_under_way nothing_under_way (desk_of s) (desk_of s) m n frames (dues v) (dues v) v.ticket v.ticket a.tables c;
+      links = λ q ne. kept_place conf p [] nothing_under_way nothing_under_way (desk_of s) (desk_of s) m n frames (dues v) (dues v) v.ticket v.ticket a.tables c fs q ne refl (same q ne) (λ k i at own. refl) (le_refl v.ticket) (a.links q ne);
       watched = a.watched;
       order = a.order;
       fair = a.fair;
@@ -126,20 +127,20 @@ work_on p l x y s m n frames fs v f a asks conns opening calm same line =
       line = line;
     }
 
-module _ (server p : ℕ) (l : Link Request) (x : Conn) (s : Server) (m : Multi) (frames : ℕ → List Octets) (v : View) (f : ℕ → Option ℕ) (a : AtWork p l x s m frames v f) (fs : ℕ → List Octets) (same_frames : (q : ℕ) → (p ≡ q → ⊥) → fs q ≡ frames q)
-    (m0 : Multi) (outs0 : List Out) (made : Act Multi) (runs : Runs server v.now v.place m0 made) (nothing : made.posts ≡ []) (place : made.place ≡ v.place) where
+module _ (conf : Conf) (server p : ℕ) (l : Link Request) (x : Conn) (s : Server) (m : Multi) (frames : ℕ → List Octets) (v : View) (f : ℕ → Option ℕ) (a : AtWork conf p l x s m frames v f) (fs : ℕ → List Octets) (same_frames : (q : ℕ) → (p ≡ q → ⊥) → fs q ≡ frames q)
+    (m0 : Multi) (outs0 : List Out) (made : Act Multi) (runs : Runs conf server v.now v.place m0 made) (nothing : made.posts ≡ []) (place : made.place ≡ v.place) where
   abbrev v0 : View
   v0 = record v { outs = outs0 }
 
   -- it has ended
   pub ended_call : (w : View) (c : Link Request) → HasEnded p (names_at (desk_of s)) m l.line (lent v) w → c.line ≡ ended l.line → made.state ≡ end_at p m → w.outs ≡ outs0 ++ made.outs → (NoneHeard m0 → NoneHeard (end_at p m))
-      → Leads (Went server fs nothing_under_way (desk_of s) m0 v0) (returns (one_stream for_one) p (taken (one_stream for_one) p l s) v (c, w))
-  ended_call w c e is state outs quiet = returns_so server p e.posts frames fs nothing_under_way s l m (end_at p m) v w v.request v.ticket c refl same_frames a.tables a.links a.watched a.order a.fair a.is
+      → Leads (Went conf server fs nothing_under_way (desk_of s) m0 v0) (returns (one_stream for_one) p (taken (one_stream for_one) p l s) v (c, w))
+  ended_call w c e is state outs quiet = returns_so conf server p e.posts frames fs nothing_under_way s l m (end_at p m) v w v.request v.ticket c refl same_frames a.tables a.links a.watched a.order a.fair a.is
       (record {
         aside = λ k away. broken_gone p (m.asks k) away;
         going = λ k b at. (broken_at p b.phase, ap (every (broken_at p)) at);
         conns = λ q ne. with_there p None m.conns q ne;
-        there = λ i k b named at th. inr (e.seats i (is_at p (names_at (desk_of s)) l.line m x f v.ticket a.line i k b named at th));
+        there = λ i k b named at th. inr (e.seats i (is_at conf p (names_at (desk_of s)) l.line m x f v.ticket a.line i k b named at th));
         failing = e.failing;
         timed = subst (λ (line : SingleLine). IsTimed l.line.stage line.stage (lent v) w) (sym is) e.timed;
         opening = refl;
@@ -149,10 +150,10 @@ module _ (server p : ℕ) (l : Link Request) (x : Conn) (s : Server) (m : Multi)
       m0 outs0 made state runs nothing outs (e.at_place ∙ sym place) e.more (le_refl v.ticket) quiet e.put
 
   -- it goes on, and nothing was posted
-  pub kept_call : (n : Multi) (w : View) (c : Link Request) (y : Conn) → n.asks ≡ m.asks → ((q : ℕ) → (p ≡ q → ⊥) → n.conns q ≡ m.conns q) → n.opening ≡ m.opening → n.calm ≡ m.calm → IsTimed l.line.stage c.line.stage (lent v) w → IsLinkAt p (names_at (desk_of s)) c n y (fs p) (dues w) w.ticket
+  pub kept_call : (n : Multi) (w : View) (c : Link Request) (y : Conn) → n.asks ≡ m.asks → ((q : ℕ) → (p ≡ q → ⊥) → n.conns q ≡ m.conns q) → n.opening ≡ m.opening → n.calm ≡ m.calm → IsTimed l.line.stage c.line.stage (lent v) w → IsLinkAt conf p (names_at (desk_of s)) c n y (fs p) (dues w) w.ticket
       → w.board ≡ [] → w.place ≡ v.place → w.more ≡ v.more → made.state ≡ n → w.outs ≡ outs0 ++ made.outs → (NoneHeard m0 → NoneHeard n)
-      → Leads (Went server fs nothing_under_way (desk_of s) m0 v0) (returns (one_stream for_one) p (taken (one_stream for_one) p l s) v (c, w))
-  kept_call n w c y asks conns opening calm timed link board at_place more state outs quiet = returns_so server p [] frames fs nothing_under_way s l m n v w v.request v.ticket c refl same_frames a.tables a.links a.watched a.order a.fair a.is
+      → Leads (Went conf server fs nothing_under_way (desk_of s) m0 v0) (returns (one_stream for_one) p (taken (one_stream for_one) p l s) v (c, w))
+  kept_call n w c y asks conns opening calm timed link board at_place more state outs quiet = returns_so conf server p [] frames fs nothing_under_way s l m n v w v.request v.ticket c refl same_frames a.tables a.links a.watched a.order a.fair a.is
       (record {
         aside = λ k away. ap (λ (g : ℕ → Option Asker). g k) asks;
         going = λ k b at. (b.phase, ap (λ (g : ℕ → Option Asker). g k) asks ∙ at);
@@ -162,26 +163,26 @@ module _ (server p : ℕ) (l : Link Request) (x : Conn) (s : Server) (m : Multi)
         timed = timed;
         opening = opening;
         calm = calm;
-        new = inl (is_open (dues w) c.line.idle_time c.line.stage y.mode link.line.fits.stage, y, link);
+        new = inl (is_open conf (dues w) c.line.idle_time c.line.stage y.mode link.line.fits.stage, y, link);
       })
       m0 outs0 made state runs nothing outs (at_place ∙ sym place) more (le_refl v.ticket) quiet board
 
 -- It took requests from its queue, once the machine changed at its place alone: what was put out before is outs0.
-pub pumped_call : (server p : ℕ) (l : Link Request) (x y : Conn) (s : Server) (m n : Multi) (frames : ℕ → List Octets) (v : View) → AtWork p l x s m frames v (dues v) → IsLinkAt p (names_at (desk_of s)) l m x (frames p) (dues v) v.ticket → n.asks ≡ m.asks → ((q : ℕ) → (p ≡ q → ⊥) → n.conns q ≡ m.conns q) → n.opening ≡ m.opening → n.calm ≡ m.calm → y.got ≡ x.got
-    → (old : SingleLine) → old.stage ≡ l.line.stage → ((i : ℕ) → IsAt l.line i → IsAt old i) → (t : SingleLine) (w : View) → (pumped : HasPumped server p (names_at (desk_of s)) n y old (lent v) t w) → y.heard ≡ false → (outs0 : List Out) → w.outs ≡ outs0 ++ pumped.taken.made.outs
-    → Leads (Went server frames nothing_under_way (desk_of s) n (record v { outs = outs0 })) (returns (one_stream for_one) p (taken (one_stream for_one) p l s) v (record l { line = t }, w))
-pumped_call server p l x y s m n frames v a link asks conns opening calm got old stage seats t w pumped heard outs0 outs =
-    let c = same_tables p (desk_of s) m n (dues v) asks conns opening calm a.tables in
-    returns_so server p pumped.taken.posts frames frames nothing_under_way s l n pumped.taken.made.state v w v.request v.ticket (record l { line = t }) refl (λ q ne. refl)
-    (placed p [] nothing_under_way nothing_under_way (desk_of s) (desk_of s) m n frames (dues v) (dues v) v.ticket v.ticket a.tables c)
-    (λ q ne. kept_place p [] nothing_under_way nothing_under_way (desk_of s) (desk_of s) m n frames (dues v) (dues v) v.ticket v.ticket a.tables c frames q ne refl refl (λ k i at own. refl) (le_refl v.ticket) (a.links q ne))
+pub pumped_call : (conf : Conf) (server p : ℕ) (l : Link Request) (x y : Conn) (s : Server) (m n : Multi) (frames : ℕ → List Octets) (v : View) → AtWork conf p l x s m frames v (dues v) → IsLinkAt conf p (names_at (desk_of s)) l m x (frames p) (dues v) v.ticket → n.asks ≡ m.asks → ((q : ℕ) → (p ≡ q → ⊥) → n.conns q ≡ m.conns q) → n.opening ≡ m.opening → n.calm ≡ m.calm → y.got ≡ x.got
+    → (old : SingleLine) → old.stage ≡ l.line.stage → ((i : ℕ) → IsAt l.line i → IsAt old i) → (t : SingleLine) (w : View) → (pumped : HasPumped conf server p (names_at (desk_of s)) n y old (lent v) t w) → y.heard ≡ false → (outs0 : List Out) → w.outs ≡ outs0 ++ pumped.taken.made.outs
+    → Leads (Went conf server frames nothing_under_way (desk_of s) n (record v { outs = outs0 })) (returns (one_stream for_one) p (taken (one_stream for_one) p l s) v (record l { line = t }, w))
+pumped_call conf server p l x y s m n frames v a link asks conns opening calm got old stage seats t w pumped heard outs0 outs =
+    let c = same_tables conf p (desk_of s) m n (dues v) asks conns opening calm a.tables in
+    returns_so conf server p pumped.taken.posts frames frames nothing_under_way s l n pumped.taken.made.state v w v.request v.ticket (record l { line = t }) refl (λ q ne. refl)
+    (placed conf p [] nothing_under_way nothing_under_way (desk_of s) (desk_of s) m n frames (dues v) (dues v) v.ticket v.ticket a.tables c)
+    (λ q ne. kept_place conf p [] nothing_under_way nothing_under_way (desk_of s) (desk_of s) m n frames (dues v) (dues v) v.ticket v.ticket a.tables c frames q ne refl refl (λ k i at own. refl) (le_refl v.ticket) (a.links q ne))
     a.watched a.order a.fair a.is
     (record {
       aside = pumped.taken.beside.aside;
       going = pumped.taken.beside.going;
       conns = pumped.taken.beside.conns;
-      there = λ i j b named at th. elim (pumped.taken.seats i (seats i (is_at p (names_at (desk_of s)) l.line m x (dues v) v.ticket a.line i j b named (ap (λ (g : ℕ → Option Asker). g j) (sym asks) ∙ at) th))) [
-        | inl g ↦ inl (there_at p (names_at (desk_of s)) t pumped.taken.made.state pumped.taken.conn (dues w) w.ticket pumped.taken.line i j named g)
+      there = λ i j b named at th. elim (pumped.taken.seats i (seats i (is_at conf p (names_at (desk_of s)) l.line m x (dues v) v.ticket a.line i j b named (ap (λ (g : ℕ → Option Asker). g j) (sym asks) ∙ at) th))) [
+        | inl g ↦ inl (there_at conf p (names_at (desk_of s)) t pumped.taken.made.state pumped.taken.conn (dues w) w.ticket pumped.taken.line i j named g)
         | inr g ↦ inr g
       ];
       failing = pumped.taken.failing;
@@ -189,7 +190,7 @@ pumped_call server p l x y s m n frames v a link asks conns opening calm got old
       opening = pumped.taken.beside.opening;
       calm = pumped.taken.beside.calm;
       new = inl (
-        is_open (dues w) t.idle_time t.stage (pumped.taken.conn).mode pumped.taken.line.fits.stage,
+        is_open conf (dues w) t.idle_time t.stage (pumped.taken.conn).mode pumped.taken.line.fits.stage,
         pumped.taken.conn,
         record {
           place = link.place;

@@ -119,12 +119,12 @@ left_is Q o w x l e = subst (Leads Q) e l
 
 module _ (c : Conf) (s : ℕ) where
   -- the phases in which a request may be taken on
-  before_of : (phase : Phase) (next : ℕ) (u : Streams) (v : View) (a : Served) → IsOpen phase next → TiedAs s phase u (sight v) a → (w : What) × IsUntold s w u (sight v) a
+  before_of : (phase : Phase) (next : ℕ) (u : Streams) (v : View) (a : Served) → IsOpen phase next → TiedAs c s phase u (sight v) a → (w : What) × IsUntold c s w u (sight v) a
   before_of (Untold w) next u v a calm t = (w, t)
   before_of (Told p n) next u v a calm t = absurd calm
   before_of (Passed w) next u v a calm t = (w, t.untold)
 
-  sent : (phase : Phase) (u : Streams) (v : View) (a : Served) (r : Request) (w : Streams) (x : View) → IsOpen phase v.place → TiedAs s phase u (sight v) a → IsFair v → IsOfOctets r → holds a v.request ≡ false
+  sent : (phase : Phase) (u : Streams) (v : View) (a : Served) (r : Request) (w : Streams) (x : View) → IsOpen phase v.place → TiedAs c s phase u (sight v) a → IsFair v → IsOfOctets r → holds a v.request ≡ false
       → by_streams.send r u v ≡ Some (w, x) → (x.board ≡ v.board) × (x.more ≡ v.more)
   sent phase u v a r w x calm t fair octets free e = (let b = before_of phase v.place u v a calm t in
       left_is (λ x y. (y.board ≡ v.board) × (y.more ≡ v.more)) (by_streams.send r u v) w x (posts_none c s u v a b.0 r b.1 fair octets free) e)
@@ -136,10 +136,10 @@ one_place w p a at none q also = subst (λ q. has_place a q ≡ false) (let z : 
 pub streams_are_shared : StreamsAreShared
 streams_are_shared c s = record {
   knows = λ u i. knows_timer u i;
-  timers = λ phase u v a i t free. others_fire s u (sight v) a (stream_of s phase u (sight v) a t) v i free;
-  ignores = λ u v a w p t at none. passes_by s u (sight v) a t.stream w v (apart_foreign s w a (one_place w p a at none));
+  timers = λ phase u v a i t free. others_fire c s u (sight v) a (stream_of c s phase u (sight v) a t) v i free;
+  ignores = λ u v a w p t at none. passes_by c s u (sight v) a t.stream w v (apart_foreign c s w a (one_place w p a at none));
   passes = λ u x a w p t at none early. record { untold = t; early = early; apart = one_place w p a at none };
-  frames = λ u v a w p t at. nothing_read s u (sight v) a t.untold.stream v p (ap (λ (fs : List Octets). frames_at a.place fs p) t.untold.frames ∙ frames_none s a.place p);
+  frames = λ u v a w p t at. nothing_read c s u (sight v) a t.untold.stream v p (ap (λ (fs : List Octets). frames_at a.place fs p) t.untold.frames ∙ frames_none c s a.place p);
   alone = λ phase u v a r w x calm t fair octets free e. inl (sent c s phase u v a r w x calm t fair octets free e).0;
   says_none = λ phase u v a r w x calm t fair octets free e. (sent c s phase u v a r w x calm t fair octets free e).1;
   keeps_more = λ phase u v a r w x calm t e. sym (ap (more_or v.more) e) ∙ gives_up_still u v r;

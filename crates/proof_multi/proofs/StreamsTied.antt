@@ -16,7 +16,7 @@ use Rattle.proof_multi.proofs.Hearing.{tells_one}
 use Rattle.proof_multi.proofs.Passing.{takes_on, gives_up}
 use Rattle.proof_multi.proofs.Tying.{timer_fires}
 
-told_of : (c : Conf) (s : ℕ) (u : Streams) (v : View) (a : Served) (w : What) → IsUntold s w u (sight v) a → IsFair v → AreEarly (desk_of u.tables) (sight v) → v.more ≡ false → Leads (Tells (served c) (TiedAs s) names_of owns (Chain (served c) s v.place a) u v (MayLeave w)) (by_streams.step (told w) u v)
+told_of : (c : Conf) (s : ℕ) (u : Streams) (v : View) (a : Served) (w : What) → IsUntold c s w u (sight v) a → IsFair v → AreEarly (desk_of u.tables) (sight v) → v.more ≡ false → Leads (Tells (served c) (TiedAs c s) names_of owns (Chain (served c) s v.place a) u v (MayLeave w)) (by_streams.step (told w) u v)
 told_of c s u v a (Ask r) t fair early calm = tells_one c s u v a (Ask r) t fair early calm (λ p o e. cc)
 told_of c s u v a (Opened p) t fair early calm = tells_one c s u v a (Opened p) t fair early calm (λ q o e. cc)
 told_of c s u v a (OpenFailed p f) t fair early calm = tells_one c s u v a (OpenFailed p f) t fair early calm (λ q o e. cc)
@@ -32,16 +32,16 @@ told_of c s u v a (Ended p) t fair early calm = tells_one c s u v a (Ended p) t 
 told_of c s u v a Tick t fair early calm = tells_one c s u v a Tick t fair early calm (λ q o e. cc)
 
 pub streams_are_tied : StreamsAreTiedAs
-streams_are_tied c s used = record {
-  fresh = λ x now. begins_fresh s x now;
-  same = λ phase u x y a t now due timer ticket place. stays_same s phase u x y a t now due timer ticket place;
-  set = λ phase u x a i t o. has_set s phase u x a i t o;
-  named = λ phase u x a i k t e. is_named s phase u x a i k t e;
-  held = λ phase u x a k t e. is_held s phase u x a k t e;
+streams_are_tied c s several used = record {
+  fresh = λ x now. begins_fresh c s several x now;
+  same = λ phase u x y a t now due timer ticket place. stays_same c s phase u x y a t now due timer ticket place;
+  set = λ phase u x a i t o. has_set c s phase u x a i t o;
+  named = λ phase u x a i k t e. is_named c s phase u x a i k t e;
+  held = λ phase u x a k t e. is_held c s phase u x a k t e;
   response = λ r u v. refl;
-  quiet = λ phase u x a was t. none_due s phase u x a was t;
-  begins = λ phase u x a e end t. row_begins s phase u x a e end t;
-  rests = λ phase u v a end early t. it_rests s phase u v a end early t;
+  quiet = λ phase u x a was t. none_due c s phase u x a was t;
+  begins = λ phase u x a e end t. row_begins c s phase u x a e end t;
+  rests = λ phase u v a end early t. it_rests c s phase u v a end early t;
   fires = λ u v a w i due t fair set late. timer_fires c s u v a w i due t fair set late;
   sends = λ phase u v a r calm t fair octets free. takes_on c s used phase u v a r calm t fair octets free;
   cancels = λ phase u v a r k calm t fair named. gives_up c s phase u v a r k calm t fair named;

@@ -19,6 +19,7 @@ use Rattle.proof_parts.specs.Lines.{Sorted}
 use Rattle.proof_parts.specs.Octets.{IsLinkAt}
 use Rattle.proof_parts.specs.Seats.{IsAway}
 use Rattle.proof_parts.specs.Sights.{Sight, sight, Rising, IsFair}
+use Rattle.right_trace.specs.Trace.{Conf}
 
 -- it is one of these
 abbrev pub IsListed : ℕ → List ℕ → Type 0
@@ -91,27 +92,27 @@ pub data StageFits (y : UnderWay) (d : Desk) (due : ℕ → Option ℕ) (t : ℕ
   IsToHand : IsLoose t phase y.todo → at ≡ Waiting → (phase ≡ Free) ⊎ (phase ≡ Broken) → StageFits y d due t at phase
 
 -- request and timer of ticket t
-pub record JobFits (y : UnderWay) (d : Desk) (m : Multi) (due : ℕ → Option ℕ) (t : ℕ) (job : Job Request) : Type 0 where
+pub record JobFits (c : Conf) (y : UnderWay) (d : Desk) (m : Multi) (due : ℕ → Option ℕ) (t : ℕ) (job : Job Request) : Type 0 where
   pub ask : Asker
   pub is : m.asks job.number ≡ Some ask
   pub request : job.request ≡ ask.request
   pub octets : IsOfOctets ask.request
   pub end : d.timers job.end ≡ Some t
-  pub over : due job.end ≡ Some (ask.since + stream_timeout)
+  pub over : due job.end ≡ Some (ask.since + stream_timeout c)
   pub stage : StageFits y d due t job.stage ask.phase
 
 -- A connection is there for both, or for neither, and then nobody is there. `frames` has what still is to be taken at each place.
-pub data LinkFits (d : Desk) (m : Multi) (frames : ℕ → List Octets) (due : ℕ → Option ℕ) (ticket p : ℕ) : Type 0 where
-  IsNone : d.links p ≡ None → m.conns p ≡ None → ((k : ℕ) → IsAway p (m.asks k)) → LinkFits d m frames due ticket p
-  IsSome : (l : Link Request) (x : Conn) → d.links p ≡ Some l → IsLinkAt p (names_at d) l m x (frames p) due ticket → LinkFits d m frames due ticket p
+pub data LinkFits (c : Conf) (d : Desk) (m : Multi) (frames : ℕ → List Octets) (due : ℕ → Option ℕ) (ticket p : ℕ) : Type 0 where
+  IsNone : d.links p ≡ None → m.conns p ≡ None → ((k : ℕ) → IsAway p (m.asks k)) → LinkFits c d m frames due ticket p
+  IsSome : (l : Link Request) (x : Conn) → d.links p ≡ Some l → IsLinkAt c p (names_at d) l m x (frames p) due ticket → LinkFits c d m frames due ticket p
 
 -- a request that is to back off
 abbrev pub IsBroken : (k : ℕ) → Multi → Type 0
 IsBroken k m = (a : Asker) × (m.asks k ≡ Some a) × (a.phase ≡ Broken)
 
 -- The tables of requests and the machine agree, but for what is under way.
-pub record AreTables (y : UnderWay) (d : Desk) (m : Multi) (due : ℕ → Option ℕ) : Type 0 where
-  pub jobs : (t : ℕ) (job : Job Request) → d.jobs t ≡ Some job → JobFits y d m due t job
+pub record AreTables (c : Conf) (y : UnderWay) (d : Desk) (m : Multi) (due : ℕ → Option ℕ) : Type 0 where
+  pub jobs : (t : ℕ) (job : Job Request) → d.jobs t ≡ Some job → JobFits c y d m due t job
   pub asked : (k : ℕ) (a : Asker) → m.asks k ≡ Some a → (t : ℕ) × (job : Job Request) × (d.jobs t ≡ Some job) × (job.number ≡ k)
   pub apart : (t u : ℕ) (job other : Job Request) → d.jobs t ≡ Some job → d.jobs u ≡ Some other → job.number ≡ other.number → t ≡ u
   pub timers : (i t : ℕ) → d.timers i ≡ Some t → (job : Job Request) × (d.jobs t ≡ Some job) × ((job.end ≡ i) ⊎ (job.stage ≡ Resting i))
@@ -123,9 +124,9 @@ pub record AreTables (y : UnderWay) (d : Desk) (m : Multi) (due : ℕ → Option
   pub calm : d.calm ≤ m.calm
 
 -- So do the connections: the place and the timer of each are known, and its timer is no request's.
-pub record IsServer (y : UnderWay) (d : Desk) (m : Multi) (frames : ℕ → List Octets) (due : ℕ → Option ℕ) (ticket : ℕ) : Type 0 where
-  pub tables : AreTables y d m due
-  pub links : (p : ℕ) → LinkFits d m frames due ticket p
+pub record IsServer (c : Conf) (y : UnderWay) (d : Desk) (m : Multi) (frames : ℕ → List Octets) (due : ℕ → Option ℕ) (ticket : ℕ) : Type 0 where
+  pub tables : AreTables c y d m due
+  pub links : (p : ℕ) → LinkFits c d m frames due ticket p
   pub watched : (p : ℕ) (l : Link Request) (i : ℕ) → d.links p ≡ Some l → timer_of l.line.stage ≡ Some i → (d.watches i ≡ Some p) × (d.timers i ≡ None)
 
 -- The keys of each table rise, and are numbers that were drawn.
@@ -147,7 +148,7 @@ abbrev pub Owns : Desk → (timer : ℕ) → Type 0
 Owns d i = ((t : ℕ) × (d.timers i ≡ Some t)) ⊎ ((p : ℕ) × (l : Link Request) × (d.links p ≡ Some l) × (timer_of l.line.stage ≡ Some i))
 
 -- all this of the tables and of a view
-pub record Stands (y : UnderWay) (d : Desk) (s : Server) (m : Multi) (frames : ℕ → List Octets) (v : View) : Type 0 where
-  pub server : IsServer y d m frames (dues v) v.ticket
+pub record Stands (c : Conf) (y : UnderWay) (d : Desk) (s : Server) (m : Multi) (frames : ℕ → List Octets) (v : View) : Type 0 where
+  pub server : IsServer c y d m frames (dues v) v.ticket
   pub order : AreOrderly s (sight v)
   pub fair : IsFair v

@@ -4,7 +4,6 @@ ghost use Rattle.proof_multi.specs.Tied.{StreamsAreShared, StreamsAreTiedAs};
 
 /// Each call of reconnection leaves what moves of `proof_right`'s machine leave: it is tied to the part of each server that
 /// is used by streams alone.
-#[tactic(auto, using(crate::proofs::StreamsTied::streams_are_tied))]
 pub fn streams_are_tied()
     ensures { StreamsAreTiedAs }
 {}

@@ -31,6 +31,7 @@ use Rattle.proof_parts.proofs.Seating.{lines_up, leaves_queue, leaves_id}
 use Rattle.proof_parts.proofs.Tables.{rises_below, sorted_puts, sorted_frees, puts_path, frees_path, more_by_puts, fewer_by_frees, present_below}
 use Rattle.proof_parts.proofs.Taking.{same_seats}
 use mathlib.Core.Path.{fun_ext}
+use Rattle.right_trace.specs.Trace.{Conf}
 
 up : (n : ℕ) → n ≤ n + 1
 up n = omega arith
@@ -46,12 +47,12 @@ leads_as P Q None l g = tt
 leads_as P Q (Some y) l g = g y.0 y.1 l
 
 -- A line at one of its stages has not ended.
-pub is_open : (d : ℕ → Option ℕ) (idle : ℕ) (own : LineStage) (mode : Mode) → StageFits d idle own mode → has_ended own ≡ false
-is_open d idle own mode (IsNew e m) = ap has_ended e
-is_open d idle own mode (IsActive timer since e m due) = ap has_ended e
-is_open d idle own mode (IsIdle timer since e m due) = ap has_ended e
+pub is_open : (c : Conf) (d : ℕ → Option ℕ) (idle : ℕ) (own : LineStage) (mode : Mode) → StageFits c d idle own mode → has_ended own ≡ false
+is_open c d idle own mode (IsNew e m) = ap has_ended e
+is_open c d idle own mode (IsActive timer since e m due) = ap has_ended e
+is_open c d idle own mode (IsIdle timer since e m due) = ap has_ended e
 
-module _ (server p : ℕ) (settings : Settings) (set : settings.response_timeout ≡ response_timeout) (names : ℕ → Option ℕ) (m : Multi) (x : Conn) (s : SingleLine) (v : View) (line : IsLineAt p names s m x (dues v) v.ticket) (fair : IsFair v) where
+module _ (c : Conf) (server p : ℕ) (settings : Settings) (set : settings.response_timeout ≡ response_timeout c) (names : ℕ → Option ℕ) (m : Multi) (x : Conn) (s : SingleLine) (v : View) (line : IsLineAt c p names s m x (dues v) v.ticket) (fair : IsFair v) where
   -- A request that is nowhere is queued, under the next ticket
 
   module _ (k : ℕ) (a : Asker) (is : m.asks k ≡ Some a) (away : IsAway p (m.asks k)) (new : names v.ticket ≡ None) (alone : (j : ℕ) → names j ≡ Some k → ⊥) (number : v.request ≡ k) (octets : IsOfOctets a.request) (heard : x.heard ≡ false) where
@@ -64,7 +65,7 @@ module _ (server p : ℕ) (settings : Settings) (set : settings.response_timeout
     abbrev lined : SingleLine
     lined = lined_up a s v
 
-    pub line_lined : IsLineAt p (with_at v.ticket (Some k) names) lined (move k a (Lined p) m) x (dues drawn) drawn.ticket
+    pub line_lined : IsLineAt c p (with_at v.ticket (Some k) names) lined (move k a (Lined p) m) x (dues drawn) drawn.ticket
     line_lined = record {
       conn = line.conn;
       seated = subst (AreSeated p (with_at v.ticket (Some k) names))
@@ -86,22 +87,22 @@ module _ (server p : ℕ) (settings : Settings) (set : settings.response_timeout
     fair_drawn : IsFair drawn
     fair_drawn = record { order = fair.order; words = fair.words }
 
-    pub queues_so : Leads (HasPumped server p (with_at v.ticket (Some k) names) (move k a (Lined p) m) x lined drawn) (takes_on for_one for_several p settings (Single a.request) s v)
-    queues_so = by (can_draw v.ticket) (has_ended s.stage) (is_open (dues v) s.idle_time s.stage x.mode line.fits.stage)
+    pub queues_so : Leads (HasPumped c server p (with_at v.ticket (Some k) names) (move k a (Lined p) m) x lined drawn) (takes_on for_one for_several p settings (Single a.request) s v)
+    queues_so = by (can_draw v.ticket) (has_ended s.stage) (is_open c (dues v) s.idle_time s.stage x.mode line.fits.stage)
       where
-        by : (b e : Bool) → e ≡ false → Leads (HasPumped server p (with_at v.ticket (Some k) names) (move k a (Lined p) m) x lined drawn)
+        by : (b e : Bool) → e ≡ false → Leads (HasPumped c server p (with_at v.ticket (Some k) names) (move k a (Lined p) m) x lined drawn)
             (option_and_then (λ w. if e then Some (s, record w { board = w.board ++ record { ticket = v.ticket; part = Err errors.ConnectionClosed; is_stale = false } ∷ [] }) else pumps for_one for_several p settings (puts v.ticket waiting s.queue) lined w) (if b then Some drawn else None))
         by false e f = tt
         by true true f = absurd (cc)
-        by true false f = pumps_so server p settings set (with_at v.ticket (Some k) names) (puts v.ticket waiting s.queue) (move k a (Lined p) m) x lined drawn line_lined fair_drawn refl heard
+        by true false f = pumps_so c server p settings set (with_at v.ticket (Some k) names) (puts v.ticket waiting s.queue) (move k a (Lined p) m) x lined drawn line_lined fair_drawn refl heard
 
 -- One is given up
 
 gone : (p : ℕ) → IsAway p None
 gone p = record { lined = λ a e g. (let z : None ≡ Some a = e in cc); holding = λ a d e g. (let z : None ≡ Some a = e in cc) }
 
-module _ (p : ℕ) (names : ℕ → Option ℕ) (m : Multi) (x : Conn) (s : SingleLine) (v : View) (line : IsLineAt p names s m x (dues v) v.ticket) (i k : ℕ) (named : names i ≡ Some k) where
-  from_queue : (w : QueuedRequest Request Request) → entry_at i s.queue ≡ Some w → IsLineAt p names (record s { queue = frees i s.queue }) (drop k m) x (dues v) v.ticket
+module _ (c : Conf) (p : ℕ) (names : ℕ → Option ℕ) (m : Multi) (x : Conn) (s : SingleLine) (v : View) (line : IsLineAt c p names s m x (dues v) v.ticket) (i k : ℕ) (named : names i ≡ Some k) where
+  from_queue : (w : QueuedRequest Request Request) → entry_at i s.queue ≡ Some w → IsLineAt c p names (record s { queue = frees i s.queue }) (drop k m) x (dues v) v.ticket
   from_queue w e = record {
     conn = line.conn;
     seated = subst (AreSeated p names)
@@ -120,7 +121,7 @@ module _ (p : ℕ) (names : ℕ → Option ℕ) (m : Multi) (x : Conn) (s : Sing
     };
   }
 
-  from_id : (id : ℕ) (r : Request) → entry_at i s.ids ≡ Some id → entry_at id s.held.held ≡ Some (Waits i r) → IsLineAt p names (record s { ids = frees i s.ids; held = inserted_at id GivenUp (removed id s.held) }) (drop k m) x (dues v) v.ticket
+  from_id : (id : ℕ) (r : Request) → entry_at i s.ids ≡ Some id → entry_at id s.held.held ≡ Some (Waits i r) → IsLineAt c p names (record s { ids = frees i s.ids; held = inserted_at id GivenUp (removed id s.held) }) (drop k m) x (dues v) v.ticket
   from_id id r own at = record {
     conn = line.conn;
     seated = subst (AreSeated p names)
@@ -156,10 +157,10 @@ module _ (p : ℕ) (names : ℕ → Option ℕ) (m : Multi) (x : Conn) (s : Sing
       none e = let z = sym (ap (entry_at id) e) ∙ at in cc
 
   -- whoever it was, it is no more
-  pub gives_up_so : ((w : QueuedRequest Request Request) × (entry_at i s.queue ≡ Some w)) ⊎ ((entry_at i s.queue ≡ None) × (id : ℕ) × (entry_at i s.ids ≡ Some id)) → IsLineAt p names (gives_up i s) (drop k m) x (dues v) v.ticket
-  gives_up_so (inl e) = subst (λ o. IsLineAt p names (if is_some o then record s { queue = frees i s.queue } else gives_up_id i s (entry_at i s.ids)) (drop k m) x (dues v) v.ticket) (sym e.1) (from_queue e.0 e.1)
+  pub gives_up_so : ((w : QueuedRequest Request Request) × (entry_at i s.queue ≡ Some w)) ⊎ ((entry_at i s.queue ≡ None) × (id : ℕ) × (entry_at i s.ids ≡ Some id)) → IsLineAt c p names (gives_up i s) (drop k m) x (dues v) v.ticket
+  gives_up_so (inl e) = subst (λ o. IsLineAt c p names (if is_some o then record s { queue = frees i s.queue } else gives_up_id i s (entry_at i s.ids)) (drop k m) x (dues v) v.ticket) (sym e.1) (from_queue e.0 e.1)
   gives_up_so (inr e) =
       let t = line.seated.by_ticket i e.1 e.2 in
-      subst (λ o. IsLineAt p names (if is_some o then record s { queue = frees i s.queue } else gives_up_id i s (entry_at i s.ids)) (drop k m) x (dues v) v.ticket) (sym e.0)
-      (subst (λ o. IsLineAt p names (gives_up_id i s o) (drop k m) x (dues v) v.ticket) (sym e.2)
-      (subst (λ o. IsLineAt p names (record s { ids = frees i s.ids; held = plain_leaves_id e.1 s.held o }) (drop k m) x (dues v) v.ticket) (sym t.1) (from_id e.1 t.0 e.2 t.1)))
+      subst (λ o. IsLineAt c p names (if is_some o then record s { queue = frees i s.queue } else gives_up_id i s (entry_at i s.ids)) (drop k m) x (dues v) v.ticket) (sym e.0)
+      (subst (λ o. IsLineAt c p names (gives_up_id i s o) (drop k m) x (dues v) v.ticket) (sym e.2)
+      (subst (λ o. IsLineAt c p names (record s { ids = frees i s.ids; held = plain_leaves_id e.1 s.held o }) (drop k m) x (dues v) v.ticket) (sym t.1) (from_id e.1 t.0 e.2 t.1)))

@@ -39,6 +39,7 @@ use Rattle.proof_parts.proofs.Tables.{sorted_frees, frees_path, fewer_by_frees}
 use Rattle.proof_parts.proofs.Taking.{same_seats}
 use Rattle.proof_parts.proofs.Waits.{idle_is_told}
 use mathlib.Core.Path.{fun_ext}
+use Rattle.right_trace.specs.Trace.{Conf}
 
 leads_on : (P Q : SingleLine → View → Type 0) (f : SingleLine → View → Option (SingleLine × View)) (o : Option (SingleLine × View)) → Leads P o → ((t : SingleLine) (u : View) → P t u → Leads Q (f t u)) → Leads Q (option_and_then (λ y. f y.0 y.1) o)
 leads_on P Q f None l g = tt
@@ -55,9 +56,9 @@ part_so f r a id e = ap (λ b. if b then Ok (Some f) else Err errors.WrongReplyF
     by true = refl
     by false = refl
 
-module _ (p : ℕ) (names : ℕ → Option ℕ) (m : Multi) (x : Conn) (s : SingleLine) (v : View) (line : IsLineAt p names s m x (dues v) v.ticket) (fair : IsFair v) (settled : s.writing ≡ None → s.queue ≡ []) (f : Octets) where
+module _ (c : Conf) (p : ℕ) (names : ℕ → Option ℕ) (m : Multi) (x : Conn) (s : SingleLine) (v : View) (line : IsLineAt c p names s m x (dues v) v.ticket) (fair : IsFair v) (settled : s.writing ≡ None → s.queue ≡ []) (f : Octets) where
   abbrev P : SingleLine → View → Type 0
-  P t w = HasHeard p names m x s v f t w
+  P t w = HasHeard c p names m x s v f t w
 
   abbrev id : ℕ
   id = id_in f
@@ -82,7 +83,7 @@ module _ (p : ℕ) (names : ℕ → Option ℕ) (m : Multi) (x : Conn) (s : Sing
         own i e = let g : v.timers.next ≡ i = cc in omega arith
 
     fits_so : (held : IdTable (Holder Request Request)) (ids : List (ℕ × ℕ)) → IsInOrder held → length held.held ≤ 32768 → Sorted 0 w.ticket ids → (u : View) → dues u ≡ dues w → u.ticket ≡ w.ticket
-        → LineFits (record now_active { held = held; ids = ids }) (framed f (Active v.now) x) (dues u) u.ticket
+        → LineFits c (record now_active { held = held; ids = ids }) (framed f (Active v.now) x) (dues u) u.ticket
     fits_so held ids order few sorted u same ticket = record {
       stage = lines.IsActive v.timers.next v.now refl refl (ap (λ (g : ℕ → Option ℕ). g v.timers.next) same ∙ (r.here ∙ ap (λ n. Some (v.now + n + 1)) line.fits.timeout));
       writing = line.fits.writing;
@@ -133,7 +134,7 @@ module _ (p : ℕ) (names : ℕ → Option ℕ) (m : Multi) (x : Conn) (s : Sing
     -- it was given up
     late : entry_at (message_id f) s.held.held ≡ Some GivenUp → (y : Written) → entry_at id s.held.held ≡ Some GivenUp → x.ids id ≡ Some y → ((a : Asker) → m.asks y.request ≡ Some a → a.phase ≢ multi.Holding p id)
         → Leads P (becomes_idle_if_unused p (record now_active { held = freed }) w)
-    late there y here wr absent = settles_so p names m x s v line fair settled f good m Nothing (record now_active { held = freed }) w refl refl refl (λ k a e. e)
+    late there y here wr absent = settles_so c p names m x s v line fair settled f good m Nothing (record now_active { held = freed }) w refl refl refl (λ k a e. e)
         (λ mode l. multi.IsLate x y mode line.conn good wr absent l)
         (λ next u asks board. GaveNothing refl (board ∙ r.alike.board) asks)
         (subst (AreSeated p names) (same_seats (record (seats_of s m.asks x.ids) { held = with_at id None (table s.held.held); written = with_at id None x.ids }) (seats_of (record now_active { held = freed }) m.asks (with_at id None x.ids)) (sym freed_path) refl refl refl refl)
@@ -143,7 +144,7 @@ module _ (p : ℕ) (names : ℕ → Option ℕ) (m : Multi) (x : Conn) (s : Sing
     -- its result came
     result : (i k : ℕ) (q : Request) (y : Written) → entry_at (message_id f) s.held.held ≡ Some (Waits i q) → entry_at id s.held.held ≡ Some (Waits i q) → x.ids id ≡ Some y → y.request ≡ k → names i ≡ Some k → IsSent p id k q m.asks
         → Leads P (becomes_idle_if_unused p (record now_active { held = freed; ids = frees i s.ids }) (answers i (part_of for_one for_several f q) w))
-    result i k q y there here wr rq named sent = settles_so p names m x s v line fair settled f good (drop y.request m) (Gives y.request (result_of sent.ask.request id f)) (record now_active { held = freed; ids = frees i s.ids }) (answers i (part_of for_one for_several f q) w) refl refl refl
+    result i k q y there here wr rq named sent = settles_so c p names m x s v line fair settled f good (drop y.request m) (Gives y.request (result_of sent.ask.request id f)) (record now_active { held = freed; ids = frees i s.ids }) (answers i (part_of for_one for_several f q) w) refl refl refl
         (λ j a e. (was_there y.request m.asks j a e).1)
         (λ mode l. multi.IsResult x y mode sent.ask line.conn good wr (ap m.asks rq ∙ sent.is) sent.phase l)
         (λ next u asks board. GaveResult i y.request (result_of sent.ask.request id f) refl (named ∙ ap Some (sym rq))

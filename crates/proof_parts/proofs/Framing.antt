@@ -24,7 +24,7 @@ use Rattle.client_request.specs.declared.error.Error.{Error}
 use Rattle.client_stream.specs.Plain.{framed, if_short, frame_of, readied}
 use Rattle.right_trace.specs.Messages.{CarriesInFrame, answers, is_valid, base_is_read, passes_count, has_too_many, fits, size_of}
 use Rattle.proof_right.proofs.Carried.{said_id}
-use Rattle.proof_right.proofs.Composing.{composed_composes}
+use Rattle.proof_right.proofs.Composing.{composed_refused}
 use Rattle.proof_parts.specs.Framed.{FramesCarry}
 use Rattle.proof_parts.proofs.Sizes.{Entries, contents_with, spelled, composed_size}
 
@@ -251,7 +251,7 @@ not_written r id w h is none e = by (long_or_refused (composed w) none)
     too_long n a b c d f g h i j k = omega arith
 
     by : NotFramed (composed w) → ⊥
-    by (IsRefused fault f) = elim (composed_composes.refused w fault (octets_readied id r w h is) f) [
+    by (IsRefused fault f) = elim (composed_refused w fault (octets_readied id r w h is) f) [
       | inl g ↦ (let a = sym (read_readied id r w is) ∙ g.1 in let b = v.read in cc)
       | inr g ↦ (let a = sym (counts_readied id r w entries is) ∙ g.1 in let b = v.few in cc)
     ]

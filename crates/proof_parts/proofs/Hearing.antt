@@ -30,6 +30,7 @@ use Rattle.proof_parts.proofs.Ending.{ends_so}
 use Rattle.proof_parts.proofs.FirstKeys.{at_first}
 use Rattle.proof_parts.proofs.Keys.{with_here, with_there}
 use Rattle.proof_parts.proofs.Retiming.{timed_then, becomes_so}
+use Rattle.right_trace.specs.Trace.{Conf}
 
 two_of_four : (octets : List ℕ) → u16_at (take 4 octets) 0 ≡ u16_at octets 0
 two_of_four [] = refl
@@ -70,9 +71,9 @@ none_held s e = by (length s.held.held == 0) (length s.queue == 0) refl refl e
     by true false f g e = absurd (cc)
     by false b f g e = absurd (cc)
 
-module _ (p : ℕ) (names : ℕ → Option ℕ) (m : Multi) (x : Conn) (s : SingleLine) (v : View) (line : IsLineAt p names s m x (dues v) v.ticket) (fair : IsFair v) (settled : s.writing ≡ None → s.queue ≡ []) (f : Octets) where
+module _ (c : Conf) (p : ℕ) (names : ℕ → Option ℕ) (m : Multi) (x : Conn) (s : SingleLine) (v : View) (line : IsLineAt c p names s m x (dues v) v.ticket) (fair : IsFair v) (settled : s.writing ≡ None → s.queue ≡ []) (f : Octets) where
   abbrev P : SingleLine → View → Type 0
-  P t w = HasHeard p names m x s v f t w
+  P t w = HasHeard c p names m x s v f t w
 
   abbrev id : ℕ
   id = id_in f
@@ -86,7 +87,7 @@ module _ (p : ℕ) (names : ℕ → Option ℕ) (m : Multi) (x : Conn) (s : Sing
       (takes : (mode : Mode) → LeavesMode m p (framed f mode x) v.now mode → TakesFrame v.now p f m act (set_conn p (framed f mode x) n))
       (gave : (next : Multi) (u : View) → next.asks ≡ n.asks → u.board ≡ w.board → Gave names m next v u act)
       (seated : AreSeated p names (seats_of t n.asks (with_at id None x.ids)))
-      (fits : LineFits t (framed f (Active v.now) x) (dues w) w.ticket) (timed : IsTimed s.stage t.stage v w) (outs : w.outs ≡ v.outs) (ticket : w.ticket ≡ v.ticket) (place : w.place ≡ v.place) (more : w.more ≡ v.more)
+      (fits : LineFits c t (framed f (Active v.now) x) (dues w) w.ticket) (timed : IsTimed s.stage t.stage v w) (outs : w.outs ≡ v.outs) (ticket : w.ticket ≡ v.ticket) (place : w.place ≡ v.place) (more : w.more ≡ v.more)
       (same_writing : t.writing ≡ s.writing) (same_queue : t.queue ≡ s.queue) where
     same_conns : (mode : Mode) (q : ℕ) → (p ≡ q → ⊥) → (set_conn p (framed f mode x) n).conns q ≡ m.conns q
     same_conns mode q ne = with_there p (Some (framed f mode x)) n.conns q ne ∙ ap (λ (g : ℕ → Option Conn). g q) conns

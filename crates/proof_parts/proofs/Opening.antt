@@ -90,50 +90,50 @@ set_within q y x m at = sets m (with_at q (Some y) m.conns) m.opening (λ p h. w
 end_within : (q : ℕ) (m : Multi) → Within (stream_has (end_at q m)) (stream_has m)
 end_within q m = sets m (with_at q None m.conns) m.opening (λ p h. with_none q m.conns p h) refl
 
-moves_open : (s n next : ℕ) (m : Multi) (x : multi.Act) (k : Multi) → Moves s n next m x k → Opened next (place_after x next) (stream_has k) (stream_has m)
-moves_open s n next m _ _ (multi.Joins k a p x at phase conn) = none_opened next (stream_has m) (stream_has m) (same_stream m)
-moves_open s n next m _ _ (multi.Expects k a p at phase opening) = none_opened next (stream_has m) (stream_has m) (same_stream m)
-moves_open s n next m _ _ (multi.Opens k a at phase none full) = (
+moves_open : (conf : Conf) (s n next : ℕ) (m : Multi) (x : multi.Act) (k : Multi) → Moves conf s n next m x k → Opened next (place_after x next) (stream_has k) (stream_has m)
+moves_open conf s n next m _ _ (multi.Joins k a p x at phase conn) = none_opened next (stream_has m) (stream_has m) (same_stream m)
+moves_open conf s n next m _ _ (multi.Expects k a p at phase opening) = none_opened next (stream_has m) (stream_has m) (same_stream m)
+moves_open conf s n next m _ _ (multi.Opens k a at phase none full) = (
   up next,
   λ p h. elim (either (is_some (m.conns p)) (is_this p (Some next)) h) [
     | inl c ↦ inl (left_of (is_some (m.conns p)) (is_this p m.opening) c)
     | inr o ↦ inr (only next p (is_next next p o))
   ],
 )
-moves_open s n next m _ _ (multi.Meets k a until at phase calm late soon) = none_opened next (stream_has m) (stream_has m) (same_stream m)
-moves_open s n next m _ _ (multi.BacksOff k a until at phase late soon) = none_opened next (stream_has m) (stream_has m) (same_stream m)
-moves_open s n next m _ _ (multi.Writes k a p x id o at phase conn left heard free carries long) = (le_refl next, λ q h. inl (set_within p (multi.written_on id k n o x) x m conn q h))
-moves_open s n next m _ _ (multi.CannotWrite k a p x at phase conn left valid) = (le_refl next, λ q h. inl (set_within p (multi.taken_on n x) x m conn q h))
-moves_open s n next m _ _ (multi.FindsNoId k a p x at phase conn left full) = none_opened next (stream_has m) (stream_has m) (same_stream m)
-moves_open s n next m _ _ (multi.GoesOn k a until at phase late) = none_opened next (stream_has m) (stream_has m) (same_stream m)
-moves_open s n next m _ _ (multi.TimesOut k a at late) = none_opened next (stream_has m) (stream_has m) (same_stream m)
-moves_open s n next m _ _ (multi.ReadsNothing p x since conn mode late) = (le_refl next, λ q h. inl (end_within p m q h))
-moves_open s n next m _ _ (multi.RestsTooLong p x since conn mode late lined) = (le_refl next, λ q h. inl (end_within p m q h))
+moves_open conf s n next m _ _ (multi.Meets k a until at phase calm late soon) = none_opened next (stream_has m) (stream_has m) (same_stream m)
+moves_open conf s n next m _ _ (multi.BacksOff k a until at phase late soon) = none_opened next (stream_has m) (stream_has m) (same_stream m)
+moves_open conf s n next m _ _ (multi.Writes k a p x id o at phase conn left heard free carries long) = (le_refl next, λ q h. inl (set_within p (multi.written_on id k n o x) x m conn q h))
+moves_open conf s n next m _ _ (multi.CannotWrite k a p x at phase conn left valid) = (le_refl next, λ q h. inl (set_within p (multi.taken_on n x) x m conn q h))
+moves_open conf s n next m _ _ (multi.FindsNoId k a p x at phase conn left full) = none_opened next (stream_has m) (stream_has m) (same_stream m)
+moves_open conf s n next m _ _ (multi.GoesOn k a until at phase late) = none_opened next (stream_has m) (stream_has m) (same_stream m)
+moves_open conf s n next m _ _ (multi.TimesOut k a at late) = none_opened next (stream_has m) (stream_has m) (same_stream m)
+moves_open conf s n next m _ _ (multi.ReadsNothing p x since conn mode late) = (le_refl next, λ q h. inl (end_within p m q h))
+moves_open conf s n next m _ _ (multi.RestsTooLong p x since conn mode late lined) = (le_refl next, λ q h. inl (end_within p m q h))
 
 -- an event opens no place
-takes_open : (n next : ℕ) (m : Multi) (w : What) (x : multi.Act) (k : Multi) → Takes n m w x k → Opened next (place_after x next) (stream_has k) (stream_has m)
-takes_open n next m _ _ _ (multi.ItOpens p opening) = (
+takes_open : (conf : Conf) (n next : ℕ) (m : Multi) (w : What) (x : multi.Act) (k : Multi) → Takes conf n m w x k → Opened next (place_after x next) (stream_has k) (stream_has m)
+takes_open conf n next m _ _ _ (multi.ItOpens p opening) = (
   le_refl next,
-  λ q h. inl (elim (either (is_some (with_at p (Some multi.new_conn) m.conns q)) (is_this q None) h) [
-    | inl c ↦ elim (with_next p multi.new_conn m.conns q c) [
+  λ q h. inl (elim (either (is_some (with_at p (Some (multi.new_conn conf)) m.conns q)) (is_this q None) h) [
+    | inl c ↦ elim (with_next p (multi.new_conn conf) m.conns q c) [
       | inl was ↦ left_of (is_some (m.conns q)) (is_this q m.opening) was
       | inr e ↦ right_of (is_some (m.conns q)) (is_this q m.opening) (subst (λ q. is_this q m.opening ≡ true) e (subst (λ o. is_this p o ≡ true) (sym opening) (here p)))
     ]
     | inr o ↦ absurd (let z : false ≡ true = o in cc)
   ]),
 )
-takes_open n next m _ _ _ (multi.ItDoesNotOpen p f calm opening soon) = (
+takes_open conf n next m _ _ _ (multi.ItDoesNotOpen p f calm opening soon) = (
   le_refl next,
   λ q h. inl (elim (either (is_some (m.conns q)) (is_this q None) h) [
     | inl c ↦ left_of (is_some (m.conns q)) (is_this q m.opening) c
     | inr o ↦ absurd (let z : false ≡ true = o in cc)
   ]),
 )
-takes_open n next m w _ _ (multi.ItFails _ p x conn told) = (le_refl next, λ q h. inl (end_within p m q h))
-takes_open n next m _ _ _ (multi.SomeWritten p c x o conn less) = (le_refl next, λ q h. inl (set_within p (multi.wrote_on c x) x m conn q h))
-takes_open n next m _ _ _ (multi.AllWritten p c x conn some all) = (le_refl next, λ q h. inl (set_within p (multi.wrote_on c x) x m conn q h))
-takes_open n next m _ _ _ (multi.NothingToWrite p c x conn none) = (le_refl next, λ q h. inl (set_within p (multi.heard_on x) x m conn q h))
-takes_open n next m _ _ _ (multi.OctetsCome p o x conn) = (le_refl next, λ q h. inl (set_within p (multi.fed_by o x) x m conn q h))
+takes_open conf n next m w _ _ (multi.ItFails _ p x conn told) = (le_refl next, λ q h. inl (end_within p m q h))
+takes_open conf n next m _ _ _ (multi.SomeWritten p c x o conn less) = (le_refl next, λ q h. inl (set_within p (multi.wrote_on c x) x m conn q h))
+takes_open conf n next m _ _ _ (multi.AllWritten p c x conn some all) = (le_refl next, λ q h. inl (set_within p (multi.wrote_on c x) x m conn q h))
+takes_open conf n next m _ _ _ (multi.NothingToWrite p c x conn none) = (le_refl next, λ q h. inl (set_within p (multi.heard_on x) x m conn q h))
+takes_open conf n next m _ _ _ (multi.OctetsCome p o x conn) = (le_refl next, λ q h. inl (set_within p (multi.fed_by o x) x m conn q h))
 
 -- nor does a frame
 frame_opens : (n p next : ℕ) (f : Octets) (m : Multi) (x : multi.Act) (k : Multi) → TakesFrame n p f m x k → Opened next (place_after x next) (stream_has k) (stream_has m)
@@ -145,20 +145,20 @@ frame_opens n p next f m _ _ (multi.IsDropped none) = none_opened next (stream_h
 
 -- Datagrams
 
-tries_open : (s n next : ℕ) (d : Dgrams) (x : multi.Act) (e : Dgrams) → Tries s n next d x e → Opened next (place_after x next) (dgram_has e) (dgram_has d)
-tries_open s n next d _ _ (dgrams.Opens k a held stage room) = (up next, λ p h. elim (with_next next k d.at p h) [ inl was ↦ inl was | inr e ↦ inr (only next p e) ])
-tries_open s n next d _ _ (dgrams.Retries k a p id t held stage late few) = (le_refl next, λ q h. inl (with_none p d.at q h))
-tries_open s n next d _ _ (dgrams.StopsTrying k a p id t held stage late many) = (le_refl next, λ q h. inl (with_none p d.at q h))
-tries_open s n next d _ _ (dgrams.Ends k a x held stage) = none_opened next (dgram_has d) (dgram_has d) (λ p h. h)
+tries_open : (conf : Conf) (s n next : ℕ) (d : Dgrams) (x : multi.Act) (e : Dgrams) → Tries conf s n next d x e → Opened next (place_after x next) (dgram_has e) (dgram_has d)
+tries_open conf s n next d _ _ (dgrams.Opens k a held stage room) = (up next, λ p h. elim (with_next next k d.at p h) [ inl was ↦ inl was | inr e ↦ inr (only next p e) ])
+tries_open conf s n next d _ _ (dgrams.Retries k a p id t held stage late few) = (le_refl next, λ q h. inl (with_none p d.at q h))
+tries_open conf s n next d _ _ (dgrams.StopsTrying k a p id t held stage late many) = (le_refl next, λ q h. inl (with_none p d.at q h))
+tries_open conf s n next d _ _ (dgrams.Ends k a x held stage) = none_opened next (dgram_has d) (dgram_has d) (λ p h. h)
 
-meets_opens : (n next : ℕ) (d : Dgrams) (w : What) (x : multi.Act) (e : Dgrams) → dgrams.Meets n d w x e → Opened next (place_after x next) (dgram_has e) (dgram_has d)
-meets_opens n next d _ _ _ (dgrams.IsSent k a p id o at held stage carries) = none_opened next (dgram_has d) (dgram_has d) (λ p h. h)
-meets_opens n next d _ _ _ (dgrams.CannotBeSent k a p e at held stage fault) = (le_refl next, λ q h. inl (with_none p d.at q h))
-meets_opens n next d _ _ _ (dgrams.DoesNotOpen k a p f at held stage) = (le_refl next, λ q h. inl (with_none p d.at q h))
-meets_opens n next d _ _ _ (dgrams.NotSent k a p id t f at held stage) = (le_refl next, λ q h. inl (with_none p d.at q h))
-meets_opens n next d _ _ _ (dgrams.SentShort k a p id t at held stage) = (le_refl next, λ q h. inl (with_none p d.at q h))
-meets_opens n next d _ _ _ (dgrams.NotReceived k a p id t f at held stage) = (le_refl next, λ q h. inl (with_none p d.at q h))
-meets_opens n next d _ _ _ (dgrams.IsAnswered k a p id t o at held stage long answers) = (le_refl next, λ q h. inl (with_none p d.at q h))
+meets_opens : (conf : Conf) (n next : ℕ) (d : Dgrams) (w : What) (x : multi.Act) (e : Dgrams) → dgrams.Meets conf n d w x e → Opened next (place_after x next) (dgram_has e) (dgram_has d)
+meets_opens conf n next d _ _ _ (dgrams.IsSent k a p id o at held stage carries) = none_opened next (dgram_has d) (dgram_has d) (λ p h. h)
+meets_opens conf n next d _ _ _ (dgrams.CannotBeSent k a p e at held stage fault) = (le_refl next, λ q h. inl (with_none p d.at q h))
+meets_opens conf n next d _ _ _ (dgrams.DoesNotOpen k a p f at held stage) = (le_refl next, λ q h. inl (with_none p d.at q h))
+meets_opens conf n next d _ _ _ (dgrams.NotSent k a p id t f at held stage) = (le_refl next, λ q h. inl (with_none p d.at q h))
+meets_opens conf n next d _ _ _ (dgrams.SentShort k a p id t at held stage) = (le_refl next, λ q h. inl (with_none p d.at q h))
+meets_opens conf n next d _ _ _ (dgrams.NotReceived k a p id t f at held stage) = (le_refl next, λ q h. inl (with_none p d.at q h))
+meets_opens conf n next d _ _ _ (dgrams.IsAnswered k a p id t o at held stage long answers) = (le_refl next, λ q h. inl (with_none p d.at q h))
 
 -- Both
 
@@ -184,15 +184,15 @@ settled : (s n next : ℕ) (u : Served) (x : multi.Act) (d : Act Served) (old : 
 settled s n next u x _ old (part.AsItIs none) o = o
 settled s n next u x _ old (part.WithResult k a y held stage) o = o
 
-acts_open : (s next : ℕ) (u : Served) (d : Act Served) → Acts s next u d → Opens has_place next u d
-acts_open s next u d (part.ByDgram x g _ tries settles) = settled s u.clock next (has_moved (record u.server { by_dgram = g }) u) x d (has_place u) settles (by_dgram next (place_after x next) u.server g (tries_open s u.clock next u.server.by_dgram x g tries))
-acts_open s next u _ (part.ByStream x m moves) = by_stream next (place_after x next) u.server m (moves_open s u.clock next u.server.by_stream x m moves)
-acts_open s next u _ (part.FallsBack k a held stage) = (le_refl next, λ p h. inl h)
-acts_open s next u d (part.TellsDgrams x g _ taken early meets foreign settles) = settled s u.clock next (part.has_taken_it (record u.server { by_dgram = g }) u) x d (has_place u) settles (by_dgram next (place_after x next) u.server g (meets_opens u.clock next u.server.by_dgram u.pending x g meets))
-acts_open s next u _ (part.TellsStreams x m taken other takes ignored) = by_stream next (place_after x next) u.server m (takes_open u.clock next u.server.by_stream u.pending x m takes)
-acts_open s next u _ (part.Reads p o x taken pending conn) = by_stream next next u.server (set_conn p (multi.fed_by o x) u.server.by_stream) (le_refl next, λ q h. inl (set_within p (multi.fed_by o x) x u.server.by_stream conn q h))
-acts_open s next u _ (part.TakesOne f fs x m frames early takes) = by_stream next (place_after x next) u.server m (frame_opens u.clock u.place next f u.server.by_stream x m takes)
-acts_open s next u _ (part.ClosesFirst f fs k y m x since frames early takes conn mode late lined) = by_stream next next u.server (end_at u.place m)
+acts_open : (conf : Conf) (s next : ℕ) (u : Served) (d : Act Served) → Acts conf s next u d → Opens has_place next u d
+acts_open conf s next u d (part.ByDgram x g _ tries settles) = settled s u.clock next (has_moved (record u.server { by_dgram = g }) u) x d (has_place u) settles (by_dgram next (place_after x next) u.server g (tries_open conf s u.clock next u.server.by_dgram x g tries))
+acts_open conf s next u _ (part.ByStream x m moves) = by_stream next (place_after x next) u.server m (moves_open conf s u.clock next u.server.by_stream x m moves)
+acts_open conf s next u _ (part.FallsBack k a held stage) = (le_refl next, λ p h. inl h)
+acts_open conf s next u d (part.TellsDgrams x g _ taken early meets foreign settles) = settled s u.clock next (part.has_taken_it (record u.server { by_dgram = g }) u) x d (has_place u) settles (by_dgram next (place_after x next) u.server g (meets_opens conf u.clock next u.server.by_dgram u.pending x g meets))
+acts_open conf s next u _ (part.TellsStreams x m taken other takes ignored) = by_stream next (place_after x next) u.server m (takes_open conf u.clock next u.server.by_stream u.pending x m takes)
+acts_open conf s next u _ (part.Reads p o x taken pending conn) = by_stream next next u.server (set_conn p (multi.fed_by o x) u.server.by_stream) (le_refl next, λ q h. inl (set_within p (multi.fed_by o x) x u.server.by_stream conn q h))
+acts_open conf s next u _ (part.TakesOne f fs x m frames early takes) = by_stream next (place_after x next) u.server m (frame_opens u.clock u.place next f u.server.by_stream x m takes)
+acts_open conf s next u _ (part.ClosesFirst f fs k y m x since frames early takes conn mode late lined) = by_stream next next u.server (end_at u.place m)
     (let o = frame_opens u.clock u.place next f u.server.by_stream (multi.Gives k y) m takes in (le_refl next, λ q h. o.1 q (end_within u.place m q h)))
 
 starts_open : (c : Conf) (s next k : ℕ) (r : Request) (u : Served) (d : Act Served) → Starts c s next k r u d → Opens has_place next u d
@@ -213,7 +213,7 @@ pub servers_open_next : ServersOpenNext
 servers_open_next c = record {
   fresh = λ p. refl;
   begins = λ e a p. begins_same (dgram_has a.server.by_dgram p) (a.server.by_stream.conns p) (is_this p a.server.by_stream.opening);
-  acts = λ s place a d acts. acts_open s place a d acts;
+  acts = λ s place a d acts. acts_open c s place a d acts;
   starts = λ s place k r a d starts. starts_open c s place k r a d starts;
   cancels = λ s place k a d cancels. cancels_open s place k a d cancels;
 }

@@ -10,21 +10,22 @@ use Rattle.proof_parts.specs.Chains.{still, then_act}
 use Rattle.proof_parts.specs.Seats.{IsAway}
 use Rattle.proof_parts.specs.Runs.{made_by, Runs, Rests, Runs_on, IsBeside, AreFailing}
 use Rattle.proof_parts.proofs.Keys.{with_here, with_there, each_number}
+use Rattle.right_trace.specs.Trace.{Conf}
 
 same_act : (d e : Act Multi) → d.state ≡ e.state → d.place ≡ e.place → d.outs ≡ e.outs → d.posts ≡ e.posts → d ≡ e
 same_act d e state place outs posts = λ i. record { state = state i; place = place i; outs = outs i; posts = posts i }
 
 -- one move
-pub runs_one : (s n place : ℕ) (m : Multi) (x : multi.Act) (k : Multi) → Moves s n place m x k → Runs s n place m (then_act (made_by place x k) (still (place_after x place) k))
-runs_one s n place m x k move = Runs_on place m x k (still (place_after x place) k) move (Rests (place_after x place) k)
+pub runs_one : (c : Conf) (s n place : ℕ) (m : Multi) (x : multi.Act) (k : Multi) → Moves c s n place m x k → Runs c s n place m (then_act (made_by place x k) (still (place_after x place) k))
+runs_one c s n place m x k move = Runs_on place m x k (still (place_after x place) k) move (Rests (place_after x place) k)
 
 -- and then others
-pub runs_then : (s n place : ℕ) (m : Multi) (d e : Act Multi) → Runs s n place m d → Runs s n d.place d.state e → Runs s n place m (then_act d e)
-runs_then s n _ _ _ e (Rests place m) more = more
-runs_then s n _ _ _ e (Runs_on place m x k d move rest) more =
-    subst (Runs s n place m)
+pub runs_then : (c : Conf) (s n place : ℕ) (m : Multi) (d e : Act Multi) → Runs c s n place m d → Runs c s n d.place d.state e → Runs c s n place m (then_act d e)
+runs_then c s n _ _ _ e (Rests place m) more = more
+runs_then c s n _ _ _ e (Runs_on place m x k d move rest) more =
+    subst (Runs c s n place m)
     (same_act (then_act (made_by place x k) (then_act d e)) (then_act (then_act (made_by place x k) d) e) refl refl (sym (append_assoc (made_by place x k).outs d.outs e.outs)) (sym (append_assoc (made_by place x k).posts d.posts e.posts)))
-    (Runs_on place m x k (then_act d e) move (runs_then s n (place_after x place) k d e rest more))
+    (Runs_on place m x k (then_act d e) move (runs_then c s n (place_after x place) k d e rest more))
 
 module _ (p : ℕ) where
   pub beside_same : (m : Multi) → IsBeside p m m

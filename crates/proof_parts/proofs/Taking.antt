@@ -39,10 +39,11 @@ use Rattle.proof_parts.proofs.Running.{runs_one, beside_move}
 use Rattle.proof_parts.proofs.Seating.{leaves_queue, writes_there}
 use Rattle.proof_parts.proofs.Tables.{rises_below, sorted_puts, sorted_frees, puts_path, more_by_puts, fewer_by_frees, present_below}
 use Rattle.proof_parts.proofs.Waking.{IsWoken, woken}
+use Rattle.right_trace.specs.Trace.{Conf}
 
 -- One was taken, and the others are still queued.
-pub record TookOne (server p : ℕ) (names : ℕ → Option ℕ) (m : Multi) (x : Conn) (s : SingleLine) (v : View) (q : List (ℕ × QueuedRequest Request Request)) (t : SingleLine) (w : View) : Type 0 where
-  pub taken : HasTaken server p names m x s v t w
+pub record TookOne (c : Conf) (server p : ℕ) (names : ℕ → Option ℕ) (m : Multi) (x : Conn) (s : SingleLine) (v : View) (q : List (ℕ × QueuedRequest Request Request)) (t : SingleLine) (w : View) : Type 0 where
+  pub taken : HasTaken c server p names m x s v t w
   pub queue : t.queue ≡ q
 
 -- tables with equal parts
@@ -65,15 +66,15 @@ so_many = refl
 empty : {A : Type 0} {xs : List A} → xs ≡ [] → length xs ≡ 32768 → ⊥
 empty e f = let g = ap length e in omega arith
 
-module _ (server p : ℕ) (settings : Settings) (set : settings.response_timeout ≡ response_timeout) (names : ℕ → Option ℕ) (m : Multi) (x : Conn) (s : SingleLine) (v : View) (i : ℕ) (w : QueuedRequest Request Request) (q : List (ℕ × QueuedRequest Request Request))
-    (line : IsLineAt p names s m x (dues v) v.ticket) (fair : IsFair v) (queue : s.queue ≡ (i, w) ∷ q) (unwritten : s.writing ≡ None) (left : x.left ≡ 0) (heard : x.heard ≡ false) where
+module _ (c : Conf) (server p : ℕ) (settings : Settings) (set : settings.response_timeout ≡ response_timeout c) (names : ℕ → Option ℕ) (m : Multi) (x : Conn) (s : SingleLine) (v : View) (i : ℕ) (w : QueuedRequest Request Request) (q : List (ℕ × QueuedRequest Request Request))
+    (line : IsLineAt c p names s m x (dues v) v.ticket) (fair : IsFair v) (queue : s.queue ≡ (i, w) ∷ q) (unwritten : s.writing ≡ None) (left : x.left ≡ 0) (heard : x.heard ≡ false) where
   abbrev rest : SingleLine
   rest = record s { queue = q }
 
   sorted_queue : Sorted 0 v.ticket ((i, w) ∷ q)
   sorted_queue = subst (λ q. Sorted 0 v.ticket q) queue line.fits.queue
 
-  rest_fits : LineFits rest x (dues v) v.ticket
+  rest_fits : LineFits c rest x (dues v) v.ticket
   rest_fits = record {
     stage = line.fits.stage;
     writing = line.fits.writing;
@@ -128,16 +129,16 @@ module _ (server p : ℕ) (settings : Settings) (set : settings.response_timeout
       by true f = inr (same true f refl)
       by false f = inl (inl (e.0, ap (λ (f : ℕ → Option (QueuedRequest Request Request)). f j) path ∙ (with_there i None (λ j. entry_at j s.queue) j (other false f refl) ∙ e.1)))
 
-  module _ (t : SingleLine) (u : View) (wk : IsWoken rest x v t u) where
+  module _ (t : SingleLine) (u : View) (wk : IsWoken c rest x v t u) where
     -- The error of this one is posted.
-    failed : (e : Error) → e ≢ errors.WrongReplyForQuery → (y : Conn) (l : SingleLine) (n : Multi) → Moves server v.now v.place m Nothing n → n.asks ≡ with_at k (Some (moved a Broken)) m.asks → ((z : ℕ) → (p ≡ z → ⊥) → n.conns z ≡ m.conns z) → n.opening ≡ m.opening → n.calm ≡ m.calm
-        → n.conns p ≡ Some y → y.ids ≡ x.ids → y.heard ≡ x.heard → y.got ≡ x.got → LineFits l y (dues u) u.ticket → l.queue ≡ q → l.ids ≡ s.ids → table l.held.held ≡ table s.held.held → l.stage ≡ t.stage
-        → TookOne server p names m x s v q l (answers i (Err e) u)
+    failed : (e : Error) → e ≢ errors.WrongReplyForQuery → (y : Conn) (l : SingleLine) (n : Multi) → Moves c server v.now v.place m Nothing n → n.asks ≡ with_at k (Some (moved a Broken)) m.asks → ((z : ℕ) → (p ≡ z → ⊥) → n.conns z ≡ m.conns z) → n.opening ≡ m.opening → n.calm ≡ m.calm
+        → n.conns p ≡ Some y → y.ids ≡ x.ids → y.heard ≡ x.heard → y.got ≡ x.got → LineFits c l y (dues u) u.ticket → l.queue ≡ q → l.ids ≡ s.ids → table l.held.held ≡ table s.held.held → l.stage ≡ t.stage
+        → TookOne c server p names m x s v q l (answers i (Err e) u)
     failed e not_wrong y l n move asks conns opening calm conn ids_same heard_same got_same fits queue_is ids_is held_is stage_is = record {
       queue = queue_is;
       taken = record {
         made = then_act (made_by v.place Nothing n) (still v.place n);
-        runs = runs_one server v.now v.place m Nothing n move;
+        runs = runs_one c server v.now v.place m Nothing n move;
         nothing = refl;
         place = refl;
         outs = wk.alike.outs ∙ sym (append-nil v.outs);
@@ -184,13 +185,13 @@ module _ (server p : ℕ) (settings : Settings) (set : settings.response_timeout
     active e (Active since) is = ap (λ md. taking md v.now) is ∙ sym is
     active e (Idle since) is = absurd (empty (line.fits.resting (λ u f. let z : Idle since ≡ Active u = sym is ∙ f in cc)) e)
 
-    finds_none : length t.held.held ≡ 32768 → TookOne server p names m x s v q t (answers i (Err errors.StreamTooManyOutstandingQueries) u)
+    finds_none : length t.held.held ≡ 32768 → TookOne c server p names m x s v q t (answers i (Err errors.StreamTooManyOutstandingQueries) u)
     finds_none e =
         let full : length s.held.held ≡ 32768 = sym (ap (λ (h : IdTable (Holder Request Request)). length h.held) wk.held) ∙ e in
         let same = active full x.mode refl in
         failed errors.StreamTooManyOutstandingQueries (λ e. cc) x t (move k a Broken m) (multi.FindsNoId k a p x who.is who.phase line.conn left (is_full full)) refl (λ z ne. refl) refl refl line.conn refl refl refl
         (record {
-          stage = subst (StageFits (dues u) t.idle_time t.stage) same wk.fits.stage;
+          stage = subst (StageFits c (dues u) t.idle_time t.stage) same wk.fits.stage;
           writing = wk.fits.writing;
           idle = wk.fits.idle;
           timeout = wk.fits.timeout;
@@ -214,7 +215,7 @@ module _ (server p : ℕ) (settings : Settings) (set : settings.response_timeout
       had = had_by for_one id t.had_keepalive a.request
 
       -- it can't be written
-      too_long : frame_of for_one r ≡ None → TookOne server p names m x s v q (record t { had_keepalive = had; held = removed id (inserted GivenUp t.held) }) (answers i (Err errors.StreamLongMessage) u)
+      too_long : frame_of for_one r ≡ None → TookOne c server p names m x s v q (record t { had_keepalive = had; held = removed id (inserted GivenUp t.held) }) (answers i (Err errors.StreamLongMessage) u)
       too_long e =
           let next = next_is_free GivenUp t.held wk.fits.order few in
           let more = more_by_puts id GivenUp t.held.held next.free in
@@ -240,12 +241,12 @@ module _ (server p : ℕ) (settings : Settings) (set : settings.response_timeout
 
       -- it is written
       is_written : (octets : List ℕ) → frame_of for_one r ≡ Some octets
-          → TookOne server p names m x s v q (record t { had_keepalive = had; held = inserted (Waits i r) t.held; ids = puts i id t.ids; writing = Some octets }) (asks (Write p w.number id octets) u)
+          → TookOne c server p names m x s v q (record t { had_keepalive = had; held = inserted (Waits i r) t.held; ids = puts i id t.ids; writing = Some octets }) (asks (Write p w.number id octets) u)
       is_written octets e = record {
         queue = wk.queue;
         taken = record {
           made = then_act (made_by v.place (Puts (Write p k id octets)) n) (still v.place n);
-          runs = runs_one server v.now v.place m (Puts (Write p k id octets)) n
+          runs = runs_one c server v.now v.place m (Puts (Write p k id octets)) n
               (multi.Writes k a p x id octets who.is who.phase line.conn left heard (unheld (line.seated.at_id id)) (frames_carry.carries a.request id t.had_keepalive octets who.octets next.small e) (some (length octets) (frames_carry.some r octets e)));
           nothing = refl;
           place = refl;
@@ -334,12 +335,12 @@ module _ (server p : ℕ) (settings : Settings) (set : settings.response_timeout
               j at)
 
       composed : (o : Option (List ℕ)) → frame_of for_one r ≡ o
-          → TookOne server p names m x s v q (writes for_one for_several p i w.number id (Waits i r) (record t { had_keepalive = had }) u o).0 (writes for_one for_several p i w.number id (Waits i r) (record t { had_keepalive = had }) u o).1
+          → TookOne c server p names m x s v q (writes for_one for_several p i w.number id (Waits i r) (record t { had_keepalive = had }) u o).0 (writes for_one for_several p i w.number id (Waits i r) (record t { had_keepalive = had }) u o).1
       composed None e = too_long e
       composed (Some octets) e = is_written octets e
 
     prepared : (b : Bool) → (length t.held.held == 32768) ≡ b
-        → TookOne server p names m x s v q (takes_free_id for_one for_several p for_one (λ r. Waits i r) i w.number a.request t u (if b then None else Some (next_id t.held))).0 (takes_free_id for_one for_several p for_one (λ r. Waits i r) i w.number a.request t u (if b then None else Some (next_id t.held))).1
+        → TookOne c server p names m x s v q (takes_free_id for_one for_several p for_one (λ r. Waits i r) i w.number a.request t u (if b then None else Some (next_id t.held))).0 (takes_free_id for_one for_several p for_one (λ r. Waits i r) i w.number a.request t u (if b then None else Some (next_id t.held))).1
     prepared true e = finds_none (same (length t.held.held) e)
       where
         same : (n : ℕ) → (n == 32768) ≡ true → n ≡ 32768
@@ -349,8 +350,8 @@ module _ (server p : ℕ) (settings : Settings) (set : settings.response_timeout
         fewer : (n : ℕ) → n ≤ 32768 → (n == 32768) ≡ false → n < 32768
         fewer n le e = grind (arith, nat_tests)
 
-  pub takes_one : Leads (TookOne server p names m x s v q) (takes_queued for_one for_several p settings i w rest v)
-  takes_one = subst (λ rq. Leads (TookOne server p names m x s v q) (option_and_then (λ y. Some (prepares for_one for_several p i w.number rq y.0 y.1)) (becomes_active_for (timeout_by settings rq) rest v rest.stage))) (sym who.request)
-      (leads_then (IsWoken rest x v) (TookOne server p names m x s v q) (λ t u. prepares for_one for_several p i w.number (Single a.request) t u) (becomes_active_for settings.response_timeout rest v rest.stage)
-      (woken settings.response_timeout set rest x v fair rest_fits)
+  pub takes_one : Leads (TookOne c server p names m x s v q) (takes_queued for_one for_several p settings i w rest v)
+  takes_one = subst (λ rq. Leads (TookOne c server p names m x s v q) (option_and_then (λ y. Some (prepares for_one for_several p i w.number rq y.0 y.1)) (becomes_active_for (timeout_by settings rq) rest v rest.stage))) (sym who.request)
+      (leads_then (IsWoken c rest x v) (TookOne c server p names m x s v q) (λ t u. prepares for_one for_several p i w.number (Single a.request) t u) (becomes_active_for settings.response_timeout rest v rest.stage)
+      (woken c settings.response_timeout set rest x v fair rest_fits)
       (λ t u wk. prepared t u wk (length t.held.held == 32768) refl))

@@ -22,15 +22,16 @@ use Rattle.proof_parts.specs.Sights.{IsFair}
 use Rattle.proof_parts.proofs.Ending.{ends_so}
 use Rattle.proof_parts.proofs.GoingOn.{fair_without, dues_without}
 use Rattle.proof_parts.proofs.Keys.{with_there}
+use Rattle.right_trace.specs.Trace.{Conf}
 
-module _ (server p : ℕ) (names : ℕ → Option ℕ) (m : Multi) (x : Conn) (s : SingleLine) (u : View) (line : IsLineAt p names s m x (dues u) u.ticket) (fair : IsFair u) (settled : s.writing ≡ None → s.queue ≡ []) (timer due : ℕ) (set : dues u timer ≡ Some due) (late : due ≤ u.now) where
+module _ (c : Conf) (server p : ℕ) (names : ℕ → Option ℕ) (m : Multi) (x : Conn) (s : SingleLine) (u : View) (line : IsLineAt c p names s m x (dues u) u.ticket) (fair : IsFair u) (settled : s.writing ≡ None → s.queue ≡ []) (timer due : ℕ) (set : dues u timer ≡ Some due) (late : due ≤ u.now) where
   abbrev v : View
   v = record u { timers = cancelled timer u.timers }
 
   abbrev P : SingleLine → View → Type 0
-  P t w = HasFired server p names m x s v t w
+  P t w = HasFired c server p names m x s v t w
 
-  ends_there : (error : Error) → error ≢ errors.WrongReplyForQuery → ((next : ℕ) → Moves server v.now next m (Puts (Close p)) (end_at p m)) → P (ends_with p error s v).0 (ends_with p error s v).1
+  ends_there : (error : Error) → error ≢ errors.WrongReplyForQuery → ((next : ℕ) → Moves c server v.now next m (Puts (Close p)) (end_at p m)) → P (ends_with p error s v).0 (ends_with p error s v).1
   ends_there error right moves = EndsByTimer moves (ends_so p names m x.ids s v line.seated line.fits.order.sorted line.fits.queue (fair_without u timer fair) error right) refl
 
   -- who is queued waits for octets to be taken
@@ -41,7 +42,7 @@ module _ (server p : ℕ) (names : ℕ → Option ℕ) (m : Multi) (x : Conn) (s
       by (lines.IsWriting octets g h lt) = lt
       by (lines.IsFree g h) = absurd (let l = line.seated.lined k a e f in let z = sym (ap (entry_at l.0) (settled g)) ∙ l.3 in cc)
 
-  others : StageFits (dues v) s.idle_time s.stage x.mode → P s v
+  others : StageFits c (dues v) s.idle_time s.stage x.mode → P s v
   others stage = IsOthers (record {
     conn = line.conn;
     seated = line.seated;
@@ -70,16 +71,16 @@ module _ (server p : ℕ) (names : ℕ → Option ℕ) (m : Multi) (x : Conn) (s
       same : (a b : ℕ) → (a == b) ≡ true → a ≡ b
       same a b e = grind (arith, nat_tests)
 
-  is_late : (since n : ℕ) → since + response_timeout + 1 ≤ n → since + response_timeout < n
+  is_late : (since n : ℕ) → since + response_timeout c + 1 ≤ n → since + response_timeout c < n
   is_late since n le = omega arith
 
-  by_stage : StageFits (dues u) s.idle_time s.stage x.mode → (own : LineStage) → s.stage ≡ own → Leads P (fires p timer s v own)
+  by_stage : StageFits c (dues u) s.idle_time s.stage x.mode → (own : LineStage) → s.stage ≡ own → Leads P (fires p timer s v own)
   by_stage (IsNew e md) own is = subst (λ own. Leads P (fires p timer s v own)) (sym e ∙ is) (others (IsNew e md))
   by_stage (IsActive t since e md d) own is = subst (λ own. Leads P (fires p timer s v own)) (sym e ∙ is) (by (timer == t) refl)
     where
       by : (b : Bool) → (timer == t) ≡ b → Leads P (if b then Some (ends_with p errors.StreamReadTimeout s v) else Some (s, v))
-      by true f = ends_there errors.StreamReadTimeout (λ e. cc) (λ next. multi.ReadsNothing p x since line.conn md (is_late since u.now (its_due t (since + response_timeout + 1) f d)))
-      by false f = others (IsActive t since e md (due_still t (Some (since + response_timeout + 1)) f d))
+      by true f = ends_there errors.StreamReadTimeout (λ e. cc) (λ next. multi.ReadsNothing p x since line.conn md (is_late since u.now (its_due t (since + response_timeout c + 1) f d)))
+      by false f = others (IsActive t since e md (due_still t (Some (since + response_timeout c + 1)) f d))
   by_stage (IsIdle t since e md d) own is = subst (λ own. Leads P (fires p timer s v own)) (sym e ∙ is) (by (timer == t) refl)
     where
       by : (b : Bool) → (timer == t) ≡ b → Leads P (if b then Some (ends_with p errors.StreamReceiveError s v) else Some (s, v))

@@ -13,21 +13,22 @@ use Rattle.proof_parts.specs.PartTie.{Leads}
 use Rattle.proof_parts.specs.Connections.{dues, IsTimed}
 use Rattle.proof_parts.specs.Lines.{SingleLine, Sorted, StageFits, IsNew, IsActive, IsIdle, LineFits}
 use Rattle.proof_parts.proofs.Retiming.{IsAlike, timed_same, IsRetimed, becomes_so}
+use Rattle.right_trace.specs.Trace.{Conf}
 
 -- It works since a moment, and is as it was otherwise.
-pub record IsWoken (s : SingleLine) (x : Conn) (v : View) (t : SingleLine) (w : View) : Type 0 where
+pub record IsWoken (c : Conf) (s : SingleLine) (x : Conn) (v : View) (t : SingleLine) (w : View) : Type 0 where
   pub held : t.held ≡ s.held
   pub ids : t.ids ≡ s.ids
   pub queue : t.queue ≡ s.queue
   pub writing : t.writing ≡ s.writing
   pub since : ℕ
   pub mode : taking x.mode v.now ≡ Active since
-  pub fits : LineFits t (taken_on v.now x) (dues w) w.ticket
+  pub fits : LineFits c t (taken_on v.now x) (dues w) w.ticket
   pub timed : IsTimed s.stage t.stage v w
   pub alike : IsAlike v w
 
-module _ (wait : ℕ) (is_wait : wait ≡ response_timeout) (s : SingleLine) (x : Conn) (v : View) (fair : IsFair v) (fits : LineFits s x (dues v) v.ticket) where
-  works : taking x.mode v.now ≡ Active v.now → (w : View) → IsRetimed s.stage (v.now + wait + 1) v w → IsWoken s x v (record s { timeout = wait; stage = at.Active v.timers.next v.now }) w
+module _ (c : Conf) (wait : ℕ) (is_wait : wait ≡ response_timeout c) (s : SingleLine) (x : Conn) (v : View) (fair : IsFair v) (fits : LineFits c s x (dues v) v.ticket) where
+  works : taking x.mode v.now ≡ Active v.now → (w : View) → IsRetimed s.stage (v.now + wait + 1) v w → IsWoken c s x v (record s { timeout = wait; stage = at.Active v.timers.next v.now }) w
   works mode w r = record {
     held = refl;
     ids = refl;
@@ -56,10 +57,10 @@ module _ (wait : ℕ) (is_wait : wait ≡ response_timeout) (s : SingleLine) (x 
   lt : v.now < v.now + wait + 1
   lt = omega arith
 
-  fresh : taking x.mode v.now ≡ Active v.now → Leads (IsWoken s x v) (awaits_frame_since v.now (record s { timeout = wait }) v)
-  fresh mode = becomes_so (IsWoken s x v) (λ timer. at.Active timer v.now) (v.now + wait + 1) (record s { timeout = wait }) v fair lt (works mode)
+  fresh : taking x.mode v.now ≡ Active v.now → Leads (IsWoken c s x v) (awaits_frame_since v.now (record s { timeout = wait }) v)
+  fresh mode = becomes_so (IsWoken c s x v) (λ timer. at.Active timer v.now) (v.now + wait + 1) (record s { timeout = wait }) v fair lt (works mode)
 
-  same : (timer since : ℕ) → s.stage ≡ at.Active timer since → x.mode ≡ Active since → (b : Bool) → b ≡ true → Leads (IsWoken s x v) (if b then Some (s, v) else awaits_frame_since since (record s { timeout = wait }) v)
+  same : (timer since : ℕ) → s.stage ≡ at.Active timer since → x.mode ≡ Active since → (b : Bool) → b ≡ true → Leads (IsWoken c s x v) (if b then Some (s, v) else awaits_frame_since since (record s { timeout = wait }) v)
   same timer since is mode false e = absurd (cc)
   same timer since is mode true e = record {
     held = refl;
@@ -69,7 +70,7 @@ module _ (wait : ℕ) (is_wait : wait ≡ response_timeout) (s : SingleLine) (x 
     since = since;
     mode = still;
     fits = record {
-      stage = subst (StageFits (dues v) s.idle_time s.stage) (sym (still ∙ sym mode)) fits.stage;
+      stage = subst (StageFits c (dues v) s.idle_time s.stage) (sym (still ∙ sym mode)) fits.stage;
       writing = fits.writing;
       idle = fits.idle;
       timeout = fits.timeout;
@@ -92,7 +93,7 @@ module _ (wait : ℕ) (is_wait : wait ≡ response_timeout) (s : SingleLine) (x 
       test : (a b : ℕ) → a ≡ b → (a == b) ≡ true
       test a b e = grind (arith, nat_tests)
 
-  by_stage : (own : LineStage) → s.stage ≡ own → StageFits (dues v) s.idle_time s.stage x.mode → Leads (IsWoken s x v) (becomes_active_for wait s v own)
+  by_stage : (own : LineStage) → s.stage ≡ own → StageFits c (dues v) s.idle_time s.stage x.mode → Leads (IsWoken c s x v) (becomes_active_for wait s v own)
   by_stage at.New is (IsNew e m) = fresh (ap (λ m. taking m v.now) m)
   by_stage at.New is (IsActive timer since e m d) = absurd (let z : at.New ≡ at.Active timer since = sym is ∙ e in cc)
   by_stage at.New is (IsIdle timer since e m d) = absurd (let z : at.New ≡ at.Idle timer = sym is ∙ e in cc)
@@ -106,5 +107,5 @@ module _ (wait : ℕ) (is_wait : wait ≡ response_timeout) (s : SingleLine) (x 
   by_stage at.Ended is (IsActive t u e m d) = absurd (let z : at.Ended ≡ at.Active t u = sym is ∙ e in cc)
   by_stage at.Ended is (IsIdle t u e m d) = absurd (let z : at.Ended ≡ at.Idle t = sym is ∙ e in cc)
 
-  pub woken : Leads (IsWoken s x v) (becomes_active_for wait s v s.stage)
+  pub woken : Leads (IsWoken c s x v) (becomes_active_for wait s v s.stage)
   woken = by_stage s.stage refl fits.stage

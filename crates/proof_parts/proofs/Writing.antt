@@ -22,16 +22,17 @@ use Rattle.proof_parts.specs.Sights.{IsFair}
 use Rattle.proof_parts.proofs.Ending.{ends_so}
 use Rattle.proof_parts.proofs.Keys.{with_here}
 use Rattle.proof_parts.proofs.Pumping.{pumps_so}
+use Rattle.right_trace.specs.Trace.{Conf}
 
-module _ (server p : ℕ) (settings : Settings) (set : settings.response_timeout ≡ response_timeout) (names : ℕ → Option ℕ) (m : Multi) (x : Conn) (s : SingleLine) (v : View) (line : IsLineAt p names s m x (dues v) v.ticket) (fair : IsFair v) (settled : s.writing ≡ None → s.queue ≡ []) (heard : x.heard ≡ false) (count : ℕ) where
+module _ (conf : Conf) (server p : ℕ) (settings : Settings) (set : settings.response_timeout ≡ response_timeout conf) (names : ℕ → Option ℕ) (m : Multi) (x : Conn) (s : SingleLine) (v : View) (line : IsLineAt conf p names s m x (dues v) v.ticket) (fair : IsFair v) (settled : s.writing ≡ None → s.queue ≡ []) (heard : x.heard ≡ false) (count : ℕ) where
   abbrev P : SingleLine → View → Type 0
-  P t w = HasWritten server p names m x s v count t w
+  P t w = HasWritten conf server p names m x s v count t w
 
   same_place : (q : ℕ) → (q == q) ≡ true
   same_place q = grind (arith, nat_tests)
 
   -- the line with other octets to write
-  line_so : (writing : Option (List ℕ)) → WritingFits writing (x.left - count) → IsLineAt p names (record s { writing = writing }) (set_conn p (wrote_on count x) m) (wrote_on count x) (dues v) v.ticket
+  line_so : (writing : Option (List ℕ)) → WritingFits writing (x.left - count) → IsLineAt conf p names (record s { writing = writing }) (set_conn p (wrote_on count x) m) (wrote_on count x) (dues v) v.ticket
   line_so writing fits = record {
     conn = with_here p (Some (wrote_on count x)) m.conns;
     seated = line.seated;
@@ -52,11 +53,11 @@ module _ (server p : ℕ) (settings : Settings) (set : settings.response_timeout
     nothing_taken : count ≡ 0 → P (ends_with p (errors.StreamWriteError fault.NothingTaken) s v).0 (ends_with p (errors.StreamWriteError fault.NothingTaken) s v).1
     nothing_taken e =
         let end = ends_so p names m x.ids s v line.seated line.fits.order.sorted line.fits.queue fair (errors.StreamWriteError fault.NothingTaken) (λ e. cc) in
-        FailsWriting (subst (λ c. Takes v.now m (Wrote p c) (Puts (Close p)) (end_at p m)) (sym e) (multi.ItFails (Wrote p 0) p x line.conn (same_place p))) end refl
+        FailsWriting (subst (λ c. Takes conf v.now m (Wrote p c) (Puts (Close p)) (end_at p m)) (sym e) (multi.ItFails (Wrote p 0) p x line.conn (same_place p))) end refl
 
     all_taken : length octets ≤ count → Leads P (pumps for_one for_several p settings s.queue (record s { writing = None }) v)
-    all_taken le = leads_as (HasPumped server p names (set_conn p (wrote_on count x) m) (wrote_on count x) (record s { writing = None }) v) P (pumps for_one for_several p settings s.queue (record s { writing = None }) v)
-        (pumps_so server p settings set names s.queue (set_conn p (wrote_on count x) m) (wrote_on count x) (record s { writing = None }) v (line_so None (lines.IsFree refl (none_left x.left count (length octets) long le))) fair refl heard)
+    all_taken le = leads_as (HasPumped conf server p names (set_conn p (wrote_on count x) m) (wrote_on count x) (record s { writing = None }) v) P (pumps for_one for_several p settings s.queue (record s { writing = None }) v)
+        (pumps_so conf server p settings set names s.queue (set_conn p (wrote_on count x) m) (wrote_on count x) (record s { writing = None }) v (line_so None (lines.IsFree refl (none_left x.left count (length octets) long le))) fair refl heard)
         (λ t w pumped. HasRoom (multi.AllWritten p count x line.conn some (subst (λ n. n ≤ count) long le)) pumped)
       where
         none_left : (a b l : ℕ) → l ≡ a → l ≤ b → a - b ≡ 0

@@ -17,7 +17,8 @@ use Rattle.right_trace.specs.Trace.{Conf}
 use Rattle.proof_right.specs.machine.Part.{Post, ServerPart}
 use Rattle.right_trace.specs.Keys.{Key, KeysCover}
 use Rattle.right_trace.specs.Parts.{IsIn}
-use Rattle.proof_right.specs.machine.Client.{Waiting, Leaving, Entry, Upper, Made, is_failing, Revived, Move, Revives, Replies, Derives, Moves, Rests, Goes, IsRun, Ends, Goes_on, store, take_on, row_begins, begun}
+use Rattle.proof_right.specs.machine.Client.{Waiting, Leaving, Entry, Upper, Made, Revived, Move, Revives, Replies, Derives, Moves, Rests, Goes, IsRun, Ends, Goes_on, store, take_on, row_begins, begun}
+use Rattle.right_trace.specs.Errors.{is_failing}
 use Rattle.proof_right.specs.machine.Exact.{MayRevive}
 use Rattle.right_trace.specs.Messages.{Octets}
 use Rattle.right_trace.specs.Updates.{with_at}
@@ -35,7 +36,7 @@ StandsIn st now r expired None = MayRevive st now r expired → ⊥
 
 -- It is so of a result that leaves.
 abbrev pub IsTold : {U : Type 0} → Settings → (x : Upper U) → Leaving → Type 0
-IsTold st x z = z.stale ≡ None → is_failing z.result ≡ true → StandsIn st x.now z.asked (x.expired z.request) None
+IsTold st x z = z.stale ≡ None → is_failing z.given ≡ true → StandsIn st x.now z.asked (x.expired z.request) None
 
 -- Something that is kept beside the machine, and what each move may make of it. Only askings and stored replies change it.
 pub record Beside {c : Conf} (st : Settings) (P : ServerPart c) : Type 1 where
@@ -45,7 +46,7 @@ pub record Beside {c : Conf} (st : Settings) (P : ServerPart c) : Type 1 where
   pub below : (x : Upper P.State) (d : Made P.State) (m : Move c st composed P x d) (e : Kept) → IsBelow st composed P x d m → Does x d m e e
   pub derives : (x : Upper P.State) (y : Entry) (k : Key) (is : IsIn y x.stored) (covers : KeysCover y.under k) (e : Kept) → Does x _ (Derives y k is covers) e e
   pub unstored : (x : Upper P.State) (before after : List Leaving) (y : Leaving) (is : x.leaving ≡ before ++ y ∷ after) (e : Kept) → y.is_stored ≡ false → IsTold st x y → Does x _ (Replies before after y is) e e
-  pub revives : (x : Upper P.State) (before after : List Leaving) (y : Leaving) (old : Entry) (m : Octets) (is : x.leaving ≡ before ++ y ∷ after) (fails : is_failing y.result ≡ true) (there : x.expired y.request ≡ Some old) (may : Revived st x.now old y.asked m) (e : Kept) → Does x _ (Revives before after y old m is fails there may) e e
+  pub revives : (x : Upper P.State) (before after : List Leaving) (y : Leaving) (old : Entry) (m : Octets) (is : x.leaving ≡ before ++ y ∷ after) (fails : is_failing y.given ≡ true) (there : x.expired y.request ≡ Some old) (may : Revived st x.now old y.asked m) (e : Kept) → Does x _ (Revives before after y old m is fails there may) e e
 
 -- what a client gives with a request that leaves: its result, or what stands in for it
 abbrev pub told_with : Result Octets Error → Option Octets → Result Octets Error

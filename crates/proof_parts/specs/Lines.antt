@@ -11,6 +11,7 @@ use Rattle.right_trace.specs.Writes.{Written}
 use Rattle.proof_right.specs.machine.Streams.{Mode, New, Active, Idle, Asker, Conn, Multi}
 use Rattle.proof_parts.specs.Sights.{Rising}
 use Rattle.proof_parts.specs.Seats.{Seats, AreSeated}
+use Rattle.right_trace.specs.Trace.{Conf}
 
 -- the lines that carry requests which one message answers
 abbrev pub SingleLine : Type 0
@@ -30,10 +31,10 @@ abbrev pub seats_of : SingleLine → (ℕ → Option Asker) → (ℕ → Option 
 seats_of s asks written = record { held = λ id. entry_at id s.held.held; ids = λ i. entry_at i s.ids; queue = λ i. entry_at i s.queue; asks = asks; written = written }
 
 -- The mode, with the timer that is set for it.
-pub data StageFits (dues : ℕ → Option ℕ) (idle : ℕ) (at : LineStage) (mode : Mode) : Type 0 where
-  IsNew : at ≡ stage.New → mode ≡ New → StageFits dues idle at mode
-  IsActive : (timer since : ℕ) → at ≡ stage.Active timer since → mode ≡ Active since → dues timer ≡ Some (since + response_timeout + 1) → StageFits dues idle at mode
-  IsIdle : (timer since : ℕ) → at ≡ stage.Idle timer → mode ≡ Idle since → dues timer ≡ Some (since + idle) → StageFits dues idle at mode
+pub data StageFits (c : Conf) (dues : ℕ → Option ℕ) (idle : ℕ) (at : LineStage) (mode : Mode) : Type 0 where
+  IsNew : at ≡ stage.New → mode ≡ New → StageFits c dues idle at mode
+  IsActive : (timer since : ℕ) → at ≡ stage.Active timer since → mode ≡ Active since → dues timer ≡ Some (since + response_timeout c + 1) → StageFits c dues idle at mode
+  IsIdle : (timer since : ℕ) → at ≡ stage.Idle timer → mode ≡ Idle since → dues timer ≡ Some (since + idle) → StageFits c dues idle at mode
 
 -- what is outstanding of the frame that is being written
 pub data WritingFits (o : Option (List ℕ)) (left : ℕ) : Type 0 where
@@ -41,11 +42,11 @@ pub data WritingFits (o : Option (List ℕ)) (left : ℕ) : Type 0 where
   IsWriting : (octets : List ℕ) → o ≡ Some octets → length octets ≡ left → 0 < left → WritingFits o left
 
 -- A connection that is not active holds no id.
-pub record LineFits (s : SingleLine) (x : Conn) (dues : ℕ → Option ℕ) (ticket : ℕ) : Type 0 where
-  pub stage : StageFits dues s.idle_time s.stage x.mode
+pub record LineFits (c : Conf) (s : SingleLine) (x : Conn) (dues : ℕ → Option ℕ) (ticket : ℕ) : Type 0 where
+  pub stage : StageFits c dues s.idle_time s.stage x.mode
   pub writing : WritingFits s.writing x.left
   pub idle : s.idle_time ≡ x.idle
-  pub timeout : s.timeout ≡ response_timeout
+  pub timeout : s.timeout ≡ response_timeout c
   pub resting : ((since : ℕ) → x.mode ≢ Active since) → s.held.held ≡ []
   pub order : IsInOrder s.held
   pub few : length s.held.held ≤ 32768
@@ -53,7 +54,7 @@ pub record LineFits (s : SingleLine) (x : Conn) (dues : ℕ → Option ℕ) (tic
   pub queue : Sorted 0 ticket s.queue
 
 -- the connection at p is this line, where `names` has the number of each ticket's request
-pub record IsLineAt (p : ℕ) (names : ℕ → Option ℕ) (s : SingleLine) (m : Multi) (x : Conn) (dues : ℕ → Option ℕ) (ticket : ℕ) : Type 0 where
+pub record IsLineAt (c : Conf) (p : ℕ) (names : ℕ → Option ℕ) (s : SingleLine) (m : Multi) (x : Conn) (dues : ℕ → Option ℕ) (ticket : ℕ) : Type 0 where
   pub conn : m.conns p ≡ Some x
   pub seated : AreSeated p names (seats_of s m.asks x.ids)
-  pub fits : LineFits s x dues ticket
+  pub fits : LineFits c s x dues ticket

@@ -9,15 +9,16 @@ use Rattle.proof_right.specs.machine.Streams.{Phase, Broken, Asker, Multi, Moves
 use Rattle.proof_right.specs.machine.Served.{place_after, outs_of, posts_of}
 use Rattle.proof_parts.specs.Chains.{still, then_act}
 use Rattle.proof_parts.specs.Seats.{IsAway}
+use Rattle.right_trace.specs.Trace.{Conf}
 
 -- what a small move makes
 abbrev pub made_by : (place : ℕ) → multi.Act → Multi → Act Multi
 made_by place x m = record { state = m; place = place_after x place; outs = outs_of x; posts = posts_of x }
 
 -- of server s, at moment n
-pub data Runs (s n : ℕ) : (place : ℕ) → Multi → Act Multi → Type 0 where
-  Rests : (place : ℕ) (m : Multi) → Runs s n place m (still place m)
-  Runs_on : (place : ℕ) (m : Multi) (x : multi.Act) (k : Multi) (e : Act Multi) → Moves s n place m x k → Runs s n (place_after x place) k e → Runs s n place m (then_act (made_by place x k) e)
+pub data Runs (c : Conf) (s n : ℕ) : (place : ℕ) → Multi → Act Multi → Type 0 where
+  Rests : (place : ℕ) (m : Multi) → Runs c s n place m (still place m)
+  Runs_on : (place : ℕ) (m : Multi) (x : multi.Act) (k : Multi) (e : Act Multi) → Moves c s n place m x k → Runs c s n (place_after x place) k e → Runs c s n place m (then_act (made_by place x k) e)
 
 -- What moves at place p leave beside it: who is not there stays as he is, and what was asked and when stays so.
 pub record IsBeside (p : ℕ) (m n : Multi) : Type 0 where

@@ -1,5 +1,6 @@
 //! What holds of transports beside the parts that they are.
 
+ghost use Rattle.right_trace.specs.Trace.{Conf};
 ghost use Rattle.proof_parts.specs.Connections.{LinesAreTied};
 ghost use Rattle.proof_parts.specs.Framed.{FramesCarry};
 ghost use Rattle.proof_parts.specs.Octets.{LinksRead};
@@ -48,11 +49,11 @@ pub fn frames_carry()
 /// What each call of a connection leaves is what moves of the machine leave at its place.
 #[tactic(auto, using(crate::proofs::LinesTied::lines_are_tied))]
 pub fn lines_are_tied()
-    ensures { LinesAreTied }
+    ensures { (c : Conf) → LinesAreTied c }
 {}
 
 /// Octets that come to a connection, and frames that are taken one by one, are those of the machine.
 #[tactic(auto, using(crate::proofs::Linking::links_read))]
 pub fn links_read()
-    ensures { LinksRead }
+    ensures { (c : Conf) → LinksRead c }
 {}

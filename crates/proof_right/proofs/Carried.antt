@@ -1,4 +1,6 @@
 -- Octets that carry a request have the id that they carry it under, and the request can be composed.
+use Rattle.client_request.specs.Request as requests
+use Rattle.right_trace.specs.Trace.{Conf}
 use Rattle.std.proofs.Common.{◌≡◌, ℕ, ◌<◌, ◌≤◌, true, false, inl, inr, List, [], ◌∷◌, length, take, refl, ap, sym, ◌∙◌, arith}
 use Rattle.std.specs.Prelude.{Option, Some, None, is_some, nat_lt}
 use Rattle.std.specs.Option.{option_map_or}
@@ -19,7 +21,7 @@ use Rattle.client_request.specs.Carries.{Carries, SaysRequest, IsOfOctets, conte
 use Rattle.client_request.specs.declared.error.Error.{Error}
 use Rattle.client_request.specs.declared.event.Via.TheVariants.{Dgram}
 use Rattle.client_request.proofs.Writable.{AreOctets}
-use Rattle.right_trace.specs.Messages.{Octets, id_in, CarriesBy, under, base_is_read, passes_count, has_too_many, IsComposingFault}
+use Rattle.right_trace.specs.Messages.{Octets, id_in, CarriesBy, under, base_is_read, passes_count, has_too_many, IsComposingFault, announcing}
 use Rattle.right_trace.proofs.Copying.{number_small}
 
 -- what is read of octets has their first four as its header, and their counts
@@ -54,8 +56,12 @@ said_id octets id header says is =
 pub two_octets : (id : ℕ) → from_be_bytes w16 (to_be_bytes w16 id) < 65536
 two_octets id = omega arith
 
-pub carried_by : (r : Request) (id : ℕ) (octets : Octets) → id < 65536 → Carries octets r id → CarriesBy Dgram octets r id
-carried_by r id octets small carries = (carries, said_id octets id r.header carries refl ∙ from_be_bytes-to_be_bytes_2 id small)
+pub announced_header : (size : Option ℕ) (id : ℕ) (r : Request) → (announcing size (requests.with_id id r)).header ≡ with_id id r.header
+announced_header None id r = refl
+announced_header (Some n) id r = refl
+
+pub carried_by : (c : Conf) → (r : Request) (id : ℕ) (octets : Octets) → id < 65536 → SaysRequest octets (under c id r) → CarriesBy c Dgram octets r id
+carried_by c r id octets small says = (says, said_id octets id r.header says (announced_header c.transports.dgram_udp_payload_size id r) ∙ from_be_bytes-to_be_bytes_2 id small)
 
 -- What is carried can be composed.
 
@@ -91,5 +97,5 @@ within_counts octets r id small carries =
 
 pub composable : (r : Request) (octets : Octets) (id : ℕ) (e : Error) → IsOfOctets r → AreOctets octets → Carries octets r id → IsComposingFault r e → ⊥
 unfolding base_is_read
-composable r octets id e base small carries (inl f) = let b = base_read (under id r) carries.contents base.long carries.are in let g = f.1 in absurd (cc)
+composable r octets id e base small carries (inl f) = let b = base_read (requests.with_payload_size 1232 (requests.with_id id r)) carries.contents base.long carries.are in let g = f.1 in absurd (cc)
 composable r octets id e base small carries (inr f) = let b = within_counts octets r id small carries in let g = f.1 in absurd (cc)

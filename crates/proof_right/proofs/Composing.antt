@@ -1,7 +1,8 @@
 -- Composing makes what carries its request, or is refused for a cause.
-use Rattle.std.proofs.Common.{◌≡◌, ℕ, ◌<◌, ◌≤◌, inl, inr, List, ◌++◌, length, refl, ap, sym, subst, arith, Bool, true, false, length-append}
-use Rattle.std.specs.Prelude.{Option, Some, None, Ok, Err, nat_lt, ◌==◌, ◌||◌}
-use Rattle.std.proofs.lemmas.Bool.{eqb-true, eqb-false, lt-ltb}
+use Rattle.right_trace.specs.Trace.{Conf, is_size}
+use Rattle.std.proofs.Common.{◌≡◌, ℕ, ◌<◌, ◌≤◌, inl, inr, List, ◌++◌, length, refl, ap, sym, subst, arith, Bool, true, false, length-append, length-drop}
+use Rattle.std.specs.Prelude.{Option, Some, None, IfSome, Ok, Err, nat_lt, ◌==◌, ◌||◌}
+use Rattle.std.proofs.lemmas.Bool.{eqb-true, eqb-false, lt-ltb, ltb-true}
 use Rattle.dns_values.specs.declared.numbers.Section.TheVariants.{Answer, Authority, Additional}
 use Rattle.dns_base.specs.declared.push_error.PushError.TheVariants as refusals
 use Rattle.dns_base.specs.Numbers.{u16_at}
@@ -17,12 +18,12 @@ use Rattle.dns_base.proofs.Readings.{reading_laws}
 use Rattle.dns_base.proofs.Steps.{draft_steps}
 use Rattle.client_request.specs.declared.error.Error.{Error}
 use Rattle.client_request.specs.declared.error.CopyRecordsError.TheVariants.{Parse, Push}
-use Rattle.client_request.specs.Request.{Request, opt_written, with_payload_size}
+use Rattle.client_request.specs.Request.{Request, opt_written, opt_or_empty, with_id, with_payload_size}
 use Rattle.client_request.specs.Composed.{Copied, ◌>>◌, copies_section, adds_opt, copies_all, appended, message_of, composed}
-use Rattle.client_request.specs.Carries.{sent_from, records_of, opt_records, contents_of}
+use Rattle.client_request.specs.Carries.{sent_from, records_of, opt_records, contents_of, SaysRequest, IsOpt, IsOfOctets}
 use Rattle.client_request.proofs.Writable.{AreOctets}
-use Rattle.client_request.proofs.Carrying.{composed_carries}
-use Rattle.right_trace.specs.Messages.{base_is_read, passes_count, has_too_many, under, IsComposingFault, Composes}
+use Rattle.client_request.proofs.Carrying.{composed_says}
+use Rattle.right_trace.specs.Messages.{base_is_read, passes_count, has_too_many, announcing, IsComposingFault, Composes}
 use Rattle.right_trace.proofs.Copying.{Asks, asking, Sends, copying_section, count_sent, number_small, room_left, full_refused}
 
 -- A base is not read if a section of it is not.
@@ -177,9 +178,26 @@ refused_for r header opt e octets is = by_end (copies_all r.base opt (fresh None
     by_end o (Full at full) is = let h = rw at at is in inr (cc, full_cause r full)
     by_end o (Done d done) is = let h = rw done at is in absurd cc
 
-pub composed_composes : Composes composed
-composed_composes = record {
-  carries = composed_carries;
-  refused = λ r e h is. refused_for r r.header r.opt e h.base is;
-  refused_under = λ r id e h is. refused_for r (under id r).header (under id r).opt e h.base is;
+-- so whatever size is announced, or none
+refused_announcing : (size : Option ℕ) (r : Request) (id : ℕ) (e : Error) → AreOctets r.base → composed (announcing size (with_id id r)) ≡ Err e → IsComposingFault r e
+refused_announcing None r id e octets is = refused_for r (with_id id r).header (with_id id r).opt e octets is
+refused_announcing (Some n) r id e octets is = refused_for r (with_payload_size n (with_id id r)).header (with_payload_size n (with_id id r)).opt e octets is
+
+sized : (n : ℕ) → n < 65536 → (o : Option OptFields) → IfSome o IsOpt → IsOpt (record (opt_or_empty o) { udp_payload_size = n })
+sized n small (Some f) is = record { udp_payload_size = small; ext_rcode = is.ext_rcode; version = is.version; flags = is.flags; options = is.options }
+sized n small None is = record { udp_payload_size = small; ext_rcode = omega arith; version = omega arith; flags = omega arith; options = omega arith }
+
+said_announcing : (size : Option ℕ) → is_size size ≡ true → (r : Request) (id : ℕ) (octets : List ℕ) → IsOfOctets r → composed (announcing size (with_id id r)) ≡ Ok octets → SaysRequest octets (announcing size (with_id id r))
+said_announcing None small r id octets h is = composed_says (with_id id r) octets (record { base = h.base; long = h.long; header = omega (arith, length-drop 2 r.header, h.header); opt = h.opt }) is
+said_announcing (Some n) small r id octets h is = composed_says (with_payload_size n (with_id id r)) octets (record { base = h.base; long = h.long; header = omega (arith, length-drop 2 r.header, h.header); opt = sized n (ltb-true n 65536 small) r.opt h.opt }) is
+
+-- what is refused as it is
+pub composed_refused : (r : Request) (e : Error) → IsOfOctets r → composed r ≡ Err e → IsComposingFault r e
+composed_refused r e h is = refused_for r r.header r.opt e h.base is
+
+pub composed_composes : (c : Conf) → Composes c composed
+composed_composes c = record {
+  carries = λ r id octets h is. said_announcing c.transports.dgram_udp_payload_size c.transports.is_small r id octets h is;
+  refused = composed_refused;
+  refused_under = λ r id e h is. refused_announcing c.transports.dgram_udp_payload_size r id e h.base is;
 }

@@ -1,5 +1,5 @@
 -- The parts of a header are all its bits.
-use Rattle.std.proofs.Common.{◌≡◌, ℕ, zero, suc, ◌+◌, ◌<◌, Bool, true, false, ◌&&◌, inl, inr, List, [], ◌∷◌, length, refl, ap, sym, subst, ◌∙◌, arith, ◌==◌}
+use Rattle.std.proofs.Common.{◌≡◌, ℕ, zero, suc, ◌+◌, ◌<◌, Bool, true, false, ◌&&◌, inl, inr, [], ◌∷◌, length, refl, ap, sym, subst, ◌∙◌, arith, ◌==◌}
 use Rattle.std.specs.Prelude.{◌*◌, slice_index}
 use Rattle.std.proofs.lemmas.Bool.{cases_lt, eqb-true}
 use Rattle.right_trace.specs.Time.{one_if}

@@ -1,3 +1,4 @@
+pub mod Received
 pub mod Carried
 pub mod Composing
 pub mod HeaderBits

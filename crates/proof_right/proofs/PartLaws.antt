@@ -1,4 +1,5 @@
 -- The laws that one server's part owes, whatever transport it is: what the client knows of it.
+use Rattle.right_trace.specs.Time.{max_places}
 use Rattle.std.specs.Prelude.{◌≡◌, ℕ, ◌+◌, ◌≤◌, ◌<◌, ◌≢◌, min, Bool, true, false, ◌&&◌, ◌||◌, ◌==◌, ◌⊎◌, if◌then◌else◌, Some, List, [], ◌∷◌, length, Result, Ok, Err}
 use Rattle.client_request.specs.Request.{Request}
 use Rattle.client_request.specs.Carries.{IsOfOctets}
@@ -91,8 +92,8 @@ abbrev pub Late : (c : Conf) (U : Type 0) (holds : U → ℕ → Bool) (Expects 
 Late c U holds Expects s past w h d = (t : ℕ) (r : Request) (v : Via) (p k id : ℕ) (m : Octets) → Matches c r v t p k id m past w (put_all d.outs h) → Matches c r v t p k id m past w h ⊎ ((t ≡ s) × (holds d.state k ≡ true) × Expects d.state p k m)
 
 -- What the part expects of the event stays expected, or is given now, or its place was closed by a timer.
-abbrev pub Goes : (U : Type 0) (Expects : U → (p k : ℕ) → Octets → Type 0) (past : History) (w : What) (h : History) (u : U) (d : Act U) (p k : ℕ) (m : Octets) → Type 0
-Goes U Expects past w h u d p k m = Expects u p k m → IsPosted (record { request = k; result = Ok m }) d.posts ⊎ (Expects d.state p k m ⊎ IsExcused p past w (put_all d.outs h))
+abbrev pub Goes : (c : Conf) → (U : Type 0) (Expects : U → (p k : ℕ) → Octets → Type 0) (past : History) (w : What) (h : History) (u : U) (d : Act U) (p k : ℕ) (m : Octets) → Type 0
+Goes c U Expects past w h u d p k m = Expects u p k m → IsPosted (record { request = k; result = Ok m }) d.posts ⊎ (Expects d.state p k m ⊎ IsExcused c p past w (put_all d.outs h))
 
 abbrev pub none_more : (j t : ℕ) → Bool
 none_more j t = false
@@ -143,7 +144,7 @@ pub record Part (c : Conf) : Type 1 where
   pub acts_gives : (s place : ℕ) (past : History) (w : What) (u : State) (h : History) (d : Act State) → s < length c.servers → Fits s past w u h → place ≡ reach h → Acts s place u d → Gives c State holds (holds u) s past w h d
   pub acts_late : (s place : ℕ) (past : History) (w : What) (u : State) (h : History) (d : Act State) → s < length c.servers → Fits s past w u h → place ≡ reach h → Acts s place u d → Late c State holds Expects s past w h d
   pub acts_tells : (s place : ℕ) (past : History) (w : What) (u : State) (h : History) (d : Act State) → s < length c.servers → Fits s past w u h → place ≡ reach h → Acts s place u d → Tells State has_taken s w u h d
-  pub acts_goes : (s place : ℕ) (past : History) (w : What) (u : State) (h : History) (d : Act State) (p k : ℕ) (m : Octets) → s < length c.servers → Fits s past w u h → place ≡ reach h → Acts s place u d → Goes State Expects past w h u d p k m
+  pub acts_goes : (s place : ℕ) (past : History) (w : What) (u : State) (h : History) (d : Act State) (p k : ℕ) (m : Octets) → s < length c.servers → Fits s past w u h → place ≡ reach h → Acts s place u d → Goes c State Expects past w h u d p k m
   -- a request is handed to it that it never had
   pub starts_keeps : (s place k t : ℕ) (r : Request) (past : History) (w : What) (u : State) (h : History) (d : Act State) → s < length c.servers → Fits s past w u h → place ≡ reach h → IsOfOctets r → asking k h ≡ Some (record { request = r; moment = t }) → handed k s h ≡ false
       → Starts s place k r u d → Keeps State Fits (this_one k s) s past w h d
@@ -156,7 +157,7 @@ pub record Part (c : Conf) : Type 1 where
   pub starts_tells : (s place k t : ℕ) (r : Request) (past : History) (w : What) (u : State) (h : History) (d : Act State) → s < length c.servers → Fits s past w u h → place ≡ reach h → IsOfOctets r → asking k h ≡ Some (record { request = r; moment = t }) → handed k s h ≡ false
       → Starts s place k r u d → Tells State has_taken s w u h d
   pub starts_goes : (s place k t : ℕ) (r : Request) (past : History) (w : What) (u : State) (h : History) (d : Act State) (p j : ℕ) (m : Octets) → s < length c.servers → Fits s past w u h → place ≡ reach h → IsOfOctets r → asking k h ≡ Some (record { request = r; moment = t }) → handed k s h ≡ false
-      → Starts s place k r u d → Goes State Expects past w h u d p j m
+      → Starts s place k r u d → Goes c State Expects past w h u d p j m
   -- a request is given up; its places may be closed since it has its reply when the row ends
   pub cancels_keeps : (s place k : ℕ) (past : History) (w : What) (u : State) (h : History) (d : Act State) → s < length c.servers → Fits s past w u h → place ≡ reach h → holds u k ≡ true → Cancels s place k u d → Keeps State Fits none_more s past w h d
   pub cancels_right : (s place k : ℕ) (past : History) (w : What) (u : State) (h : History) (d : Act State) → s < length c.servers → Fits s past w u h → place ≡ reach h → holds u k ≡ true → Cancels s place k u d → replied k past ≡ false
@@ -167,14 +168,14 @@ pub record Part (c : Conf) : Type 1 where
   pub cancels_taken : (s place k : ℕ) (past : History) (w : What) (u : State) (h : History) (d : Act State) → s < length c.servers → Fits s past w u h → place ≡ reach h → holds u k ≡ true → Cancels s place k u d → has_taken u ≡ true → has_taken d.state ≡ true
   pub cancels_over : (s place k : ℕ) (past : History) (w : What) (u : State) (h : History) (d : Act State) → s < length c.servers → Fits s past w u h → place ≡ reach h → holds u k ≡ true → Cancels s place k u d
       → (j t : ℕ) → (t ≡ s → holds u j ≡ false) → (IsOwed c t j past w h → ⊥) → IsOwed c t j past w (put_all d.outs h) → ⊥
-  pub cancels_goes : (s place k : ℕ) (past : History) (w : What) (u : State) (h : History) (d : Act State) (p j : ℕ) (m : Octets) → s < length c.servers → Fits s past w u h → place ≡ reach h → holds u k ≡ true → Cancels s place k u d → j ≢ k → Goes State Expects past w h u d p j m
+  pub cancels_goes : (s place k : ℕ) (past : History) (w : What) (u : State) (h : History) (d : Act State) (p j : ℕ) (m : Octets) → s < length c.servers → Fits s past w u h → place ≡ reach h → holds u k ≡ true → Cancels s place k u d → j ≢ k → Goes c State Expects past w h u d p j m
   -- when the row is done
   pub expects_held : (u : State) (p k : ℕ) (m : Octets) → Expects u p k m → holds u k ≡ true
   pub rested : (u : State) (p k : ℕ) (m : Octets) → Rests u → Expects u p k m → ⊥
   pub busy : (s k : ℕ) (a : Asking) (past : History) (w : What) (u : State) (h : History) → s < length c.servers → Fits s past w u h → Rests u → holds u k ≡ true → asking k h ≡ Some a → is_valid a.request ≡ true → waits k h ≡ true → IsBusy c k h
-  pub few_places : (s : ℕ) (past : History) (w : What) (u : State) (h : History) → s < length c.servers → Fits s past w u h → Rests u → ((k : ℕ) → holds u k ≡ true → waits k h ≡ true) → live s h ≤ min 100 (demand s h)
+  pub few_places : (s : ℕ) (past : History) (w : What) (u : State) (h : History) → s < length c.servers → Fits s past w u h → Rests u → ((k : ℕ) → holds u k ≡ true → waits k h ≡ true) → live s h ≤ min (max_places c) (demand s h)
   pub just_so_many : (s : ℕ) (past : History) (w : What) (u : State) (h : History) → s < length c.servers → Fits s past w u h → Rests u → ((k : ℕ) → holds u k ≡ true → waits k h ≡ true) → ((k : ℕ) → waits k h ≡ true → handed k s h ≡ true → holds u k ≡ true)
-      → live s h ≡ min 100 (demand s h)
+      → live s h ≡ min (max_places c) (demand s h)
 
 -- its machine
 abbrev pub machine_of : {c : Conf} → Part c → ServerPart c

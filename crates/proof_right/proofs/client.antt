@@ -13,6 +13,7 @@ pub mod Faults
 pub mod Runs
 pub mod Hit
 pub mod Unhanded
+pub mod Unread
 pub mod Among
 pub mod Between
 pub mod Hitting

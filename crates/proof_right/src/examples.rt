@@ -12,7 +12,7 @@ ghost use Rattle.proof_right.specs.examples.Runs.{IsARun};
 ghost use Rattle.proof_right.specs.examples.Servers.{WorkedServers, failing_server};
 ghost use Rattle.proof_right.specs.examples.Slots.{SlotIsGivenOn};
 ghost use Rattle.proof_right.specs.examples.Streams.{cut_goes_on, WorkedStreams};
-ghost use Rattle.proof_right.specs.examples.Stale.{IsServedStale};
+ghost use Rattle.proof_right.specs.examples.Stale.{IsServedForFailing, IsServedStale};
 
 /// A request by datagram: its place, its send, what answers it, and of what a failure is blamed.
 pub fn worked_datagrams()
@@ -41,9 +41,10 @@ pub fn worked_hit()
     ensures { WorkedHit }
 {}
 
-/// An expired message is given where the server's place fails to open.
+/// An expired message is given where the server's place fails to open, and where the server says that it fails.
 pub fn worked_stale()
-    ensures { IsServedStale }
+    ensures not_opened { IsServedStale }
+    ensures failing { IsServedForFailing }
 {}
 
 /// A slow server, and one that fails, each beside another.

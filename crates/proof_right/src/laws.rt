@@ -4,12 +4,13 @@ ghost use Rattle.std.specs.Prelude.{◌<◌, ◌≡◌, ℕ, length, slice_index
 ghost use Rattle.client_request.specs.Composed.{composed};
 ghost use Rattle.right_trace.specs.Messages.{Composes, Octets};
 ghost use Rattle.right_trace.specs.Parts.{flags_in};
+ghost use Rattle.right_trace.specs.Trace.{Conf};
 ghost use Rattle.proof_right.specs.Theorem.{EveryCachedRunHits, EveryRunIsRight, EveryRunOfOneServerIsRight, RunsOfOneServerAreRuns, EveryCachedRunServesStale};
 
 /// What is composed of a request carries it, and a request is refused only where its base is not read or a
 /// section would have too many entries.
 pub fn composing_composes()
-    ensures { Composes composed }
+    ensures { (c : Conf) → Composes c composed }
 {}
 
 /// Every run of the client of small moves is right and timely: any number of servers, by datagrams and streams, with

@@ -5,11 +5,13 @@ use Rattle.std.specs.Option.{option_and_then}
 use Rattle.client_request.specs.declared.event.Event.{Event}
 use Rattle.client_request.specs.declared.event.Row.{Row}
 use Rattle.client_steps.specs.Client.{plain_rows, row_step, then_rows}
-use Rattle.client_steps.specs.Whole.{Whole, machine, plain_step, plain_trace, client_with}
+use Rattle.client_steps.specs.Whole.{Whole, machine, plain_step, plain_trace_with, client_with}
 use Rattle.client_shared.specs.declared.entry.Entry.{Entry}
 use Rattle.client_shared.specs.declared.entry.Item.TheVariants.{Made, Lost}
 use Rattle.client_shared.specs.History.{Opening, Runs, IsLegal, history, opened, row_of}
-use Rattle.proof_client.specs.Ties.{EveryPlainTraceHits, EveryPlainTraceIsRight, EveryPlainTraceServesStale}
+use Rattle.proof_client.specs.Ties.{TracesAreRight, TracesHit, TracesServeStale}
+use Rattle.client_settings.specs.declared.settings.Transports.{Transports as Given}
+use Rattle.right_trace.specs.Trace.{Transports}
 use Rattle.proof_shared.specs.Histories.{LegalHistories, events_of}
 
 rows_of : (n timeout : ℕ) (entries : List Entry) (s : Whole) (f : ℕ → ℕ) (t : Whole) (g : ℕ → ℕ) → s.timeout ≡ timeout → Runs n s f (map Made entries) t g
@@ -46,17 +48,17 @@ entries_legal : (o : Opening) (entries : List Entry) (lost : Option ℕ) → IsL
 entries_legal o entries None legal = legal
 entries_legal o entries (Some caller) legal = (legal.0, legal.1, without_loss o.callers entries caller (opened o) o.words legal.0 legal.1 legal.2)
 
-plain : (o : Opening) (entries : List Entry) (lost : Option ℕ) → IsLegal o (history entries lost) → plain_trace o.redundant o.cache o.conf o.words (events_of entries) ≡ Some (map row_of entries)
+plain : (o : Opening) (entries : List Entry) (lost : Option ℕ) → IsLegal o (history entries lost) → plain_trace_with o.transports o.redundant o.cache o.conf o.words (events_of entries) ≡ Some (map row_of entries)
 plain o entries lost legal =
     let made = entries_legal o entries lost legal in
     rows_of o.callers o.conf.options.timeout entries (opened o) o.words made.0 made.1 refl made.2
 
-pub legal_histories : EveryPlainTraceIsRight → EveryPlainTraceHits → EveryPlainTraceServesStale → LegalHistories
+pub legal_histories : ((t : Transports) (given : Given) → TracesAreRight t given) → ((t : Transports) (given : Given) → TracesHit t given) → ((t : Transports) (given : Given) → TracesServeStale t given) → LegalHistories
 legal_histories every hits stale = record {
   plain = plain;
   stops = λ o before event none. no_rows o.callers o.conf.options.timeout before (opened o) o.words none.client none.words event refl none.runs none.stops;
-  right = λ o entries lost legal handed. (every o.redundant o.cache o.conf o.words (events_of entries) (map row_of entries) (plain o entries lost legal) handed).0;
-  timely = λ o entries lost legal handed. (every o.redundant o.cache o.conf o.words (events_of entries) (map row_of entries) (plain o entries lost legal) handed).1;
-  hits = λ o entries lost legal handed. hits o.redundant o.cache o.conf o.words (events_of entries) (map row_of entries) (plain o entries lost legal) handed;
-  stale = λ o entries lost legal handed. stale o.redundant o.cache o.conf o.words (events_of entries) (map row_of entries) (plain o entries lost legal) handed;
+  right = λ o entries lost legal handed t are. (every t o.transports o.redundant o.cache o.conf o.words (events_of entries) (map row_of entries) are (plain o entries lost legal) handed).0;
+  timely = λ o entries lost legal handed t are. (every t o.transports o.redundant o.cache o.conf o.words (events_of entries) (map row_of entries) are (plain o entries lost legal) handed).1;
+  hits = λ o entries lost legal handed t are. hits t o.transports o.redundant o.cache o.conf o.words (events_of entries) (map row_of entries) are (plain o entries lost legal) handed;
+  stale = λ o entries lost legal handed t are. stale t o.transports o.redundant o.cache o.conf o.words (events_of entries) (map row_of entries) are (plain o entries lost legal) handed;
 }

@@ -2,9 +2,7 @@
 
 ghost use Rattle.proof_shared.specs.Histories.{LegalHistories};
 
-use proof_client::{
-    every_plain_trace_hits, every_plain_trace_is_right, every_plain_trace_serves_stale,
-};
+use proof_client::traces_with_settings;
 
 /// The rows of a legal history are the plain trace of its events, in their order; where these were handed in, they are right
 /// and timely, give what is kept, and serve what has expired. It does nothing.
@@ -12,7 +10,5 @@ use proof_client::{
 pub fn legal_histories()
     ensures { LegalHistories }
 {
-    every_plain_trace_is_right();
-    every_plain_trace_hits();
-    every_plain_trace_serves_stale();
+    traces_with_settings();
 }

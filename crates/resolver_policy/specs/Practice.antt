@@ -1,7 +1,13 @@
 -- What a client is given in practice.
-use Rattle.std.specs.Prelude.{ℕ, ◌*◌, ◌/◌, ◌^◌, zero, suc, true, List, [], ◌++◌, length, take, drop, min, max, if◌then◌else◌}
+use Rattle.std.specs.Prelude.{ℕ, ◌*◌, ◌/◌, ◌^◌, zero, suc, Option, None, Some, true, List, [], ◌++◌, length, take, drop, min, max, if◌then◌else◌}
 use Rattle.client_request.specs.Words.{rest_of}
+use Rattle.std.specs.Ordering.{nat_cmp}
+use Rattle.client_request.specs.Limits.{limited}
+use Rattle.client_settings.specs.Dgram as dgram
+use Rattle.client_settings.specs.MultiStream.{over_stream}
 use Rattle.client_settings.specs.Settings.{RedundantSettings}
+use Rattle.client_settings.specs.Stream as stream
+use Rattle.client_settings.specs.declared.settings.Transports.{Transports}
 use Rattle.resolv_conf.specs.Conf.{default_options}
 use Rattle.resolv_conf.specs.declared.conf.ResolvConf.{ResolvConf}
 use Rattle.resolv_conf.specs.declared.options.ResolvOptions.{ResolvOptions}
@@ -50,3 +56,27 @@ practical words conf = record {
   servers = in_rounds (rounds_of conf.options) (from_place (first_place words conf) conf.servers);
   options = record conf.options { timeout = time_of_round conf.options * rounds_of conf.options };
 }
+
+-- how long a round may take of a configuration that is given so: ten minutes at most
+abbrev pub round_time : ResolvOptions → ℕ
+round_time options = min 600000000 (options.timeout / rounds_of options)
+
+-- How servers are asked of a configuration that is given so: none is asked again by a transport, since the rounds ask again; an answer by datagram counts as long as the
+-- request may take, and a stream waits for one as long as a round.
+abbrev pub practical_transports : ResolvConf → Transports
+practical_transports conf = record {
+  dgram = record dgram.default_settings { max_parallel = 1000; max_retries = 0; read_timeout = limited nat_cmp 1000 60000000 conf.options.timeout };
+  multi_stream = over_stream (record stream.default_settings {
+    response_timeout = limited nat_cmp 1000 600000000 (round_time conf.options);
+    streaming_response_timeout = limited nat_cmp 1000 600000000 (round_time conf.options);
+  });
+}
+
+-- a payload size is announced, and at least so many octets of an answer are read; or none is announced
+abbrev pub announcing : Option ℕ → Transports → Transports
+announcing None t = record t { dgram = record t.dgram { udp_payload_size = None } }
+announcing (Some size) t = record t { dgram = record t.dgram { udp_payload_size = Some size; recv_size = max size (t.dgram).recv_size } }
+
+-- so many places at a server at most
+abbrev pub with_places : ℕ → Transports → Transports
+with_places n t = record t { dgram = record t.dgram { max_parallel = limited nat_cmp 1 1000 n } }

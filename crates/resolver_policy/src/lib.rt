@@ -3,8 +3,9 @@
 //! Of a file as it is found each line is read without its comment, each option for itself and an address without its zone
 //! identifier, by the grammar of `resolv_conf`; each line that this refuses is told, by its number and why, and no other; a
 //! client is given each server `attempts` times in rounds, from a drawn one on where they take turns, a deadline as long as
-//! all rounds, and settings by which errors of a transport, REFUSED and SERVFAIL wait for the other servers. By
-//! `Found::read`, `practical`, `practical_choice`.
+//! all rounds, settings by which errors of a transport, REFUSED and SERVFAIL wait for the other servers, and settings of
+//! transports by which a round asks again and none of them does. By `Found::read`, `practical`, `practical_choice`,
+//! `practical_transports`.
 //!
 //! `resolv_conf` reads a file exactly and refuses it at the first line that is outside the grammar. Here what is understood of
 //! each line is taken, and what isn't is told. Of the configuration and of chance the one is made that a client is given: each
@@ -15,7 +16,8 @@
 //! for note in found.notes.as_slice() { .. }
 //! found.conf.finalize(alloc)?;
 //! let conf = practical(alloc, found.conf, &mut words)?;
-//! let client = Client::new(alloc, &conf, practical_choice(), cache::Config::new())?;
+//! let settings = Settings { redundant: practical_choice(), cache: cache::Config::new(), transports: practical_transports(&conf) };
+//! let client = Client::with_settings(alloc, &conf, settings, 0)?;
 //! ```
 //!
 //! - `Found::read` of a source: what is found in its text (`IsFoundIn`), where the source tells it, which was then read to
@@ -25,9 +27,16 @@
 //!   are left (`words_left`): one fewer with `rotate`. Or memory ran out.
 //! - `practical_choice`: the settings by which an error of a transport, REFUSED and SERVFAIL of one server wait for the
 //!   others.
+//! - `practical_transports` of a configuration that `practical` made: 1000 places at a server, no try but the first, an
+//!   answer by datagram that counts as long as the request may take, and a stream that waits for one as long as a round.
+//!   `announcing` and `with_places` change the payload size and the places alone.
 //!
 //! # Why it is so
 //!
+//! - **No try but the first, and an answer counts to the end**: the rounds ask again, each at a place of its own, so a try of
+//!   the transport would only ask the same server once more. What a slow server answers after its round is an answer all the
+//!   same. A server has a number in each round, and its places are counted by numbers: so a server is asked at as many
+//!   sockets as it has places, times the rounds.
 //! - **`attempts` counts from 1 to 5, and `timeout` from 1 to 30 seconds**, as resolver(5) says of the C library's; 0
 //!   counts as 1 there too. The options stay as they were read, but for `timeout`, which is the client's deadline and
 //!   becomes as long as all rounds.
@@ -45,4 +54,6 @@ mod practice;
 
 pub use found::Found;
 pub use note::{Note, Notes, Why};
-pub use practice::{practical, practical_choice, practical_options};
+pub use practice::{
+    announcing, practical, practical_choice, practical_options, practical_transports, with_places,
+};

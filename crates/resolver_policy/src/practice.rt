@@ -1,10 +1,10 @@
 //! What a client is given in practice.
 
 ghost use Rattle.std.specs.Prelude.{◌≡◌, ◌≤◌, ◌<◌, ◌*◌, length, IfOk};
-ghost use Rattle.resolver_policy.specs.Practice.{first_place, from_place, in_rounds, place_drawn, practical, practical_choice, practical_options, rounds_of, time_of_round, words_left};
+ghost use Rattle.resolver_policy.specs.Practice.{announcing, first_place, from_place, in_rounds, place_drawn, practical, practical_choice, practical_options, practical_transports, round_time, rounds_of, time_of_round, with_places, words_left};
 
 use client_request::Words;
-use client_settings::redundant;
+use client_settings::{Transports, dgram, multi_stream, redundant, stream};
 use dns_values::{Duration, NoMemory};
 use resolv_conf::{ResolvConf, ResolvOptions, ServerConf, Servers};
 use std::alloc::Global;
@@ -128,4 +128,56 @@ pub fn practical<W: Words>(
     let servers = in_rounds(alloc, rounds, &servers)?;
     options.timeout = Duration::from_micros(time_of_round(&options) * rounds as u64);
     Ok(ResolvConf { servers, options })
+}
+
+/// The greatest time for which a stream waits for an answer, in microseconds.
+const MOST_ROUND_MICROS: u128 = 600_000_000;
+
+/// The most requests that are asked at a server at a time.
+const MOST_PLACES: usize = 1000;
+
+/// How long each round may take, of a configuration that `practical` made.
+fn round_time(options: &ResolvOptions) -> Duration
+    ensures { result ≡ round_time options.now }
+{
+    let round = options.timeout.as_micros() / rounds_of(options) as u128;
+    Duration::from_micros(round.min(MOST_ROUND_MICROS) as u64)
+}
+
+/// How servers are asked in practice, of a configuration that `practical` made. No server is asked again by a transport, since the
+/// rounds ask again; an answer by datagram counts as long as the request may take, so that a late one counts still, and a stream
+/// waits for one as long as a round, so that one slow answer holds it no longer.
+pub fn practical_transports(conf: &ResolvConf) -> Transports
+    ensures { result ≡ practical_transports conf.now }
+{
+    let mut dgram = dgram::Config::new();
+    dgram.set_max_parallel(MOST_PLACES);
+    dgram.set_max_retries(0);
+    dgram.set_read_timeout(conf.options.timeout);
+    let mut stream = stream::Config::new();
+    stream.set_response_timeout(round_time(&conf.options));
+    Transports {
+        dgram,
+        multi_stream: multi_stream::Config::from(stream),
+    }
+}
+
+/// The same settings, where requests announce this payload size, and at least so many octets of an answer are read; or announce none.
+pub fn announcing(size: Option<u16>, mut transports: Transports) -> Transports
+    ensures { result ≡ announcing size transports }
+{
+    let dgram = &mut transports.dgram;
+    dgram.set_udp_payload_size(size);
+    if let Some(size) = size {
+        dgram.set_recv_size(dgram.recv_size().max(usize::from(size)));
+    }
+    transports
+}
+
+/// The same settings, with so many places at a server, 1 to 1000.
+pub fn with_places(places: usize, mut transports: Transports) -> Transports
+    ensures { result ≡ with_places places transports }
+{
+    transports.dgram.set_max_parallel(places);
+    transports
 }

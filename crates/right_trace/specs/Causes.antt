@@ -9,7 +9,7 @@ use Rattle.client_request.specs.declared.event.Out.{Out}
 use Rattle.client_request.specs.declared.event.Out.TheVariants.{Send}
 use Rattle.client_request.specs.declared.event.Via.TheVariants.{Dgram, Stream}
 use Rattle.right_trace.specs.Trace.{History, Conf, Came, Put}
-use Rattle.right_trace.specs.Time.{now, newest, row_before, EarlierRow, read_timeout, stream_timeout}
+use Rattle.right_trace.specs.Time.{now, newest, row_before, EarlierRow, read_timeout, stream_timeout, max_tries}
 use Rattle.right_trace.specs.Messages.{Octets, CarriesBy, answers, base_is_read, passes_count}
 use Rattle.right_trace.specs.Requests.{Asking, asking, start, started}
 use Rattle.right_trace.specs.Places.{is_at, Unused, Opening, Alive, Gone, stand, is_live, closed_here}
@@ -88,7 +88,7 @@ pub record FailedToOpen (k : ℕ) (f : Fault) (past : History) (w : What) (h : H
   pub has_it : started k server Dgram h ≡ true
 
 -- an event tells of a datagram place of a server that has the request; it was alive before this row, and a send there named and carried the request
-pub record FailedAt (told : ℕ → What) (k : ℕ) (past : History) (w : What) : Type 0 where
+pub record FailedAt (c : Conf) (told : ℕ → What) (k : ℕ) (past : History) (w : What) : Type 0 where
   pub place : ℕ
   pub server : ℕ
   pub is_told : w ≡ told place
@@ -99,15 +99,15 @@ pub record FailedAt (told : ℕ → What) (k : ℕ) (past : History) (w : What) 
   pub asked : (t : ℕ) × (asking k past ≡ Some (record { request = request; moment = t }))
   pub send : Named
   pub named_there : IsOneOf send (named place k past)
-  pub carries : CarriesBy Dgram send.octets request send.id
+  pub carries : CarriesBy c Dgram send.octets request send.id
 
--- by moment n the request had six sends at one server, the last at least 5 s ago, at a place that was live before this row
-pub record TriesAreUp (k n : ℕ) (past h : History) : Type 0 where
+-- by moment n the request had all its sends at one server, the last of them a read timeout ago or more, at a place that was live before this row
+pub record TriesAreUp (c : Conf) (k n : ℕ) (past h : History) : Type 0 where
   pub server : ℕ
-  pub six : sends k server h ≡ 6
+  pub all : sends k server h ≡ max_tries c
   pub last : Try
   pub is_last : last_try k server h ≡ Some last
-  pub old : last.moment + read_timeout ≤ n
+  pub old : last.moment + read_timeout c ≤ n
   pub lived : is_live (stand last.place past) ≡ true
 
 -- the request can't be composed, since it is so
@@ -133,23 +133,23 @@ pub record Heard (c : Conf) (k s : ℕ) (end : History) : Type 0 where
   pub id : ℕ
   pub message : Octets
   pub comes : Comes c request Stream s place k id message (row_before end) (newest end) end
-  pub taken : (closed_here place end ≡ true) → ReadTimerIsDue place (now end) (row_before end) → ⊥
+  pub taken : (closed_here place end ≡ true) → ReadTimerIsDue c place (now end) (row_before end) → ⊥
 
--- by moment n 30 s passed since the request was handed to some server by stream, and no message has come since
+-- by moment n the timeout by stream passed since the request was handed to some server by stream, and no message has come since
 pub record StreamIsSilent (c : Conf) (k n : ℕ) (past : History) : Type 0 where
   pub server : ℕ
   pub begun : ℕ
   pub is_begun : start k server Stream past ≡ Some begun
-  pub passed : begun + stream_timeout ≤ n
+  pub passed : begun + stream_timeout c ≤ n
   pub silent : (Heard c k server past ⊎ EarlierRow (Heard c k server) past) → ⊥
 
 -- An error that a server gives request k in this row has its cause in it.
 pub data ServerCause (c : Conf) (k : ℕ) (past : History) (w : What) (h : History) : Error → Type 0 where
   NotOpened : (f : Fault) → FailedToOpen k f past w h → ServerCause c k past w h (errors.Dgram (query.Connect f))
-  NotSent : (f : Fault) → FailedAt (λ p. SendFailed p f) k past w → ServerCause c k past w h (errors.Dgram (query.Send f))
-  SentShort : FailedAt ShortSend k past w → ServerCause c k past w h (errors.Dgram (query.Send fault.ShortSend))
-  NotReceived : (f : Fault) → FailedAt (λ p. RecvFailed p f) k past w → ServerCause c k past w h (errors.Dgram (query.Receive f))
-  NoAnswer : TriesAreUp k (now h) past h → ServerCause c k past w h (errors.Dgram query.Timeout)
+  NotSent : (f : Fault) → FailedAt c (λ p. SendFailed p f) k past w → ServerCause c k past w h (errors.Dgram (query.Send f))
+  SentShort : FailedAt c ShortSend k past w → ServerCause c k past w h (errors.Dgram (query.Send fault.ShortSend))
+  NotReceived : (f : Fault) → FailedAt c (λ p. RecvFailed p f) k past w → ServerCause c k past w h (errors.Dgram (query.Receive f))
+  NoAnswer : TriesAreUp c k (now h) past h → ServerCause c k past w h (errors.Dgram query.Timeout)
   WrongReply : CameWrong c k past w h → ServerCause c k past w h errors.WrongReplyForQuery
   StreamSilence : StreamIsSilent c k (now h) past → ServerCause c k past w h errors.StreamReadTimeout
   NotRead : CannotBeComposed base_is_read false k h → ServerCause c k past w h errors.MessageParseError

@@ -14,8 +14,8 @@ use Rattle.right_trace.specs.Exchanges.{Matches}
 -- In what follows `past` is what happened before the row, `w` is the row's event, `h` is what happened up to here, the row's event and its outs so far included, and `end` is what happened when the row is done.
 
 -- The message's place, a stream place, was closed in this row, by h, and its read timer made it due: it may be passed over.
-unfoldable pub IsExcused : (p : ℕ) (past : History) (w : What) (h : History) → Type 0
-IsExcused p past w h = (closed_here p h ≡ true) × ReadTimerIsDue p (now h) past × (is_of_kind Stream (site p h) ≡ true)
+unfoldable pub IsExcused : (c : Conf) (p : ℕ) (past : History) (w : What) (h : History) → Type 0
+IsExcused c p past w h = (closed_here p h ≡ true) × ReadTimerIsDue c p (now h) past × (is_of_kind Stream (site p h) ≡ true)
 
 -- A message came for request k in this row on an exchange open for it, and matches it.
 pub record CameFor (c : Conf) (k : ℕ) (m : Octets) (past : History) (w : What) (h : History) : Type 0 where
@@ -30,7 +30,7 @@ pub record CameFor (c : Conf) (k : ℕ) (m : Octets) (past : History) (w : What)
 pub record SomeCame (c : Conf) (k : ℕ) (past : History) (w : What) (h : History) : Type 0 where
   pub message : Octets
   pub came : CameFor c k message past w h
-  pub counts : IsExcused came.place past w h → ⊥
+  pub counts : IsExcused c came.place past w h → ⊥
 
 -- Of all messages that came for request k and match it, m was the first.
 pub data CameFirst (c : Conf) (k : ℕ) (m : Octets) (past : History) (w : What) (h : History) : Type 0 where

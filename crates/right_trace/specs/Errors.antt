@@ -1,6 +1,6 @@
 -- Why a request gets an error: by a server, by the client, by the cache.
 use Rattle.right_trace.specs.Causes.{ServerCause, DeadlineHasPassed}
-use Rattle.std.specs.Prelude.{◌≡◌, ℕ, ◌+◌, ◌≤◌, Bool, true, false, ◌||◌, Some, None, ◌∷◌, length, Err}
+use Rattle.std.specs.Prelude.{◌≡◌, ℕ, ◌+◌, ◌≤◌, Bool, true, false, ◌||◌, None, ◌∷◌, length, Err, Result, Ok}
 use Rattle.client_request.specs.Request.{Request}
 use Rattle.client_request.specs.declared.error.Error.{Error}
 use Rattle.client_request.specs.declared.event.What.{What}
@@ -12,13 +12,12 @@ use Rattle.right_trace.specs.Messages.{Octets}
 use Rattle.right_trace.specs.Requests.{is_asked_here}
 use Rattle.right_trace.specs.Exchanges.{Matches}
 use Rattle.right_trace.specs.Settings.{Settings}
-use Rattle.right_trace.specs.Keys.{key_of, is_cacheable, is_do}
-use Rattle.right_trace.specs.Parts.{Parts, read_parts, known_parts}
-use Rattle.right_trace.specs.Validity.{validity_of_message, is_above, is_deferred}
-use Rattle.right_trace.specs.Views.{view_validity}
-use Rattle.right_trace.specs.Replies.{CoversLater, Supplies}
+use Rattle.right_trace.specs.Keys.{is_cacheable}
+use Rattle.right_trace.specs.Validity.{validity_of_message, is_deferred}
+use Rattle.right_trace.specs.Replies.{CoversLater, IsFresh}
+use Rattle.right_trace.specs.Views.{is_failing_message}
 use Rattle.right_trace.specs.Owed.{AllAreDone}
-use Rattle.right_trace.specs.Coming.{NoneCame}
+use Rattle.right_trace.specs.Coming.{CameFirst, NoneCame}
 use Rattle.client_request.specs.declared.error.Error.TheVariants as errors
 
 -- In what follows `past` is what happened before the row, `w` is the row's event, `h` is what happened up to here, the row's event and its outs so far included, and `end` is what happened when the row is done.
@@ -81,10 +80,20 @@ is_of_server _ = false
 abbrev pub is_failure : Error → Bool
 is_failure e = is_deadline e || is_of_server e
 
+-- a result for which an expired message may stand
+abbrev pub is_failing : Result Octets Error → Bool
+is_failing (Ok m) = is_failing_message m
+is_failing (Err e) = is_failure e
+
 -- A cause of its own; a deferred error stands only when every server is done with the request, and no message came.
 pub record OwnCause (c : Conf) (s : Settings) (e : Error) (k : ℕ) (past : History) (w : What) (h : History) : Type 0 where
   pub direct : DirectCause c s k past w h e
   pub last : is_of_server e ≡ true → s.defers_errors ≡ true → AllAreDone c k past w h × NoneCame c k past w h
+
+-- Why a result of request k fails: an error has its own cause; a message is fresh, and where it is deferred every server is done with the request, and it is the first that came.
+abbrev pub FailsSo : (c : Conf) (s : Settings) (k : ℕ) (past : History) (w : What) (h : History) → Result Octets Error → Type 0
+FailsSo c s k past w h (Ok m) = IsFresh c s k m past w h × (is_deferred s m ≡ true → AllAreDone c k past w h × CameFirst c k m past w h)
+FailsSo c s k past w h (Err e) = OwnCause c s e k past w h
 
 -- An error has its own cause or is kept; a deferred one that is not kept is given only when every server is done with the request, and no message came.
 pub data HasCause (c : Conf) (s : Settings) (e : Error) (k : ℕ) (past : History) (w : What) (h : History) : Type 0 where

@@ -53,11 +53,16 @@ reading p [] = Length
 reading p (Came e ∷ h) = read_on p e.what (is_alive_stream p h) (reading p h)
 reading p (Put o ∷ h) = reading p h
 
--- what an event brings to place p: a datagram, cut at 2000 octets, where 12 remain; or the frames that it completes
+-- what an event brings to place p: a datagram, or the frames that it completes
 abbrev pub came : (p : ℕ) → What → (past : History) → List Octets
-came p (Datagram q o) past = if (q == p) && (is_alive (stand p past) && (is_of_kind Dgram (site p past) && nat_le 12 (length (take 2000 o)))) then take 2000 o ∷ [] else []
+came p (Datagram q o) past = if (q == p) && (is_alive (stand p past) && is_of_kind Dgram (site p past)) then o ∷ [] else []
 came p (Bytes q o) past = if (q == p) && is_alive_stream p past then (fed (reading p past) o).frames else []
 came p _ past = []
+
+-- what is read of datagrams: each cut at so many octets, where 12 remain
+abbrev pub received : (most : ℕ) → List Octets → List Octets
+received n [] = []
+received n (o ∷ os) = if nat_le 12 (length (take n o)) then take n o ∷ received n os else received n os
 
 -- what the newest row's event brought to place p
 abbrev pub came_here : (p : ℕ) → History → List Octets

@@ -1,5 +1,5 @@
 -- A hit: an asking that the cache must answer in its own row.
-use Rattle.std.specs.Prelude.{◌≡◌, ℕ, ◌+◌, ◌*◌, ◌<◌, ◌≤◌, Bool, true, false, not, ◌&&◌, ◌⊎◌, if◌then◌else◌, Some, None, List, [], ◌∷◌, Result, Ok, Err}
+use Rattle.std.specs.Prelude.{◌≡◌, ℕ, ◌+◌, ◌*◌, ◌<◌, ◌≤◌, Bool, true, false, not, ◌&&◌, ◌⊎◌, if◌then◌else◌, Some, List, [], ◌∷◌, Result, Ok, Err}
 use Rattle.dns_base.specs.Data.{Data}
 use Rattle.client_request.specs.Request.{Request}
 use Rattle.client_request.specs.declared.error.Error.{Error}
@@ -18,7 +18,6 @@ use Rattle.right_trace.specs.Parts.{Parts, known_parts, Says}
 use Rattle.right_trace.specs.Validity.{validity_of_message}
 use Rattle.right_trace.specs.Views.{view_of}
 use Rattle.right_trace.specs.Replies.{IsFreshReply}
-use Rattle.client_request.specs.declared.error.Error.TheVariants as errors
 
 -- how many askings came since the reply to request j; one in that reply's own row counts
 abbrev pub asks_since : (j : ℕ) → History → ℕ

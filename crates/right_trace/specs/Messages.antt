@@ -13,7 +13,8 @@ use Rattle.client_request.specs.declared.event.Via.TheVariants.{Dgram, Stream}
 use Rattle.std.specs.Int.{w16, to_be_bytes}
 use Rattle.dns_base.specs.OptRecord.{opt_of}
 use Rattle.client_request.specs.Request.{Request, with_id, with_option, with_payload_size, is_misformed}
-use Rattle.client_request.specs.Carries.{contents_of, Carries, SaysRequest, IsOfOctets}
+use Rattle.client_request.specs.Carries.{contents_of, SaysRequest, IsOfOctets}
+use Rattle.right_trace.specs.Trace.{Conf}
 
 abbrev pub Octets : Type 0
 Octets = List ℕ
@@ -30,10 +31,19 @@ pub record CarriesInFrame (octets : Octets) (r : Request) (id : ℕ) : Type 0 wh
   pub named : id_in rest ≡ id
   pub says : SaysRequest rest (with_id id r) ⊎ SaysRequest rest (with_option 11 [] (with_id id r))
 
+-- the payload size is announced, if one is set; else what is recorded stays
+abbrev pub announcing : Option ℕ → Request → Request
+announcing None r = r
+announcing (Some size) r = with_payload_size size r
+
+-- a request under an id, as it is composed for a datagram
+abbrev pub under : Conf → (id : ℕ) → Request → Request
+under c id r = announcing c.transports.dgram_udp_payload_size (with_id id r)
+
 -- these octets are the request under this id, which they have, as it is sent so (RFC 1035 4.2.1, RFC 6891 6.2.3)
-abbrev pub CarriesBy : Via → Octets → Request → (id : ℕ) → Type 0
-CarriesBy Dgram octets r id = Carries octets r id × (id_in octets ≡ id)
-CarriesBy Stream octets r id = CarriesInFrame octets r id
+abbrev pub CarriesBy : Conf → Via → Octets → Request → (id : ℕ) → Type 0
+CarriesBy c Dgram octets r id = SaysRequest octets (under c id r) × (id_in octets ≡ id)
+CarriesBy c Stream octets r id = CarriesInFrame octets r id
 
 -- these octets are an answer to the request under this id (RFC 5452 4.2, 9.1)
 unfoldable pub answers : Request → (id : ℕ) → Octets → Bool
@@ -58,10 +68,6 @@ keepalive_in (suc n) _ found = found
 unfoldable pub keepalive_of : Octets → Option ℕ
 keepalive_of octets = option_and_then (λ opt. keepalive_in (length opt.options) opt.options None) (opt_of octets)
 
--- a request under an id, as it is composed for a datagram of at most 1232 octets
-abbrev pub under : (id : ℕ) → Request → Request
-under id r = with_payload_size 1232 (with_id id r)
-
 -- the base of a request is a message that can be read (RFC 1035 4.1)
 unfoldable pub base_is_read : Request → Bool
 base_is_read r = is_some (reads r.base)
@@ -70,7 +76,7 @@ base_is_read r = is_some (reads r.base)
 abbrev pub has_too_many : Contents → Bool
 has_too_many c = nat_lt 65535 (length c.questions) || (nat_lt 65535 (length c.answer) || (nat_lt 65535 (length c.authority) || nat_lt 65535 (length c.additional)))
 
--- composing the request would make a 65536th entry in a section
+-- composing the request would make a 65536th entry in a section, an OPT record counted (its size is no matter)
 unfoldable pub passes_count : Request → Bool
 passes_count r = option_map_or has_too_many (contents_of (with_payload_size 1232 r)) false
 
@@ -91,7 +97,7 @@ abbrev pub IsComposingFault : Request → Error → Type 0
 IsComposingFault r e = ((e ≡ MessageParseError) × (base_is_read r ≡ false)) ⊎ ((e ≡ MessageBuilderPushError) × (passes_count r ≡ true))
 
 -- A way to compose requests, whatever it chooses in compressing names: what it makes carries its request, and it is refused for a cause.
-pub record Composes (compose : Request → Result Octets Error) : Type 0 where
-  pub carries : (r : Request) (id : ℕ) (octets : Octets) → IsOfOctets r → compose (under id r) ≡ Ok octets → Carries octets r id
+pub record Composes (c : Conf) (compose : Request → Result Octets Error) : Type 0 where
+  pub carries : (r : Request) (id : ℕ) (octets : Octets) → IsOfOctets r → compose (under c id r) ≡ Ok octets → SaysRequest octets (under c id r)
   pub refused : (r : Request) (e : Error) → IsOfOctets r → compose r ≡ Err e → IsComposingFault r e
-  pub refused_under : (r : Request) (id : ℕ) (e : Error) → IsOfOctets r → compose (under id r) ≡ Err e → IsComposingFault r e
+  pub refused_under : (r : Request) (id : ℕ) (e : Error) → IsOfOctets r → compose (under c id r) ≡ Err e → IsComposingFault r e

@@ -7,7 +7,7 @@ use Rattle.client_request.specs.declared.event.Out.TheVariants.{Send}
 use Rattle.client_request.specs.declared.event.Via.{Via}
 use Rattle.client_request.specs.declared.event.Via.TheVariants.{Dgram, Stream}
 use Rattle.right_trace.specs.Trace.{History, Conf, Came, Put, Use, ByDatagrams, ByStreams}
-use Rattle.right_trace.specs.Time.{now, read_timeout, id_count}
+use Rattle.right_trace.specs.Time.{now, read_timeout, id_count, max_places}
 use Rattle.right_trace.specs.Messages.{Octets, CarriesBy, answers, truncated, is_valid}
 use Rattle.right_trace.specs.Requests.{Asking, asking, replied, started}
 use Rattle.right_trace.specs.Places.{is_at, live, demand, Site, site, is_told, Opening, Alive, stand}
@@ -62,7 +62,7 @@ sending p (Came e ∷ h) = sending p h
 sending p (Put o ∷ h) = sending_of p o (now h) (sending p h)
 
 -- What is sent or written stands at a place that is alive at that point, of its kind and of a server that has the request so, and carries the request; a datagram place had no send, and nothing waits under the id of a write, no frame of the row counted ; the request has no reply in an earlier row.
-pub record MaySend (k p id : ℕ) (octets : Octets) (past h : History) : Type 0 where
+pub record MaySend (c : Conf) (k p id : ℕ) (octets : Octets) (past h : History) : Type 0 where
   pub waits : replied k past ≡ false
   pub server : ℕ
   pub at : site p h ≡ Some (record { via = Dgram; server = server })
@@ -70,10 +70,10 @@ pub record MaySend (k p id : ℕ) (octets : Octets) (past h : History) : Type 0 
   pub begun : started k server Dgram h ≡ true
   pub request : Request
   pub asked : (t : ℕ) × (asking k h ≡ Some (record { request = request; moment = t }))
-  pub carries : CarriesBy Dgram octets request id
+  pub carries : CarriesBy c Dgram octets request id
   pub first : sending p h ≡ None
 
-pub record MayWrite (k p id : ℕ) (octets : Octets) (past h : History) : Type 0 where
+pub record MayWrite (c : Conf) (k p id : ℕ) (octets : Octets) (past h : History) : Type 0 where
   pub waits : replied k past ≡ false
   pub server : ℕ
   pub at : site p h ≡ Some (record { via = Stream; server = server })
@@ -81,7 +81,7 @@ pub record MayWrite (k p id : ℕ) (octets : Octets) (past h : History) : Type 0
   pub begun : started k server Stream h ≡ true
   pub request : Request
   pub asked : (t : ℕ) × (asking k h ≡ Some (record { request = request; moment = t }))
-  pub carries : CarriesBy Stream octets request id
+  pub carries : CarriesBy c Stream octets request id
   pub free : waiting_with [] p id h ≡ []
 
 -- the request has its reply in this row, here or later
@@ -102,23 +102,23 @@ pub record Answered (c : Conf) (p k : ℕ) (past : History) (w : What) (h : Hist
 pub data MayCloseDgram (c : Conf) (p : ℕ) (past : History) (w : What) (h end : History) : Type 0 where
   ItsFault : is_told p w ≡ true → MayCloseDgram c p past w h end
   ItsAnswer : (x : Sending) → sending p h ≡ Some x → Answered c p x.request past w h → MayCloseDgram c p past w h end
-  ItsTimeout : (x : Sending) → sending p h ≡ Some x → x.moment + read_timeout ≤ now h → MayCloseDgram c p past w h end
+  ItsTimeout : (x : Sending) → sending p h ≡ Some x → x.moment + read_timeout c ≤ now h → MayCloseDgram c p past w h end
   ItsReply : (x : Sending) → sending p h ≡ Some x → RepliedHere x.request past end → MayCloseDgram c p past w h end
   ReplyBeforeItsSend : (x : Site) → site p h ≡ Some x → sending p h ≡ None → (k : ℕ) → started k x.server Dgram h ≡ true → RepliedHere k past end → MayCloseDgram c p past w h end
   InvalidBeforeItsSend : (x : Site) → site p h ≡ Some x → sending p h ≡ None → (k : ℕ) (a : Asking) → asking k h ≡ Some a → is_valid a.request ≡ false → started k x.server Dgram h ≡ true → MayCloseDgram c p past w h end
 
 -- why a stream place is closed
-pub data MayCloseStream (p : ℕ) (past : History) (w : What) (h : History) : Type 0 where
-  StreamFault : is_told p w ≡ true → MayCloseStream p past w h
-  BadFrame : has_bad (came p w past) ≡ true → MayCloseStream p past w h
-  ReadTimer : ReadTimerIsDue p (now h) past → MayCloseStream p past w h
-  IdleTimer : IdleTimerIsDue p h → MayCloseStream p past w h
+pub data MayCloseStream (c : Conf) (p : ℕ) (past : History) (w : What) (h : History) : Type 0 where
+  StreamFault : is_told p w ≡ true → MayCloseStream c p past w h
+  BadFrame : has_bad (came p w past) ≡ true → MayCloseStream c p past w h
+  ReadTimer : ReadTimerIsDue c p (now h) past → MayCloseStream c p past w h
+  IdleTimer : IdleTimerIsDue c p h → MayCloseStream c p past w h
 
 -- why a place is closed
 pub data MayClose (c : Conf) (p : ℕ) (past : History) (w : What) (h end : History) : Type 0 where
   OfDgram : (s : ℕ) → is_at Dgram s p h ≡ true → MayCloseDgram c p past w h end → MayClose c p past w h end
-  OfStream : (s : ℕ) → is_at Stream s p h ≡ true → MayCloseStream p past w h → MayClose c p past w h end
+  OfStream : (s : ℕ) → is_at Stream s p h ≡ true → MayCloseStream c p past w h → MayClose c p past w h end
 
--- At most as many datagram places of each server are live as requests wait there, and at most 100; just so many where nothing is deferred.
-abbrev pub PlacesAreMet : (s : Settings) (end : History) → Type 0
-PlacesAreMet s end = (i : ℕ) → (live i end ≤ min 100 (demand i end)) × (defers_nothing s ≡ true → live i end ≡ min 100 (demand i end))
+-- At most as many datagram places of each server are live as requests wait there, and at most as many as are set; just so many where nothing is deferred.
+abbrev pub PlacesAreMet : (c : Conf) (s : Settings) (end : History) → Type 0
+PlacesAreMet c s end = (i : ℕ) → (live i end ≤ min (max_places c) (demand i end)) × (defers_nothing s ≡ true → live i end ≡ min (max_places c) (demand i end))

@@ -23,8 +23,8 @@ pub record IsOwed (c : Conf) (s k : ℕ) (past : History) (w : What) (h : Histor
   pub alive : (stand place h ≡ Alive) ⊎ ((stand place past ≡ Alive) × (is_told place w ≡ false))
   pub at : site place h ≡ Some (record { via = via; server = s })
   pub octets : Octets
-  pub sent : IsAmong octets (waited_for via request s place k id (now h) (came_here place h) h h)
-  pub carries : CarriesBy via octets request id
+  pub sent : IsAmong octets (waited_for c via request s place k id (now h) (came_here place h) h h)
+  pub carries : CarriesBy c via octets request id
 
 -- every server has the request, and none owes it an answer
 pub record AllAreDone (c : Conf) (k : ℕ) (past : History) (w : What) (h : History) : Type 0 where

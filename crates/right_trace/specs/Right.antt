@@ -11,7 +11,7 @@ use Rattle.client_request.specs.declared.event.Row.{Row}
 use Rattle.client_request.specs.declared.event.Via.{Via}
 use Rattle.client_request.specs.declared.event.Via.TheVariants.{Dgram}
 use Rattle.right_trace.specs.Trace.{History, Conf, Came, Put, after}
-use Rattle.right_trace.specs.Time.{now}
+use Rattle.right_trace.specs.Time.{now, max_tries}
 use Rattle.right_trace.specs.Messages.{Octets, is_valid}
 use Rattle.right_trace.specs.Requests.{Asking, asking, replied, waits}
 use Rattle.right_trace.specs.Places.{site, is_at, is_live, stand_untold}
@@ -21,6 +21,7 @@ use Rattle.right_trace.specs.Orderly.{MayStart, MayOpenStream, MayClose, PlacesA
 use Rattle.right_trace.specs.Busy.{IsBusy}
 use Rattle.right_trace.specs.Settings.{Settings, defers_nothing}
 use Rattle.right_trace.specs.Validity.{is_final}
+use Rattle.right_trace.specs.Views.{is_failing_message}
 use Rattle.right_trace.specs.Coming.{IsExcused}
 use Rattle.right_trace.specs.Stale.{MessageIsRight}
 use Rattle.client_request.specs.declared.error.Error.TheVariants as errors
@@ -85,8 +86,8 @@ abbrev pub ServerOutRight : (c : Conf) (past : History) (w : What) (h end : Hist
 ServerOutRight c past w h end (Start k s v) = HasServer c × MayStart c k s past w h v × IsAsked k h
 ServerOutRight c past w h end (OpenDgram p s) = HasServer c × (s < length c.servers) × IsUnopened p h
 ServerOutRight c past w h end (OpenStream p s) = HasServer c × (s < length c.servers) × MayOpenStream s h × IsUnopened p h
-ServerOutRight c past w h end (Send p k id o) = HasServer c × ((s : ℕ) → is_at Dgram s p h ≡ true → sends k s h < 6) × MaySend k p id o past h
-ServerOutRight c past w h end (Write p k id o) = HasServer c × MayWrite k p id o past h
+ServerOutRight c past w h end (Send p k id o) = HasServer c × ((s : ℕ) → is_at Dgram s p h ≡ true → sends k s h < max_tries c) × MaySend c k p id o past h
+ServerOutRight c past w h end (Write p k id o) = HasServer c × MayWrite c k p id o past h
 ServerOutRight c past w h end (Resume p o) = HasServer c
 ServerOutRight c past w h end (Close p) = HasServer c × MayClose c p past w h end × WasLive p h
 ServerOutRight c past w h end (Stale k) = ⊥
@@ -120,23 +121,28 @@ ServerOutsRight c past w end h (o ∷ os) = ServerOutRight c past w h end o × S
 -- By the rows before and moment n, the request is overdue.
 pub data IsOverdue (c : Conf) (s : Settings) (k n : ℕ) (past : History) : Type 0 where
   PastDeadline : (a : Asking) → asking k past ≡ Some a → a.moment + c.timeout ≤ n → IsOverdue c s k n past
-  PastTries : s.defers_errors ≡ false → TriesAreUp k n past past → IsOverdue c s k n past
+  PastTries : s.defers_errors ≡ false → TriesAreUp c k n past past → IsOverdue c s k n past
   PastStream : s.defers_errors ≡ false → StreamIsSilent c k n past → IsOverdue c s k n past
 
--- the first final message that comes for a request and matches it is its reply, in this row, unless the request is overdue or the message excused
+-- it is given; or, where an expired message may serve and this one fails, a stale one
+pub data IsGivenSo (s : Settings) (k : ℕ) (m : Octets) (outs : List Out) : Type 0 where
+  AsItIs : Among (Reply k (Ok m)) outs → IsGivenSo s k m outs
+  StaleFor : 0 < s.stale_for → is_failing_message m ≡ true → Among (Stale k) outs → IsGivenSo s k m outs
+
+-- the first final message that comes for a request and matches it is its reply, in this row, unless the request is overdue or the message excused; where it fails, the reply may be stale
 abbrev pub Prompt : (c : Conf) (s : Settings) (past : History) (row : Row) → Type 0
 Prompt c s past row =
     (r : Request) (v : Via) (i p k id : ℕ) (m : Octets)
     → Matches c r v i p k id m past row.event.what (after row past)
     → is_final s r m ≡ true
     → (IsOverdue c s k (now (Came row.event ∷ past)) past → ⊥)
-    → (IsExcused p past row.event.what (after row past) → ⊥)
-    → Among (Reply k (Ok m)) row.outs
+    → (IsExcused c p past row.event.what (after row past) → ⊥)
+    → IsGivenSo s k m row.outs
 
 pub record RowRight (c : Conf) (s : Settings) (past : History) (row : Row) : Type 0 where
   pub outs : OutsRight c s past row.event.what (after row past) (Came row.event ∷ past) row.outs
   pub busy : HasServer c → WaitingIsBusy c (after row past)
-  pub places : PlacesAreMet s (after row past)
+  pub places : PlacesAreMet c s (after row past)
   pub prompt : Prompt c s past row
   pub marks : MarksStand row.outs
   pub one_fault : defers_nothing s ≡ true → faults row.outs ≤ 1

@@ -1,5 +1,5 @@
 -- Replies that say what an expired message said, where servers failed (RFC 8767).
-use Rattle.std.specs.Prelude.{◌≡◌, ℕ, true, false, ◌∷◌}
+use Rattle.std.specs.Prelude.{◌≡◌, ℕ, true, false, ◌∷◌, Result}
 use Rattle.dns_base.specs.Data.{Data}
 use Rattle.client_request.specs.Request.{Request}
 use Rattle.client_request.specs.declared.error.Error.{Error}
@@ -12,17 +12,17 @@ use Rattle.right_trace.specs.Settings.{Settings}
 use Rattle.right_trace.specs.Parts.{Parts, Says}
 use Rattle.right_trace.specs.Views.{stale_of, IsValidStale}
 use Rattle.right_trace.specs.Replies.{Supplies, OkIsRight}
-use Rattle.right_trace.specs.Errors.{is_failure, OwnCause}
+use Rattle.right_trace.specs.Errors.{is_failing, FailsSo}
 
 -- In what follows `past` is what happened before the row, `w` is the row's event, `h` is what happened up to here, the row's event and its outs so far included.
 
--- An Ok reply is stale: its mark stands directly before it, an error of a server or of the deadline had its own cause there, and it says what the message of an earlier request says for this one when it has expired, at its age.
+-- An Ok reply is stale: its mark stands directly before it, a result failed there (an error of a server or of the deadline, by its own cause; or a fresh message that tells of no name), and it says what the message of an earlier request says for this one when it has expired, at its age.
 pub record IsStale (c : Conf) (s : Settings) (k : ℕ) (m : Octets) (past : History) (w : What) (h : History) : Type 0 where
   pub before : History
   pub marked : h ≡ (Put (Stale k) ∷ before)
-  pub error : Error
-  pub fails : is_failure error ≡ true
-  pub cause : OwnCause c s error k past w before
+  pub failed : Result Octets Error
+  pub fails : is_failing failed ≡ true
+  pub cause : FailsSo c s k past w before failed
   pub first : Request
   pub request : Request
   pub message : Octets

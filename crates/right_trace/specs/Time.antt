@@ -2,23 +2,35 @@
 use Rattle.std.specs.Prelude.{ℕ, Bool, ◌⊎◌, [], ◌∷◌, zero, suc, ◌+◌, max, true, false}
 use Rattle.client_request.specs.declared.event.What.{What}
 use Rattle.client_request.specs.declared.event.What.TheVariants.{Tick}
-use Rattle.right_trace.specs.Trace.{History, Came, Put}
+use Rattle.right_trace.specs.Trace.{History, Conf, Came, Put}
 
--- 5 s: how long an answer by datagram is waited for
-unfoldable pub read_timeout : ℕ
-read_timeout = 5000000
+-- how long an answer by datagram is waited for
+unfoldable pub read_timeout : Conf → ℕ
+read_timeout c = c.transports.dgram_read_timeout
 
--- 19 s: how long a stream connection waits for a frame
-unfoldable pub response_timeout : ℕ
-response_timeout = 19000000
+-- how long a stream connection waits for a frame
+unfoldable pub response_timeout : Conf → ℕ
+response_timeout c = c.transports.stream_response_timeout
 
--- 10 s: how long a stream connection stays idle, unless its server says so (RFC 7766 6.2.3)
-unfoldable pub idle_timeout : ℕ
-idle_timeout = 10000000
+-- how long a stream connection stays idle, unless its server says so (RFC 7766 6.2.3)
+unfoldable pub idle_timeout : Conf → ℕ
+idle_timeout c = c.transports.stream_idle_timeout
 
--- 30 s: how long a request by stream is waited for
-unfoldable pub stream_timeout : ℕ
-stream_timeout = 30000000
+-- how long a request by stream is waited for
+unfoldable pub stream_timeout : Conf → ℕ
+stream_timeout c = c.transports.multi_stream_response_timeout
+
+-- how often a request is sent to a server by datagram, at most
+unfoldable pub max_tries : Conf → ℕ
+max_tries c = suc c.transports.dgram_max_retries
+
+-- how many datagram places of a server are live, at most
+unfoldable pub max_places : Conf → ℕ
+max_places c = c.transports.dgram_max_parallel
+
+-- how many octets of a datagram are read
+unfoldable pub recv_size : Conf → ℕ
+recv_size c = c.transports.dgram_recv_size
 
 -- 64 s: a back-off is shorter; a request that meets that of its connection adds one of its own
 unfoldable pub back_off : ℕ

@@ -7,7 +7,7 @@ use Rattle.client_request.specs.declared.event.What.TheVariants.{Opened}
 use Rattle.client_request.specs.declared.event.Out.{Out}
 use Rattle.client_request.specs.declared.event.Out.TheVariants.{OpenStream}
 use Rattle.client_request.specs.declared.event.Via.TheVariants.{Stream}
-use Rattle.right_trace.specs.Trace.{History, Came, Put}
+use Rattle.right_trace.specs.Trace.{History, Conf, Came, Put}
 use Rattle.right_trace.specs.Time.{now, newest, response_timeout, idle_timeout}
 use Rattle.right_trace.specs.Messages.{Octets, is_valid, id_in, keepalive_of}
 use Rattle.right_trace.specs.Requests.{Asking, asking, started}
@@ -45,22 +45,22 @@ last_keepalive [] n = n
 last_keepalive (m ∷ ms) n = last_keepalive ms (if is_bad m then n else told_idle (keepalive_of m) n)
 
 -- how long p may be idle: what the last keepalive option of two octets said there (RFC 7828 3.4)
-abbrev pub idle_with : (ms : List Octets) → (p : ℕ) → History → ℕ
-idle_with ms p [] = idle_timeout
-idle_with ms p (Came e ∷ h) = last_keepalive ms (idle_with (came_here p h) p h)
-idle_with ms p (Put o ∷ h) = idle_with ms p h
+abbrev pub idle_with : (c : Conf) (ms : List Octets) → (p : ℕ) → History → ℕ
+idle_with c ms p [] = idle_timeout c
+idle_with c ms p (Came e ∷ h) = last_keepalive ms (idle_with c (came_here p h) p h)
+idle_with c ms p (Put o ∷ h) = idle_with c ms p h
 
-abbrev pub idle : (p : ℕ) → History → ℕ
-idle p h = idle_with (came_here p h) p h
+abbrev pub idle : (c : Conf) (p : ℕ) → History → ℕ
+idle c p h = idle_with c (came_here p h) p h
 
 -- The idle timer of p is due in the newest row: before its event, or after some of the frames that came, the later ones not counted.
-pub record IdleTimerIsDue (p : ℕ) (h : History) : Type 0 where
+pub record IdleTimerIsDue (c : Conf) (p : ℕ) (h : History) : Type 0 where
   pub counted : List Octets
   pub later : List Octets
   pub came : came_here p h ≡ counted ++ later
   pub alive : stand p h ≡ Alive
   pub unheld : (id : ℕ) → waiting_with counted p id h ≡ []
-  pub passed : quiet_with counted p h + idle_with counted p h ≤ now h
+  pub passed : quiet_with counted p h + idle_with c counted p h ≤ now h
 
 -- The last of the row's frames left the place unwritten, or had an id that nothing held.
 abbrev pub is_loose_end : List Octets → (p : ℕ) → History → Bool
@@ -81,13 +81,13 @@ abbrev pub ends_loose : (p : ℕ) → History → Bool
 ends_loose p h = ends_loose_with (came_here p h) p h
 
 -- why the read timer may be due as soon as p is quiet for long
-pub data MayBeQuiet (p t : ℕ) (h : History) : Type 0 where
-  HeldForLong : (id : ℕ) (x : Written) → IsWritten x (waiting p id h) → x.moment + response_timeout < t → MayBeQuiet p t h
-  EndsLoose : ends_loose p h ≡ true → MayBeQuiet p t h
-  InvalidRequest : (s : ℕ) → site p h ≡ Some (record { via = Stream; server = s }) → (k : ℕ) (a : Asking) → asking k h ≡ Some a → is_valid a.request ≡ false → started k s Stream h ≡ true → MayBeQuiet p t h
+pub data MayBeQuiet (c : Conf) (p t : ℕ) (h : History) : Type 0 where
+  HeldForLong : (id : ℕ) (x : Written) → IsWritten x (waiting p id h) → x.moment + response_timeout c < t → MayBeQuiet c p t h
+  EndsLoose : ends_loose p h ≡ true → MayBeQuiet c p t h
+  InvalidRequest : (s : ℕ) → site p h ≡ Some (record { via = Stream; server = s }) → (k : ℕ) (a : Asking) → asking k h ≡ Some a → is_valid a.request ≡ false → started k s Stream h ≡ true → MayBeQuiet c p t h
 
 -- The read timer of p is due at moment t.
-pub record ReadTimerIsDue (p t : ℕ) (h : History) : Type 0 where
+pub record ReadTimerIsDue (c : Conf) (p t : ℕ) (h : History) : Type 0 where
   pub alive : stand p h ≡ Alive
-  pub passed : quiet p h + response_timeout < t
-  pub may : MayBeQuiet p t h
+  pub passed : quiet p h + response_timeout c < t
+  pub may : MayBeQuiet c p t h

@@ -3,6 +3,7 @@ use Rattle.std.specs.Prelude.{◌≡◌, ℕ, ◌-◌, ◌/◌, ◌<◌, ◌≤�
 use Rattle.dns_names.specs.Name.{Labels}
 use Rattle.dns_base.specs.Data.{Data}
 use Rattle.dns_base.specs.Message.{Asked}
+use Rattle.dns_base.specs.OptRecord.{opt_rcode}
 use Rattle.client_request.specs.Request.{Request}
 use Rattle.right_trace.specs.Messages.{Octets}
 use Rattle.right_trace.specs.Settings.{Settings}
@@ -100,6 +101,10 @@ pub record IsValidView (s : Settings) (q r : Request) (m : Octets) (x : Parts Da
 -- a response code that tells of a name: what it has, or that it is not there
 abbrev pub tells_of_name : (code : ℕ) → Bool
 tells_of_name n = (n == 0) || (n == 3)
+
+-- a message that tells of none: its server failed (RFC 8767 4)
+abbrev pub is_failing_message : Octets → Bool
+is_failing_message m = not (tells_of_name (opt_rcode m))
 
 -- A message with these parts that has expired may be given at this age: it tells of a name, and is no failure of a server (RFC 8767 4).
 pub record IsValidStale (s : Settings) (q r : Request) (m : Octets) (x : Parts Data) (age : ℕ) : Type 0 where

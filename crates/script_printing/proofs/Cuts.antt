@@ -7,6 +7,7 @@ use Rattle.std.proofs.lemmas.List.{take-append-le}
 use Rattle.std.proofs.lemmas.List.Folds.{list_all-append}
 use Rattle.client_request.specs.declared.event.Event.{Event}
 use Rattle.client_settings.specs.Settings.{CacheSettings, RedundantSettings}
+use Rattle.client_settings.specs.declared.settings.Transports.{Transports}
 use Rattle.dns_script.specs.Lines.{event_line}
 use Rattle.dns_script.specs.Told.{tells_well}
 use Rattle.resolv_conf.specs.declared.conf.ResolvConf.{ResolvConf}
@@ -77,21 +78,23 @@ pub range_first : (first later : List Event) → AllByRecursion IsEvent (first +
 range_first [] later h = tt
 range_first (event ∷ first) later h = (h.0, range_first first later h.1)
 
-pub first_told : (conf : ResolvConf) (redundant : RedundantSettings) (cache : CacheSettings) (words : List ℕ) (events first later : List Event) → events ≡ first ++ later
-    → CanBeTold (script_of conf redundant cache words events) → CanBeTold (script_of conf redundant cache words first)
-first_told conf redundant cache words events first later all h = record {
+pub first_told : (conf : ResolvConf) (redundant : RedundantSettings) (cache : CacheSettings) (transports : Transports) (words : List ℕ) (events first later : List Event) → events ≡ first ++ later
+    → CanBeTold (script_of conf redundant cache transports words events) → CanBeTold (script_of conf redundant cache transports words first)
+first_told conf redundant cache transports words events first later all h = record {
   servers = h.servers;
   options = h.options;
   settings = h.settings;
+  transports = h.transports;
   lane = refl;
   events = told_first first later (subst (λ (es : List Event). are_told_events es ≡ true) all h.events);
 }
 
-pub first_in_range : (conf : ResolvConf) (redundant : RedundantSettings) (cache : CacheSettings) (words : List ℕ) (events first later : List Event) → events ≡ first ++ later
-    → IsInRange (script_of conf redundant cache words events) → IsInRange (script_of conf redundant cache words first)
-first_in_range conf redundant cache words events first later all h = record {
+pub first_in_range : (conf : ResolvConf) (redundant : RedundantSettings) (cache : CacheSettings) (transports : Transports) (words : List ℕ) (events first later : List Event) → events ≡ first ++ later
+    → IsInRange (script_of conf redundant cache transports words events) → IsInRange (script_of conf redundant cache transports words first)
+first_in_range conf redundant cache transports words events first later all h = record {
   addresses = h.addresses;
   timeout = h.timeout;
+  sizes = h.sizes;
   words = h.words;
   events = range_first first later (subst (AllByRecursion IsEvent) all h.events);
 }
@@ -106,11 +109,11 @@ behind_head head lines n h =
     let many : n ≡ length head + (n - length head) = omega arith in
     ap (λ (k : ℕ). take k (head ++ lines)) many ∙ take-append-add head lines (n - length head)
 
-pub cut_anywhere : (conf : ResolvConf) (redundant : RedundantSettings) (cache : CacheSettings) (words : List ℕ) (events : List Event) (n : ℕ) → CanBeTold (script_of conf redundant cache words events)
-    → IsInRange (script_of conf redundant cache words events) → length (head_text conf redundant cache words) ≤ n
-    → IsCut conf redundant cache words events (take n (script_text_of (script_of conf redundant cache words events)))
-cut_anywhere conf redundant cache words events n told range behind =
-    let head : List ℕ = head_text conf redundant cache words in
+pub cut_anywhere : (conf : ResolvConf) (redundant : RedundantSettings) (cache : CacheSettings) (transports : Transports) (words : List ℕ) (events : List Event) (n : ℕ) → CanBeTold (script_of conf redundant cache transports words events)
+    → IsInRange (script_of conf redundant cache transports words events) → length (head_text conf redundant cache transports words) ≤ n
+    → IsCut conf redundant cache transports words events (take n (script_text_of (script_of conf redundant cache transports words events)))
+cut_anywhere conf redundant cache transports words events n told range behind =
+    let head : List ℕ = head_text conf redundant cache transports words in
     let c : CutLines event_line events (take (n - length head) (flat_map event_line events)) = cut_lines event_text events (n - length head) (events_plain events range.events) in
     record {
       first = c.first;
@@ -122,5 +125,5 @@ cut_anywhere conf redundant cache words events n told range behind =
           ∙ ap (λ (t : List ℕ). head ++ t) c.octets_are
           ∙ sym (append_assoc head (flat_map event_line c.first) c.rest);
       no_line = c.no_line;
-      is_script = scripts_are_read_back (script_of conf redundant cache words c.first) (first_told conf redundant cache words events c.first c.later c.all told) (first_in_range conf redundant cache words events c.first c.later c.all range);
+      is_script = scripts_are_read_back (script_of conf redundant cache transports words c.first) (first_told conf redundant cache transports words events c.first c.later c.all told) (first_in_range conf redundant cache transports words events c.first c.later c.all range);
     }

@@ -1,15 +1,19 @@
 -- The lines before the first event are plain.
-use Rattle.std.proofs.Common.{◌≡◌, ◌<◌, ◌/◌, ◌^◌, ◌==◌, ℕ, Bool, true, false, ◌&&◌, nat_le, List, [], ◌∷◌, ◌++◌, map, refl, arith, codes, decimal}
+use Rattle.std.proofs.Common.{◌≡◌, ◌<◌, ◌/◌, ◌^◌, ◌==◌, ℕ, Bool, true, false, ◌&&◌, nat_le, List, [], ◌∷◌, ◌++◌, map, Option, Some, None, refl, arith, codes, decimal}
 use Rattle.std.specs.List.{AllByRecursion, join_with_byte}
 use Rattle.std.proofs.lemmas.Bool.{and_parts, leb-true}
+use Rattle.client_settings.specs.Dgram as dgram
+use Rattle.client_settings.specs.MultiStream as multi_stream
 use Rattle.client_settings.specs.Settings.{CacheSettings, no_bound}
+use Rattle.client_settings.specs.declared.settings.Transports.{Transports}
 use Rattle.resolv_conf.specs.declared.server.ServerConf.{ServerConf}
 use Rattle.dns_script.specs.declared.script.Script.{Script}
-use Rattle.script_printing.specs.CanBeTold.{AreAddresses, AreWordsInRange, CanBeTold, IsInRange, are_told_limits, are_told_settings, are_told_times, is_told_time}
-use Rattle.script_printing.specs.Texts.{cache_lines, choice_lines, conf_lines, entries_line, head_lines, option_lines, server_line, shown, switch_line, time_line, time_lines, word_lines}
+use Rattle.script_printing.specs.CanBeTold.{AreAddresses, AreSizesInRange, AreWordsInRange, CanBeTold, IsInRange, are_told_dgrams, are_told_limits, are_told_settings, are_told_streams, are_told_times, are_told_transports, is_told_time, is_told_wait}
+use Rattle.script_printing.specs.Texts.{cache_lines, choice_lines, conf_lines, count_lines, dgram_lines, entries_line, head_lines, kept_lines, option_lines, server_line, setting_lines, shown, size_line, stream_lines, switch_line, time_line, time_lines, transport_lines, wait_line, word_lines}
 use Rattle.script_printing.proofs.Confs.{address_is_word}
 use Rattle.script_printing.proofs.Plain.{IsPlain, IsWord, decimal_word, joined_plain, plain_append, plain_text, word_plain, word_text}
 use Rattle.script_printing.proofs.SettingLines.{decimals_are_words, time_fits}
+use Rattle.script_printing.proofs.TransportLines.{wait_fits}
 
 abbrev ArePlain : List (List ℕ) → Type 0
 ArePlain ls = AllByRecursion IsPlain ls
@@ -57,11 +61,44 @@ cache_plain c told =
     (time_plain (codes "stale-for") 0 c.stale_for (word_text (codes "stale-for") refl) (time_fits 0 604800 c.stale_for (omega arith) q3.1))))))))
     (switch_plain (codes "cache-truncated") c.cache_truncated (word_text (codes "cache-truncated") refl)))
 
+wait_plain : (name : List ℕ) (def v : ℕ) → IsWord name → v / 1000 < 2 ^ 64 → ArePlain (wait_line name def v)
+wait_plain name def v n h = setting_plain _ name (decimal (v / 1000)) n (decimal_word (v / 1000) h)
+
+size_plain : (size : Option ℕ) → dgram.IsSize size → ArePlain (size_line size)
+size_plain None h = setting_plain true (codes "dgram-udp-payload-size") (codes "none") (word_text (codes "dgram-udp-payload-size") refl) (word_text (codes "none") refl)
+size_plain (Some n) h = setting_plain _ (codes "dgram-udp-payload-size") (decimal n) (word_text (codes "dgram-udp-payload-size") refl) (decimal_word n (omega (arith, h)))
+
+dgrams_plain : (d : dgram.Settings) → are_told_dgrams d ≡ true → AreSizesInRange d → ArePlain (dgram_lines d)
+dgrams_plain d told fit =
+    let a = and_parts (nat_le 1 d.max_parallel && nat_le d.max_parallel 1000) _ told in
+    let b = and_parts (nat_le d.max_retries 100) (is_told_wait 1000 60000000 d.read_timeout) a.1 in
+    let few : d.max_parallel < 2 ^ 64 = (let high = leb-true d.max_parallel 1000 (and_parts (nat_le 1 d.max_parallel) (nat_le d.max_parallel 1000) a.0).1 in omega arith) in
+    let tries : d.max_retries < 2 ^ 64 = (let high = leb-true d.max_retries 100 b.0 in omega arith) in
+    joined (count_lines d) _
+    (joined _ _ (setting_plain _ (codes "dgram-max-parallel") (decimal d.max_parallel) (word_text (codes "dgram-max-parallel") refl) (decimal_word d.max_parallel few))
+    (joined _ _ (setting_plain _ (codes "dgram-max-retries") (decimal d.max_retries) (word_text (codes "dgram-max-retries") refl) (decimal_word d.max_retries tries))
+    (setting_plain _ (codes "dgram-recv-size") (decimal d.recv_size) (word_text (codes "dgram-recv-size") refl) (decimal_word d.recv_size fit.0))))
+    (joined (size_line d.udp_payload_size) _ (size_plain d.udp_payload_size fit.1) (wait_plain (codes "dgram-read-timeout") 5000 d.read_timeout (word_text (codes "dgram-read-timeout") refl) (wait_fits 1000 60000000 d.read_timeout (omega arith) b.1)))
+
+streams_plain : (m : multi_stream.Settings) → are_told_streams m ≡ true → ArePlain (stream_lines m)
+streams_plain m told =
+    let a = and_parts (is_told_wait 1000 600000000 m.response_timeout) _ told in
+    let b = and_parts (is_told_wait 1000 600000000 m.stream.response_timeout) _ a.1 in
+    let e = and_parts (is_told_wait 0 3600000000 m.stream.idle_timeout) (m.stream.streaming_response_timeout == m.stream.response_timeout) b.1 in
+    joined _ _ (wait_plain (codes "stream-response-timeout") 19000 m.stream.response_timeout (word_text (codes "stream-response-timeout") refl) (wait_fits 1000 600000000 m.stream.response_timeout (omega arith) b.0))
+    (joined _ _ (wait_plain (codes "stream-idle-timeout") 10000 m.stream.idle_timeout (word_text (codes "stream-idle-timeout") refl) (wait_fits 0 3600000000 m.stream.idle_timeout (omega arith) e.0))
+    (wait_plain (codes "multi-stream-response-timeout") 30000 m.response_timeout (word_text (codes "multi-stream-response-timeout") refl) (wait_fits 1000 600000000 m.response_timeout (omega arith) a.0)))
+
+transports_plain : (t : Transports) → are_told_transports t ≡ true → AreSizesInRange t.dgram → ArePlain (transport_lines t)
+transports_plain t told fit =
+    let a = and_parts (are_told_dgrams t.dgram) (are_told_streams t.multi_stream) told in
+    joined (dgram_lines t.dgram) (stream_lines t.multi_stream) (dgrams_plain t.dgram a.0 fit) (streams_plain t.multi_stream a.1)
+
 words_plain : (ws : List ℕ) → AreWordsInRange ws → ArePlain (word_lines ws)
 words_plain [] h = tt
 words_plain (w ∷ ws) h = (joined_plain (codes "words" ∷ map decimal (w ∷ ws)) (word_text (codes "words") refl, decimals_are_words (w ∷ ws) h), tt)
 
-pub head_is_plain : (script : Script) → CanBeTold script → IsInRange script → ArePlain (head_lines script.conf script.redundant script.cache script.words)
+pub head_is_plain : (script : Script) → CanBeTold script → IsInRange script → ArePlain (head_lines script.conf script.redundant script.cache script.transports script.words)
 head_is_plain script told range =
     let o = script.conf.options in
     let r = script.redundant in
@@ -69,9 +106,11 @@ head_is_plain script told range =
     (joined (map server_line script.conf.servers) (option_lines o) (servers_plain script.conf.servers range.addresses)
     (joined _ _ (shown_plain _ _ (plain_append (codes "conf options timeout:") (decimal (o.timeout / 1000000)) (plain_text (codes "conf options timeout:") refl) (word_plain _ (decimal_word (o.timeout / 1000000) range.timeout))))
     (shown_plain o.use_vc (codes "conf options use-vc") (plain_text (codes "conf options use-vc") refl))))
-    (joined (choice_lines r ++ cache_lines script.cache) (word_lines script.words)
+    (joined (setting_lines r script.cache script.transports) (word_lines script.words)
+    (joined (kept_lines r script.cache) (transport_lines script.transports)
     (joined (choice_lines r) (cache_lines script.cache)
     (joined _ _ (switch_plain (codes "defer-transport-error") r.defer_transport_error (word_text (codes "defer-transport-error") refl))
     (joined _ _ (switch_plain (codes "defer-refused") r.defer_refused (word_text (codes "defer-refused") refl)) (switch_plain (codes "defer-servfail") r.defer_servfail (word_text (codes "defer-servfail") refl))))
     (cache_plain script.cache told.settings))
+    (transports_plain script.transports told.transports range.sizes))
     (words_plain script.words range.words))

@@ -9,3 +9,4 @@ pub mod ReadingBack
 pub mod Scripts
 pub mod SettingLines
 pub mod Telling
+pub mod TransportLines

@@ -5,26 +5,29 @@ use Rattle.std.specs.Str.Lines.{lines}
 use Rattle.std.proofs.lemmas.Bool.{eqb-true}
 use Rattle.std.proofs.lemmas.Grind.{flat_map-append}
 use Rattle.client_request.specs.declared.event.Event.{Event}
+use Rattle.client_settings.specs.Client.{default_transports}
 use Rattle.client_settings.specs.Settings.{CacheSettings, RedundantSettings, default_cache, default_redundant}
+use Rattle.client_settings.specs.declared.settings.Transports.{Transports}
 use Rattle.resolv_conf.specs.Conf.{default_options}
 use Rattle.resolv_conf.specs.declared.conf.ResolvConf.{ResolvConf}
 use Rattle.dns_script.specs.Lines.{event_line}
 use Rattle.dns_script.specs.ScriptReading.{IsScript, TakesLines}
 use Rattle.dns_script.specs.declared.script.Script.{Script}
 use Rattle.script_printing.specs.CanBeTold.{CanBeTold, IsEvent, IsInRange}
-use Rattle.script_printing.specs.Texts.{cache_lines, choice_lines, conf_lines, ended, first_lane, head_lines, head_text, script_of, script_text_of, word_lines}
+use Rattle.script_printing.specs.Texts.{conf_lines, ended, first_lane, head_lines, head_text, kept_lines, script_of, script_text_of, setting_lines, transport_lines, word_lines}
 use Rattle.script_printing.proofs.Confs.{conf_taken}
 use Rattle.script_printing.proofs.EventLines.{event_plain, event_text, events_taken, reader_behind}
 use Rattle.script_printing.proofs.Heads.{head_is_plain}
 use Rattle.script_printing.proofs.Lines.{reader_at, takes_more}
 use Rattle.script_printing.proofs.Plain.{IsPlain, lines_of_text}
 use Rattle.script_printing.proofs.SettingLines.{settings_taken, words_taken}
+use Rattle.script_printing.proofs.TransportLines.{transports_taken}
 
-pub one_more_line : (conf : ResolvConf) (redundant : RedundantSettings) (cache : CacheSettings) (words : List ℕ) (events : List Event) (event : Event)
-    → script_text_of (script_of conf redundant cache words (events ++ event ∷ [])) ≡ script_text_of (script_of conf redundant cache words events) ++ event_line event
-one_more_line conf redundant cache words events event =
-    ap (λ t. head_text conf redundant cache words ++ t) (flat_map-append event_line events (event ∷ []) ∙ ap (λ t. flat_map event_line events ++ t) (append-nil (event_line event)))
-    ∙ sym (append_assoc (head_text conf redundant cache words) (flat_map event_line events) (event_line event))
+pub one_more_line : (conf : ResolvConf) (redundant : RedundantSettings) (cache : CacheSettings) (transports : Transports) (words : List ℕ) (events : List Event) (event : Event)
+    → script_text_of (script_of conf redundant cache transports words (events ++ event ∷ [])) ≡ script_text_of (script_of conf redundant cache transports words events) ++ event_line event
+one_more_line conf redundant cache transports words events event =
+    ap (λ t. head_text conf redundant cache transports words ++ t) (flat_map-append event_line events (event ∷ []) ∙ ap (λ t. flat_map event_line events ++ t) (append-nil (event_line event)))
+    ∙ sym (append_assoc (head_text conf redundant cache transports words) (flat_map event_line events) (event_line event))
 
 event_lines : (events : List Event) → flat_map ended (map event_text events) ≡ flat_map event_line events
 event_lines [] = refl
@@ -48,31 +51,34 @@ scripts_are_read_back script told range =
     let conf : ResolvConf = script.conf in
     let r : RedundantSettings = script.redundant in
     let c : CacheSettings = script.cache in
+    let t : Transports = script.transports in
     let ws : List ℕ = script.words in
     let events : List Event = first_lane script.lanes in
     let first : ResolvConf = record { servers = []; options = default_options } in
-    let s0 = reader_at first (record { redundant = default_redundant; cache = default_cache }) [] in
-    let s1 = reader_at conf (record { redundant = default_redundant; cache = default_cache }) [] in
-    let s2 = reader_at conf (record { redundant = r; cache = c }) [] in
-    let s3 = reader_at conf (record { redundant = r; cache = c }) ws in
-    let head : List (List ℕ) = head_lines conf r c ws in
-    let behind = events_taken conf (record { redundant = r; cache = c }) ws false events [] range.events told.events in
-    let s4 = reader_behind conf (record { redundant = r; cache = c }) ws behind.0 events in
-    let one : TakesLines (conf_lines conf) s0 s1 = conf_taken conf (record { redundant = default_redundant; cache = default_cache }) [] told.servers told.options range.addresses range.timeout in
-    let two : TakesLines (choice_lines r ++ cache_lines c) s1 s2 = settings_taken conf r c [] told.settings in
-    let three : TakesLines (word_lines ws) s2 s3 = words_taken conf (record { redundant = r; cache = c }) ws range.words in
-    let before : TakesLines head s0 s3 =
-    takes_more (conf_lines conf) (choice_lines r ++ cache_lines c ++ word_lines ws) s0 s1 s3 one (takes_more (choice_lines r ++ cache_lines c) (word_lines ws) s1 s2 s3 two three) in
-    let all : TakesLines (head ++ map event_text events) s0 s4 = takes_more head (map event_text events) s0 s3 s4 before behind.1 in
+    let s0 = reader_at first (record { redundant = default_redundant; cache = default_cache; transports = default_transports }) [] in
+    let s1 = reader_at conf (record { redundant = default_redundant; cache = default_cache; transports = default_transports }) [] in
+    let s2 = reader_at conf (record { redundant = r; cache = c; transports = default_transports }) [] in
+    let s3 = reader_at conf (record { redundant = r; cache = c; transports = t }) [] in
+    let s4 = reader_at conf (record { redundant = r; cache = c; transports = t }) ws in
+    let head : List (List ℕ) = head_lines conf r c t ws in
+    let behind = events_taken conf (record { redundant = r; cache = c; transports = t }) ws false events [] range.events told.events in
+    let s5 = reader_behind conf (record { redundant = r; cache = c; transports = t }) ws behind.0 events in
+    let one : TakesLines (conf_lines conf) s0 s1 = conf_taken conf (record { redundant = default_redundant; cache = default_cache; transports = default_transports }) [] told.servers told.options range.addresses range.timeout in
+    let two : TakesLines (kept_lines r c) s1 s2 = settings_taken conf r c [] told.settings in
+    let three : TakesLines (transport_lines t) s2 s3 = transports_taken conf [] r c t told.transports range.sizes in
+    let four : TakesLines (word_lines ws) s3 s4 = words_taken conf (record { redundant = r; cache = c; transports = t }) ws range.words in
+    let set : TakesLines (setting_lines r c t) s1 s3 = takes_more (kept_lines r c) (transport_lines t) s1 s2 s3 two three in
+    let before : TakesLines head s0 s4 = takes_more (conf_lines conf) (setting_lines r c t ++ word_lines ws) s0 s1 s4 one (takes_more (setting_lines r c t) (word_lines ws) s1 s3 s4 set four) in
+    let all : TakesLines (head ++ map event_text events) s0 s5 = takes_more head (map event_text events) s0 s4 s5 before behind.1 in
     let text : flat_map ended (head ++ map event_text events) ≡ script_text_of script =
-    flat_map-append ended head (map event_text events) ∙ ap (λ t. head_text conf r c ws ++ t) (event_lines events) in
+    flat_map-append ended head (map event_text events) ∙ ap (λ x. head_text conf r c t ws ++ x) (event_lines events) in
     let plain : AllByRecursion IsPlain (head ++ map event_text events) = all_append IsPlain head (map event_text events) (head_is_plain script told range) (events_plain events range.events) in
     record {
-      reader = s4;
-      lines_taken = subst (λ ls. TakesLines ls s0 s4) (sym (ap lines (sym text) ∙ lines_of_text (head ++ map event_text events) plain)) all;
+      reader = s5;
+      lines_taken = subst (λ ls. TakesLines ls s0 s5) (sym (ap lines (sym text) ∙ lines_of_text (head ++ map event_text events) plain)) all;
       lane = events;
       last_lane = refl;
-      says = ap (λ lanes. record script { lanes = lanes }) (one_lane script.lanes told.lane);
+      says = λ i. record script { lanes = one_lane script.lanes told.lane i };
     }
 
 -- the same of a text that is that of a script

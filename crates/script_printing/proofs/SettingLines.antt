@@ -5,6 +5,7 @@ use Rattle.std.specs.Ordering.{nat_cmp}
 use Rattle.std.specs.declared.cmp.Ordering.TheVariants.{Less, Equal, Greater}
 use Rattle.std.proofs.lemmas.Bool.{and_parts, eq-eqb, eqb-true, le-ltb, leb-true, ltb-false}
 use Rattle.client_request.specs.Limits.{greater_by, lesser_by, limited}
+use Rattle.client_settings.specs.Client.{default_transports}
 use Rattle.client_settings.specs.Settings.{CacheSettings, RedundantSettings, default_cache, default_redundant, no_bound, seconds}
 use Rattle.resolv_conf.specs.declared.conf.ResolvConf.{ResolvConf}
 use Rattle.dns_script.specs.Reading.{number_of, numbers_of}
@@ -31,7 +32,7 @@ at_least_is v l h = ap (λ b. greater_by (cond b Less (cond (v == l) Equal Great
     go true e = refl
     go false e = refl
 
-limited_is : (l g v : ℕ) → l ≤ v → v ≤ g → limited nat_cmp l g v ≡ v
+pub limited_is : (l g v : ℕ) → l ≤ v → v ≤ g → limited nat_cmp l g v ≡ v
 limited_is l g v low high = ap (λ x. greater_by (nat_cmp x l) x l) (at_most_is v g high) ∙ at_least_is v l low
 
 -- a time within its limits, of whole seconds, stays as it is
@@ -53,7 +54,7 @@ number_back : (n : ℕ) → n < 2 ^ 64 → number_of 18446744073709551615 (decim
 number_back n h = decimal_is_number 18446744073709551615 n (omega arith) (omega (arith, h))
 
 -- a line of a setting is taken as what it says
-setting_taken : (name word : List ℕ) (conf : ResolvConf) (before after : Settings) (ws : List ℕ) → IsWord name → IsWord word → sets (name ∷ word ∷ []) before ≡ Some after
+pub setting_taken : (name word : List ℕ) (conf : ResolvConf) (before after : Settings) (ws : List ℕ) → IsWord name → IsWord word → sets (name ∷ word ∷ []) before ≡ Some after
     → TakesLines (join_with_byte 32 (codes "set" ∷ name ∷ word ∷ []) ∷ []) (reader_at conf before ws) (reader_at conf after ws)
 setting_taken name word conf before after ws n w set =
     let words : AreWords (name ∷ word ∷ []) = (n, (w, tt)) in
@@ -77,26 +78,26 @@ time_taken name def value conf before after ws n small same set = go (value == s
     go false e = setting_taken name (decimal (value / 1000000)) conf before after ws n (decimal_word (value / 1000000) small) set
 
 entries_taken : (n : ℕ) (conf : ResolvConf) (r : RedundantSettings) (c : CacheSettings) (ws : List ℕ) → c.max_cache_entries ≡ 1000 → (nat_le 1 n && nat_le n 1000000000) ≡ true
-    → TakesLines (entries_line n) (reader_at conf (record { redundant = r; cache = c }) ws) (reader_at conf (record { redundant = r; cache = record c { max_cache_entries = n } }) ws)
+    → TakesLines (entries_line n) (reader_at conf (record { redundant = r; cache = c; transports = default_transports }) ws) (reader_at conf (record { redundant = r; cache = record c { max_cache_entries = n }; transports = default_transports }) ws)
 entries_taken n conf r c ws def told = go (n == 1000) refl
   where
     after : ℕ → Settings
-    after k = record { redundant = r; cache = record c { max_cache_entries = k } }
+    after k = record { redundant = r; cache = record c { max_cache_entries = k }; transports = default_transports }
 
     small : n < 2 ^ 64
     small = let high = leb-true n 1000000000 (and_parts (nat_le 1 n) (nat_le n 1000000000) told).1 in omega arith
 
-    go : (b : Bool) → (n == 1000) ≡ b → TakesLines (shown (not b) (join_with_byte 32 (codes "set" ∷ codes "max-cache-entries" ∷ decimal n ∷ []))) (reader_at conf (record { redundant = r; cache = c }) ws) (reader_at conf (record { redundant = r; cache = record c { max_cache_entries = n } }) ws)
+    go : (b : Bool) → (n == 1000) ≡ b → TakesLines (shown (not b) (join_with_byte 32 (codes "set" ∷ codes "max-cache-entries" ∷ decimal n ∷ []))) (reader_at conf (record { redundant = r; cache = c; transports = default_transports }) ws) (reader_at conf (record { redundant = r; cache = record c { max_cache_entries = n }; transports = default_transports }) ws)
     go true e = ap (λ k. reader_at conf (after k) ws) (eqb-true n 1000 e ∙ sym def)
     go false e =
         let parts = and_parts (nat_le 1 n) (nat_le n 1000000000) told in
         let is : limited nat_cmp 1 1000000000 n ≡ n = limited_is 1 1000000000 n (leb-true _ _ parts.0) (leb-true _ _ parts.1) in
-        setting_taken (codes "max-cache-entries") (decimal n) conf (record { redundant = r; cache = c }) (after n) ws (word_text (codes "max-cache-entries") refl) (decimal_word n small)
+        setting_taken (codes "max-cache-entries") (decimal n) conf (record { redundant = r; cache = c; transports = default_transports }) (after n) ws (word_text (codes "max-cache-entries") refl) (decimal_word n small)
         (rw (number_back n small) (ap (λ k. Some (after k)) is))
 
 -- the settings with one of them given
 abbrev with_cache : RedundantSettings → CacheSettings → Settings
-with_cache r c = record { redundant = r; cache = c }
+with_cache r c = record { redundant = r; cache = c; transports = default_transports }
 
 module _ (conf : ResolvConf) (r : RedundantSettings) (c : CacheSettings) (ws : List ℕ) (v : ℕ) where
   max_validity : c.max_validity ≡ seconds 604800 → is_told_time 60 6048000 v ≡ true → TakesLines (time_line (codes "max-validity") 604800 v) (reader_at conf (with_cache r c) ws) (reader_at conf (with_cache r (record c { max_validity = v })) ws)
@@ -201,7 +202,7 @@ cache_taken conf r c ws told =
 
 -- the lines of settings that can be told are taken as these
 pub settings_taken : (conf : ResolvConf) (r : RedundantSettings) (c : CacheSettings) (ws : List ℕ) → are_told_settings c ≡ true
-    → TakesLines (choice_lines r ++ cache_lines c) (reader_at conf (record { redundant = default_redundant; cache = default_cache }) ws) (reader_at conf (record { redundant = r; cache = c }) ws)
+    → TakesLines (choice_lines r ++ cache_lines c) (reader_at conf (record { redundant = default_redundant; cache = default_cache; transports = default_transports }) ws) (reader_at conf (record { redundant = r; cache = c; transports = default_transports }) ws)
 settings_taken conf r c ws told =
     takes_more (choice_lines r) (cache_lines c) (reader_at conf (with_cache default_redundant default_cache) ws) (reader_at conf (with_cache r default_cache) ws) (reader_at conf (with_cache r c) ws)
     (choice_taken conf r.defer_transport_error r.defer_refused r.defer_servfail ws) (cache_taken conf r c ws told)

@@ -1,8 +1,11 @@
 -- The text of a script.
-use Rattle.std.specs.Prelude.{ℕ, ◌/◌, ◌==◌, Bool, true, false, not, List, [], ◌∷◌, ◌++◌, map, codes, decimal}
+use Rattle.std.specs.Prelude.{ℕ, ◌*◌, ◌/◌, ◌==◌, Bool, true, false, not, List, [], ◌∷◌, ◌++◌, map, Option, Some, None, codes, decimal}
 use Rattle.std.specs.List.{flat_map, join_with_byte}
 use Rattle.client_request.specs.declared.event.Event.{Event}
+use Rattle.client_settings.specs.Dgram as dgram
+use Rattle.client_settings.specs.MultiStream as multi_stream
 use Rattle.client_settings.specs.Settings.{CacheSettings, RedundantSettings, seconds}
+use Rattle.client_settings.specs.declared.settings.Transports.{Transports}
 use Rattle.dns_values.specs.Address.{address_text}
 use Rattle.dns_script.specs.Lines.{event_line}
 use Rattle.dns_script.specs.declared.script.Script.{Script}
@@ -71,29 +74,61 @@ time_lines c =
 abbrev pub cache_lines : CacheSettings → List (List ℕ)
 cache_lines c = entries_line c.max_cache_entries ++ (time_lines c ++ switch_line (codes "cache-truncated") c.cache_truncated)
 
+-- a time of transports that is not its default, in thousandths of a second
+abbrev pub wait_line : List ℕ → (default value : ℕ) → List (List ℕ)
+wait_line name default value = shown (not (value == default * 1000)) (join_with_byte 32 (codes "set" ∷ name ∷ decimal (value / 1000) ∷ []))
+
+-- the payload size that is announced, where that is not 1232, or that none is
+abbrev pub size_line : Option ℕ → List (List ℕ)
+size_line None = join_with_byte 32 (codes "set" ∷ codes "dgram-udp-payload-size" ∷ codes "none" ∷ []) ∷ []
+size_line (Some n) = number_line (codes "dgram-udp-payload-size") 1232 n
+
+abbrev pub count_lines : dgram.Settings → List (List ℕ)
+count_lines d =
+    number_line (codes "dgram-max-parallel") 100 d.max_parallel
+    ++ (number_line (codes "dgram-max-retries") 5 d.max_retries ++ number_line (codes "dgram-recv-size") 2000 d.recv_size)
+
+abbrev pub dgram_lines : dgram.Settings → List (List ℕ)
+dgram_lines d = count_lines d ++ (size_line d.udp_payload_size ++ wait_line (codes "dgram-read-timeout") 5000 d.read_timeout)
+
+abbrev pub stream_lines : multi_stream.Settings → List (List ℕ)
+stream_lines m =
+    wait_line (codes "stream-response-timeout") 19000 m.stream.response_timeout
+    ++ (wait_line (codes "stream-idle-timeout") 10000 m.stream.idle_timeout ++ wait_line (codes "multi-stream-response-timeout") 30000 m.response_timeout)
+
+abbrev pub transport_lines : Transports → List (List ℕ)
+transport_lines t = dgram_lines t.dgram ++ stream_lines t.multi_stream
+
+-- what is set, but for transports, and all that is set
+abbrev pub kept_lines : RedundantSettings → CacheSettings → List (List ℕ)
+kept_lines redundant cache = choice_lines redundant ++ cache_lines cache
+
+abbrev pub setting_lines : RedundantSettings → CacheSettings → Transports → List (List ℕ)
+setting_lines redundant cache transports = kept_lines redundant cache ++ transport_lines transports
+
 -- all words in one line, if there are any
 abbrev pub word_lines : List ℕ → List (List ℕ)
 word_lines [] = []
 word_lines (word ∷ words) = join_with_byte 32 (codes "words" ∷ map decimal (word ∷ words)) ∷ []
 
 -- what stands before the first event
-abbrev pub head_lines : ResolvConf → RedundantSettings → CacheSettings → List ℕ → List (List ℕ)
-head_lines conf redundant cache words = conf_lines conf ++ (choice_lines redundant ++ cache_lines cache ++ word_lines words)
+abbrev pub head_lines : ResolvConf → RedundantSettings → CacheSettings → Transports → List ℕ → List (List ℕ)
+head_lines conf redundant cache transports words = conf_lines conf ++ (setting_lines redundant cache transports ++ word_lines words)
 
 -- a line and its line feed
 abbrev pub ended : List ℕ → List ℕ
 ended line = line ++ 10 ∷ []
 
-abbrev pub head_text : ResolvConf → RedundantSettings → CacheSettings → List ℕ → List ℕ
-head_text conf redundant cache words = flat_map ended (head_lines conf redundant cache words)
+abbrev pub head_text : ResolvConf → RedundantSettings → CacheSettings → Transports → List ℕ → List ℕ
+head_text conf redundant cache transports words = flat_map ended (head_lines conf redundant cache transports words)
 
 -- a script of one lane
-abbrev pub script_of : ResolvConf → RedundantSettings → CacheSettings → (words : List ℕ) → List Event → Script
-script_of conf redundant cache words events = record { conf = conf; redundant = redundant; cache = cache; words = words; lanes = events ∷ [] }
+abbrev pub script_of : ResolvConf → RedundantSettings → CacheSettings → Transports → (words : List ℕ) → List Event → Script
+script_of conf redundant cache transports words events = record { conf = conf; redundant = redundant; cache = cache; transports = transports; words = words; lanes = events ∷ [] }
 
 abbrev pub first_lane : List (List Event) → List Event
 first_lane [] = []
 first_lane (events ∷ lanes) = events
 
 abbrev pub script_text_of : Script → List ℕ
-script_text_of s = head_text s.conf s.redundant s.cache s.words ++ flat_map event_line (first_lane s.lanes)
+script_text_of s = head_text s.conf s.redundant s.cache s.transports s.words ++ flat_map event_line (first_lane s.lanes)

@@ -3,11 +3,11 @@
 ghost use Rattle.std.specs.Prelude.{◌≡◌, ◌++◌, ◌∷◌, [], ◌/◌, ◌<◌, ◌^◌, ℕ, map, decimal, slice_index, OnOk, IfOk};
 ghost use Rattle.std.specs.List.{flat_map};
 ghost use Rattle.dns_values.specs.Address.{IsAddress};
-ghost use Rattle.script_printing.specs.CanBeTold.{AreAddresses, AreWordsInRange};
+ghost use Rattle.script_printing.specs.CanBeTold.{AreAddresses, AreSizesInRange, AreWordsInRange};
 ghost use Rattle.script_printing.specs.Texts.{conf_lines, ended, head_text, option_lines, seconds_line, server_line, word_lines};
 
 use crate::settings::push_settings;
-use client_settings::{cache, redundant};
+use client_settings::{Transports, cache, redundant};
 use dns_base::{Duration, IpAddr, NoMemory};
 use resolv_conf::{ResolvConf, ResolvOptions, ServerConf};
 use std::alloc::Global;
@@ -118,13 +118,14 @@ pub fn head_text(
     conf: &ResolvConf,
     choice: redundant::Config,
     cache: &cache::Config,
+    transports: &Transports,
     words: &[u64],
 ) -> Result<Vec<u8>, NoMemory>
-    ensures { IfOk result (λ v. v.items ≡ head_text conf.now choice cache.now words.now) }
+    ensures { IfOk result (λ v. v.items ≡ head_text conf.now choice cache.now transports.now words.now) }
 {
     let mut text = Vec::new(alloc);
     push_conf(alloc, &mut text, conf)?;
-    push_settings(alloc, &mut text, choice, cache)?;
+    push_settings(alloc, &mut text, choice, cache, transports)?;
     push_word_line(alloc, &mut text, words)?;
     Ok(text)
 }
@@ -169,13 +170,23 @@ fn words_are_in_range(words: &[u64])
     let _words = words;
 }
 
+/// How many octets are read has 64 bits, and a payload size 16.
+fn sizes_are_in_range(transports: &Transports)
+    ensures { AreSizesInRange transports.now.dgram }
+{
+    transports.are_limited();
+    let _size = transports.dgram.recv_size();
+}
+
 /// What stands before the first event has the ranges of its types.
-pub fn head_is_in_range(conf: &ResolvConf, words: &[u64])
+pub fn head_is_in_range(conf: &ResolvConf, transports: &Transports, words: &[u64])
     ensures addresses { AreAddresses conf.now.servers }
     ensures timeout { conf.now.options.timeout / 1000000 < 2 ^ 64 }
+    ensures sizes { AreSizesInRange transports.now.dgram }
     ensures words { AreWordsInRange words.now }
 {
     addresses_are_in_range(conf.servers.as_slice());
+    sizes_are_in_range(transports);
     words_are_in_range(words);
     let _seconds = conf.options.timeout.as_secs();
 }

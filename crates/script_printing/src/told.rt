@@ -3,10 +3,10 @@
 ghost use Rattle.std.specs.Prelude.{◌≡◌};
 ghost use Rattle.std.specs.List.{list_all};
 ghost use Rattle.dns_script.specs.Told.{is_of_socket, tells_well};
-ghost use Rattle.script_printing.specs.CanBeTold.{are_counts_default, are_first_flags_default, are_last_flags_default, are_told_events, are_told_limits, are_told_options, are_told_settings, are_told_times, is_told_server, is_told_time, is_whole};
+ghost use Rattle.script_printing.specs.CanBeTold.{are_counts_default, are_first_flags_default, are_last_flags_default, are_told_dgrams, are_told_events, are_told_limits, are_told_options, are_told_settings, are_told_streams, are_told_times, are_told_transports, is_told_server, is_told_time, is_told_wait, is_whole};
 
 use client_request::{Event, Fault, What};
-use client_settings::cache;
+use client_settings::{Transports, cache, dgram, multi_stream};
 use dns_base::Duration;
 use resolv_conf::{ResolvOptions, ServerConf, Transport};
 
@@ -20,6 +20,8 @@ const DATAGRAM_SIZE: u16 = 1232;
 const SERVER_SECONDS: u64 = 2;
 
 const MICROS_IN_SECOND: u128 = 1_000_000;
+
+const MICROS_IN_MILLI: u128 = 1_000;
 
 /// Whether a server is as a line `nameserver` makes it, so that its address tells it.
 pub fn is_told_server(server: &ServerConf) -> bool
@@ -119,6 +121,40 @@ pub fn settings_are_told(c: &cache::Config) -> bool
     (1 <= c.max_cache_entries() && c.max_cache_entries() <= 1_000_000_000)
         && c.max_cache_octets() == u64::MAX
         && times_are_told(c)
+}
+
+/// Whether a time is a whole number of thousandths of a second within these limits, in microseconds.
+fn is_told_wait(least: u64, greatest: u64, value: Duration) -> bool
+    ensures { result ≡ is_told_wait least greatest value }
+{
+    value.as_micros() % MICROS_IN_MILLI == 0
+        && Duration::from_micros(least) <= value
+        && value <= Duration::from_micros(greatest)
+}
+
+fn dgrams_are_told(d: &dgram::Config) -> bool
+    ensures { result ≡ are_told_dgrams d.now }
+{
+    (1 <= d.max_parallel() && d.max_parallel() <= 1000)
+        && d.max_retries() <= 100
+        && is_told_wait(1000, 60_000_000, d.read_timeout())
+}
+
+fn streams_are_told(m: &multi_stream::Config) -> bool
+    ensures { result ≡ are_told_streams m.now }
+{
+    is_told_wait(1000, 600_000_000, m.response_timeout())
+        && is_told_wait(1000, 600_000_000, m.stream().response_timeout())
+        && is_told_wait(0, 3_600_000_000, m.stream().idle_timeout())
+        && m.stream().streaming_response_timeout() == m.stream().response_timeout()
+}
+
+/// Whether each setting of transports lies within its limits, each time is a whole number of thousandths of a second, and all that
+/// comes by a stream has one time.
+pub fn transports_are_told(t: &Transports) -> bool
+    ensures { result ≡ are_told_transports t.now }
+{
+    dgrams_are_told(&t.dgram) && streams_are_told(&t.multi_stream)
 }
 
 /// Whether a fault is of a socket; the client itself finds the others.

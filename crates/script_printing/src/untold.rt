@@ -10,6 +10,9 @@ pub enum Untold {
     Options,
     /// A setting of the cache is outside its limits, or a time among them is no whole number of seconds.
     Settings,
+    /// A setting of transports is outside its limits, a time among them is no whole number of thousandths of a second, or
+    /// messages of transfers have another time than other frames.
+    Transports,
     /// There is not just one lane.
     Lanes,
     /// An event has a fault that the client finds itself.

@@ -4,12 +4,14 @@ ghost use Rattle.std.specs.Prelude.{◌≡◌, ◌++◌, ◌==◌, false, true, 
 ghost use Rattle.std.specs.List.{AllByRecursion, flat_map, list_all};
 ghost use Rattle.dns_script.specs.Lines.{event_line};
 ghost use Rattle.dns_script.specs.ScriptReading.{IsScript};
-ghost use Rattle.script_printing.specs.CanBeTold.{CanBeTold, IsEvent, IsInRange, IsUntold, are_told_events, are_told_options, are_told_settings, is_told_server};
+ghost use Rattle.script_printing.specs.CanBeTold.{CanBeTold, IsEvent, IsInRange, IsUntold, are_told_events, are_told_options, are_told_settings, are_told_transports, is_told_server};
 ghost use Rattle.script_printing.specs.Texts.{first_lane, head_text, script_text_of};
 
 use crate::events::{event_is_in_range, push_event};
 use crate::head::{head_is_in_range, head_text};
-use crate::told::{events_are_told, options_are_told, servers_are_told, settings_are_told};
+use crate::told::{
+    events_are_told, options_are_told, servers_are_told, settings_are_told, transports_are_told,
+};
 use crate::untold::Untold;
 use client_request::{Event, Outs, Row};
 use dns_base::NoMemory;
@@ -70,6 +72,9 @@ fn check(script: &Script) -> Result<(), Untold>
     if !settings_are_told(&script.cache) {
         return Err(Untold::Settings);
     }
+    if !transports_are_told(&script.transports) {
+        return Err(Untold::Transports);
+    }
     if script.lanes.len() != 1 {
         return Err(Untold::Lanes);
     }
@@ -83,7 +88,7 @@ fn check(script: &Script) -> Result<(), Untold>
 fn script_is_in_range(script: &Script)
     ensures { IsInRange script.now }
 {
-    head_is_in_range(&script.conf, script.words.as_slice());
+    head_is_in_range(&script.conf, &script.transports, script.words.as_slice());
     events_are_in_range(first_lane(script));
 }
 
@@ -96,6 +101,7 @@ fn text_of(alloc: Global, script: &Script) -> Result<Vec<u8>, NoMemory>
         &script.conf,
         script.redundant,
         &script.cache,
+        &script.transports,
         script.words.as_slice(),
     )?;
     push_lines(alloc, &mut text, first_lane(script))?;
@@ -104,7 +110,7 @@ fn text_of(alloc: Global, script: &Script) -> Result<Vec<u8>, NoMemory>
 
 /// The text of a script of one lane, which is read back as that script.
 ///
-/// `Server`, `Options`, `Settings`, `Lanes` or `Event`, the first of these that is so, where its text would not tell it, and
+/// `Server`, `Options`, `Settings`, `Transports`, `Lanes` or `Event`, the first of these that is so, where its text would not tell it, and
 /// `NoMemory`.
 #[tactic(auto, using(crate::proofs::Scripts::printed_is_read))]
 pub fn script_text(alloc: Global, script: &Script) -> Result<Vec<u8>, Untold>

@@ -1,7 +1,8 @@
 -- A stub resolver that is made, and one that gets a server more.
 use Rattle.std.specs.Prelude.{◌≡◌, ℕ, false, List, map, Option, Result, Err, IfSome}
-use Rattle.client_settings.specs.Settings.{CacheSettings, RedundantSettings, default_cache, default_redundant}
-use Rattle.client_steps.specs.Whole.{started}
+use Rattle.client_settings.specs.Client.{default_settings}
+use Rattle.client_settings.specs.declared.settings.Settings.{Settings}
+use Rattle.client_steps.specs.Whole.{started_with}
 use Rattle.client_core.specs.declared.edge.Deed.{Deed}
 use Rattle.client_core.specs.declared.edge.Deed.TheVariants.{Learned}
 use Rattle.client_loop.specs.Turns.{after_deeds}
@@ -10,8 +11,8 @@ use Rattle.resolv_conf.specs.declared.conf.ResolvConf.{ResolvConf}
 use Rattle.stub_resolver.specs.Stub.{Stub}
 
 -- A resolver is new: its client has these settings, its edge has learned the configuration's servers in order, and nothing was asked.
-pub record IsNewWith {E C W : Type 0} (choice : RedundantSettings) (cache : CacheSettings) (deeds : E → Option (List Deed)) (waits : E → Option (List ℕ)) (polls faults : E → ℕ) (conf : ResolvConf) (edge : E) (clock : C) (words : W) (s : Stub E C W) : Type 0 where
-  pub client : s.client ≡ started choice cache conf
+pub record IsNewWith {E C W : Type 0} (settings : Settings) (deeds : E → Option (List Deed)) (waits : E → Option (List ℕ)) (polls faults : E → ℕ) (conf : ResolvConf) (edge : E) (clock : C) (words : W) (s : Stub E C W) : Type 0 where
+  pub client : s.client ≡ started_with settings.transports settings.redundant settings.cache conf
   pub options : s.options ≡ conf.options
   pub learned : deeds s.edge ≡ after_deeds (map (λ server. Learned server) conf.servers) (deeds edge)
   pub no_wait : waits s.edge ≡ waits edge
@@ -24,7 +25,7 @@ pub record IsNewWith {E C W : Type 0} (choice : RedundantSettings) (cache : Cach
 
 -- the same with the default settings
 abbrev pub IsNew : {E C W : Type 0} → (E → Option (List Deed)) → (E → Option (List ℕ)) → (polls faults : E → ℕ) → ResolvConf → E → C → W → Stub E C W → Type 0
-IsNew deeds waits polls faults conf edge clock words s = IsNewWith default_redundant default_cache deeds waits polls faults conf edge clock words s
+IsNew deeds waits polls faults conf edge clock words s = IsNewWith default_settings deeds waits polls faults conf edge clock words s
 
 -- The resolver is that of the configuration that the system's file says, where what opens it tells its files; the counts are of that one's faults.
 pub record ByFile {E C W : Type 0} (deeds : E → Option (List Deed)) (waits : E → Option (List ℕ)) (polls faults : E → ℕ) (files : Option (List ℕ → Option (List ℕ))) (before after : ℕ) (edge : E) (clock : C) (words : W) (s : Stub E C W) : Type 0 where

@@ -78,7 +78,7 @@ mod running;
 mod stub;
 
 pub use all::Question;
-pub use client_core::{cache, redundant};
+pub use client_core::{Settings, Transports, cache, dgram, multi_stream, redundant, stream};
 pub use error::Error;
 pub use query::Query;
 pub use resolv_lookup::{

@@ -17,7 +17,7 @@ use crate::all::{Question, faults_after_all, got_to_all};
 use crate::asking::{got_to, is_want};
 use crate::both::{BothGot, are_want, faults_after, got_to_both, requests_of};
 use crate::question::question;
-use client_core::{Client, Clock, Edge, cache, redundant};
+use client_core::{Client, Clock, Edge, Settings};
 use client_loop::learn_all;
 use client_request::{Error, RequestMessage, Words};
 use dns_base::{Message, Name, NoMemory, Rtype};
@@ -75,30 +75,26 @@ impl<E: Edge + Drop, C: Clock + Drop, W: Words + Drop> StubResolver<E, C, W> {
         ensures made { IfOk result (IsNew E.deeds E.waits E.polls E.faults conf edge clock words) }
         ensures refused { IfErr result (λ e. e ≡ Error.NoMemory) }
     {
-        let (redundant, cache) = (redundant::Config::new(), cache::Config::new());
-        StubResolver::with_settings(alloc, conf, redundant, cache, edge, clock, words)
+        StubResolver::with_settings(alloc, conf, Settings::new(), edge, clock, words)
     }
 
-    /// The same with settings of one's own: which results of one server wait for what others say, and what the cache keeps.
-    /// `resolver_policy` has those with which a dead server is passed by.
+    /// The same with settings of one's own: which results of one server wait for what others say, what the cache keeps, and how
+    /// servers are asked. `resolver_policy` has those with which a dead server is passed by.
     ///
-    /// The numbers of transports can't be set, since what is proved of the client speaks of them: a datagram is asked again after
-    /// five seconds, at most five times at one server and 100 at a time, and a stream may be silent for 19 seconds. Of a
-    /// configuration `timeout` is the deadline of a whole request. `NoMemory` alone is answered.
+    /// Of a configuration `timeout` is the deadline of a whole request. `NoMemory` alone is answered.
     pub fn with_settings(
         alloc: Global,
         conf: ResolvConf,
-        redundant: redundant::Config,
-        cache: cache::Config,
+        settings: Settings,
         edge: E,
         clock: C,
         words: W,
     ) -> Result<StubResolver<E, C, W>, Error>
-        ensures made { IfOk result (IsNewWith redundant cache E.deeds E.waits E.polls E.faults conf edge clock words) }
+        ensures made { IfOk result (IsNewWith settings E.deeds E.waits E.polls E.faults conf edge clock words) }
         ensures refused { IfErr result (λ e. e ≡ Error.NoMemory) }
     {
         let mut edge = edge;
-        let client = Client::new(alloc, &conf, redundant, cache)?;
+        let client = Client::with_settings(alloc, &conf, settings, 0)?;
         learn_all(&mut edge, conf.servers.as_slice())?;
         Ok(StubResolver {
             client,

@@ -13,9 +13,9 @@ nothing = record { hit = None; stale = None }
 
 -- the first row that misses a hit, and the first whose request is not served by what had expired
 pub record IsMissed (script : Script) (rows : List Row) (m : Missed) : Type 0 where
-  pub hit : IsMissedHit m.hit script.cache (conf_of script.conf) (settings_of script.redundant script.cache) [] rows
-  pub stale : IsMissedStale m.stale script.cache (conf_of script.conf) (settings_of script.redundant script.cache) [] rows
+  pub hit : IsMissedHit m.hit script.cache (conf_of script.conf script.transports) (settings_of script.redundant script.cache) [] rows
+  pub stale : IsMissedStale m.stale script.cache (conf_of script.conf script.transports) (settings_of script.redundant script.cache) [] rows
 
 -- the answer, of right rows
 abbrev pub TellsMissed : Script → List Row → Missed → Type 0
-TellsMissed script rows m = Right (conf_of script.conf) (settings_of script.redundant script.cache) rows → IsMissed script rows m
+TellsMissed script rows m = Right (conf_of script.conf script.transports) (settings_of script.redundant script.cache) rows → IsMissed script rows m

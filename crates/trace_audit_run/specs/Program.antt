@@ -58,8 +58,8 @@ RefusesTrace text (Unread that) = ⊥
 
 -- what is said of the rows of a trace by a script: its verdict, which row is the first that is not timely, what a right one misses, and what is missing at the row that is told, where that is asked
 pub record IsAnswer (asked : Asked) (script : Script) (rows : List Row) (said : Answer) : Type 0 where
-  pub verdict : IsVerdict (verdict_of said.verdict) (conf_of script.conf) (settings_of script.redundant script.cache) [] (first_lane script.lanes) rows
-  pub timely : asked.timely ≡ true → IsUntimely said.untimely (conf_of script.conf) [] rows
+  pub verdict : IsVerdict (verdict_of said.verdict) (conf_of script.conf script.transports) (settings_of script.redundant script.cache) [] (first_lane script.lanes) rows
+  pub timely : asked.timely ≡ true → IsUntimely said.untimely (conf_of script.conf script.transports) [] rows
   pub unasked : asked.timely ≡ false → said.untimely ≡ None
   pub missed : asked.missed ≡ true → said.verdict ≡ Right → IsMissed script rows said.missed
   pub unmissed : asked.missed ≡ false → said.missed ≡ nothing

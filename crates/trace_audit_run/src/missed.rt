@@ -9,6 +9,7 @@ use dns_script::Script;
 use std::alloc::Global;
 use trace_hits::{first_missed_hit, first_missed_stale};
 use trace_judge::Verdict;
+use trace_script::conf_of;
 
 /// What a trace misses.
 #[derive(Clone, Copy, Debug, Drop)]
@@ -25,7 +26,8 @@ pub fn audit_hits(alloc: Global, script: &Script, trace: &Trace) -> Result<Misse
 {
     let rows = trace.rows.as_slice();
     let hit = first_missed_hit(alloc, &script.cache, rows)?;
-    let stale = first_missed_stale(alloc, &script.cache, rows)?;
+    let conf = conf_of(alloc, &script.conf, script.transports.try_clone()?)?;
+    let stale = first_missed_stale(&conf, &script.cache, rows)?;
     Ok(Missed { hit, stale })
 }
 

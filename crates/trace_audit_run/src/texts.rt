@@ -83,7 +83,7 @@ fn untimely_in(
     script: &Script,
     trace: &Trace,
 ) -> Result<Option<u64>, NoMemory>
-    ensures asked { timely ≡ true → IfOk result (λ row. IsUntimely row (conf_of script.now.conf) [] trace.now.rows) }
+    ensures asked { timely ≡ true → IfOk result (λ row. IsUntimely row (conf_of script.now.conf script.now.transports) [] trace.now.rows) }
     ensures unasked { timely ≡ false → IfOk result (λ row. row ≡ None) }
 {
     if timely {

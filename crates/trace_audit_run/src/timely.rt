@@ -14,8 +14,8 @@ use trace_timely::first_untimely;
 /// The first row of a trace at whose end a request waits past the timeout that its script says, counted from 0; none exactly where
 /// each request has its reply in the first row at or past its timeout, or before.
 pub fn audit_timely(alloc: Global, script: &Script, trace: &Trace) -> Result<Option<u64>, NoMemory>
-    ensures first { IfOk result (λ row. IsUntimely row (conf_of script.now.conf) [] trace.now.rows) }
-    ensures timely { IfOk result (λ row. (row ≡ None) ↔ Timely (conf_of script.now.conf) trace.now.rows) }
+    ensures first { IfOk result (λ row. IsUntimely row (conf_of script.now.conf script.now.transports) [] trace.now.rows) }
+    ensures timely { IfOk result (λ row. (row ≡ None) ↔ Timely (conf_of script.now.conf script.now.transports) trace.now.rows) }
 {
     first_untimely(alloc, script.conf.options.timeout, trace.rows.as_slice())
 }

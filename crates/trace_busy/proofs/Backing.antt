@@ -10,7 +10,7 @@ use Rattle.client_request.specs.declared.event.Out.{Out}
 use Rattle.client_request.specs.declared.event.Out.TheVariants.{Start, OpenDgram, OpenStream, Send, Write, Resume, Close, Stale, Reply}
 use Rattle.client_request.specs.declared.event.Via.TheVariants.{Stream}
 use Rattle.client_request.specs.declared.fault.Fault.{Fault}
-use Rattle.right_trace.specs.Trace.{Item, History, Came, Put}
+use Rattle.right_trace.specs.Trace.{Item, History, Came, Put, Conf}
 use Rattle.right_trace.specs.Time.{now, newest, Ever, back_off, id_count}
 use Rattle.right_trace.specs.Requests.{same_via}
 use Rattle.right_trace.specs.Places.{is_site, is_at, Stand, Unused, Opening, Alive, Gone, stand, is_opening, is_alive, is_live}
@@ -80,11 +80,11 @@ some_or None = 0
 some_or (Some a) = a
 
 -- one item more, with which something broke off at some servers
-grown : (i : Item) (h : History) (t t' : Backs) (n : ℕ) (b : ℕ → Bool) → n ≡ now (i ∷ h) → Known h t
-    → ((s : ℕ) → entry_at s t' ≡ (if b s then Some n else entry_at s t)) → ((s : ℕ) → b s ≡ true → BreaksOff s (i ∷ h)) → ((s : ℕ) → BreaksOff s (i ∷ h) → b s ≡ true) → Known (i ∷ h) t'
-grown i h t t' n b en is new so back = record { so = λ s m. so_one s m (b s) refl; back = λ s m. back_one s m (b s) refl; latest = λ s m. late s m (b s) refl }
+grown : (c : Conf) (i : Item) (h : History) (t t' : Backs) (n : ℕ) (b : ℕ → Bool) → n ≡ now (i ∷ h) → Known c h t
+    → ((s : ℕ) → entry_at s t' ≡ (if b s then Some n else entry_at s t)) → ((s : ℕ) → b s ≡ true → BreaksOff c s (i ∷ h)) → ((s : ℕ) → BreaksOff c s (i ∷ h) → b s ≡ true) → Known c (i ∷ h) t'
+grown c i h t t' n b en is new so back = record { so = λ s m. so_one s m (b s) refl; back = λ s m. back_one s m (b s) refl; latest = λ s m. late s m (b s) refl }
   where
-    so_one : (s m : ℕ) (d : Bool) → b s ≡ d → is_within m (entry_at s t') ≡ true → Ever (HappenedWithin (back_off + back_off) s m) (i ∷ h)
+    so_one : (s m : ℕ) (d : Bool) → b s ≡ d → is_within m (entry_at s t') ≡ true → Ever (HappenedWithin c (back_off + back_off) s m) (i ∷ h)
     so_one s m true e w = inl (record {
       recent = subst (λ (n : ℕ). m < n + (back_off + back_off)) en (within_so m n (sym (ap (is_within m) (new s ∙ ap (λ d. if d then Some n else entry_at s t) e)) ∙ w));
       broke = so s e;
@@ -95,7 +95,7 @@ grown i h t t' n b en is new so back = record { so = λ s m. so_one s m (b s) re
     old s m w None e = absurd (let z : is_within m None ≡ true = sym (ap (is_within m) e) ∙ w in cc)
     old s m w (Some a) e = later m a n 128000000 (sym (ap (is_within m) e) ∙ w) (subst (λ (n : ℕ). a ≤ n) (sym en) (trans a (now h) (now (i ∷ h)) (is.latest s a e) (now_grows i h)))
 
-    back_one : (s m : ℕ) (d : Bool) → b s ≡ d → Ever (HappenedWithin (back_off + back_off) s m) (i ∷ h) → is_within m (entry_at s t') ≡ true
+    back_one : (s m : ℕ) (d : Bool) → b s ≡ d → Ever (HappenedWithin c (back_off + back_off) s m) (i ∷ h) → is_within m (entry_at s t') ≡ true
     back_one s m true e (inl r) = ap (is_within m) (new s ∙ ap (λ d. if d then Some n else entry_at s t) e) ∙ so_within m n (subst (λ (n : ℕ). m < n + (back_off + back_off)) (sym en) r.recent)
     back_one s m true e (inr r) = ap (is_within m) (new s ∙ ap (λ d. if d then Some n else entry_at s t) e) ∙ old s m (is.back s m r) (entry_at s t) refl
     back_one s m false e (inl r) = absurd (let z : true ≡ false = sym (back s r.broke) ∙ e in cc)
@@ -177,14 +177,14 @@ using_is s None = refl
 using_is s (Some x) = turn (same_via x.via Stream) (is_alive (stand_of x.stand)) (x.server == s)
 
 -- all ids of a place are used, as it is known
-module _ (h : History) (places : List (ℕ × Place)) (l : Held) (kp : places_seen.Known h places) (kl : held.Known h l) (s : ℕ) where
+module _ (c : Conf) (h : History) (places : List (ℕ × Place)) (l : Held) (kp : places_seen.Known h places) (kl : held.Known h l) (s : ℕ) where
   abbrev some_used : Bool
   some_used = some_of (λ p. using_all s (entry_at p places)) l.full
 
   using_at : (p : ℕ) → using_all s (entry_at p places) ≡ (is_at Stream s p h && is_alive (stand p h))
   using_at p = using_is s (entry_at p places) ∙ ap₂ (λ a b. is_site Stream s a && is_alive b) (kp.sites p) (kp.stands p)
 
-  used_so : some_of (λ p. using_all s (entry_at p places)) l.full ≡ true → BreaksOff s h
+  used_so : some_of (λ p. using_all s (entry_at p places)) l.full ≡ true → BreaksOff c s h
   used_so e =
       let f = sets.found_in (λ p. using_all s (entry_at p places)) l.full e in
       let q = both (is_at Stream s f.0 h) (is_alive (stand f.0 h)) (sym (using_at f.0) ∙ f.2) in
@@ -244,8 +244,8 @@ second_true : (a b : Bool) → b ≡ true → (a || b) ≡ true
 second_true true b e = refl
 second_true false b e = e
 
-module _ (h : History) (e : Event) (places new : List (ℕ × Place)) (l : Held) (kp : places_seen.Known h places) (kn : places_seen.Known (Came e ∷ h) new) (kl : held.Known (Came e ∷ h) l) (s : ℕ) where
-  failing_so : (w : What) → e.what ≡ w → failing_by s w places ≡ true → BreaksOff s (Came e ∷ h)
+module _ (c : Conf) (h : History) (e : Event) (places new : List (ℕ × Place)) (l : Held) (kp : places_seen.Known h places) (kn : places_seen.Known (Came e ∷ h) new) (kl : held.Known (Came e ∷ h) l) (s : ℕ) where
+  failing_so : (w : What) → e.what ≡ w → failing_by s w places ≡ true → BreaksOff c s (Came e ∷ h)
   failing_so (OpenFailed p f) i b =
       let q = both (is_at Stream s p h) (is_opening (stand p h)) (sym (failing_is s (entry_at p places) ∙ ap₂ (λ a b. is_site Stream s a && is_opening b) (kp.sites p) (kp.stands p)) ∙ b) in
       OpeningFailed e p f h refl i q.0 (opening_is (stand p h) q.1)
@@ -262,14 +262,14 @@ module _ (h : History) (e : Event) (places new : List (ℕ × Place)) (l : Held)
   failing_so (Ended p) i b = absurd (cc)
   failing_so Tick i b = absurd (cc)
 
-  event_so : (failing_by s e.what places || some_of (λ p. using_all s (entry_at p new)) l.full) ≡ true → BreaksOff s (Came e ∷ h)
+  event_so : (failing_by s e.what places || some_of (λ p. using_all s (entry_at p new)) l.full) ≡ true → BreaksOff c s (Came e ∷ h)
   event_so b = go (either (failing_by s e.what places) _ b)
     where
-      go : (failing_by s e.what places ≡ true) ⊎ (some_of (λ p. using_all s (entry_at p new)) l.full ≡ true) → BreaksOff s (Came e ∷ h)
+      go : (failing_by s e.what places ≡ true) ⊎ (some_of (λ p. using_all s (entry_at p new)) l.full ≡ true) → BreaksOff c s (Came e ∷ h)
       go (inl b) = failing_so e.what refl b
-      go (inr b) = used_so (Came e ∷ h) new l kn kl s b
+      go (inr b) = used_so c (Came e ∷ h) new l kn kl s b
 
-  so_event : BreaksOff s (Came e ∷ h) → (failing_by s e.what places || some_of (λ p. using_all s (entry_at p new)) l.full) ≡ true
+  so_event : BreaksOff c s (Came e ∷ h) → (failing_by s e.what places || some_of (λ p. using_all s (entry_at p new)) l.full) ≡ true
   so_event (OpeningFailed d p f before i w at st) =
       let ee : e ≡ d = some_event e d (ap head_event i) in
       let hh : h ≡ before = ap rest_of i in
@@ -278,18 +278,18 @@ module _ (h : History) (e : Event) (places new : List (ℕ × Place)) (l : Held)
       ∙ (failing_is s (entry_at p places) ∙ (ap₂ (λ a b. is_site Stream s a && is_opening b) (kp.sites p) (kp.stands p)
       ∙ (ap (λ (h : History). is_at Stream s p h && is_opening (stand p h)) hh ∙ all (is_at Stream s p before) (is_opening (stand p before)) at (ap is_opening st)))))
   so_event (OpeningFailedAtOnce p f before i w st) = absurd (let z : Some e ≡ None = ap head_event i in cc)
-  so_event (IdsAreUsed p at alive le) = second_true (failing_by s e.what places) _ (so_used (Came e ∷ h) new l kn kl s p at alive le)
+  so_event (IdsAreUsed p at alive le) = second_true (failing_by s e.what places) _ (so_used c (Came e ∷ h) new l kn kl s p at alive le)
   so_event (ConnectionEnded p before i at live ends) = absurd (let z : Some e ≡ None = ap head_event i in cc)
 
-event : (h : History) (e : Event) (n : ℕ) (places new : List (ℕ × Place)) (l : Held) (t : Backs) → n ≡ now (Came e ∷ h) → places_seen.Known h places → places_seen.Known (Came e ∷ h) new → held.Known (Came e ∷ h) l → Known h t
-    → Known (Came e ∷ h) (are_used n new l.full (met e.what n places t))
-event h e n places new l t en kp kn kl is =
-    grown (Came e) h t (are_used n new l.full (met e.what n places t)) n (λ s. failing_by s e.what places || some_of (λ p. using_all s (entry_at p new)) l.full) en is
+event : (c : Conf) (h : History) (e : Event) (n : ℕ) (places new : List (ℕ × Place)) (l : Held) (t : Backs) → n ≡ now (Came e ∷ h) → places_seen.Known h places → places_seen.Known (Came e ∷ h) new → held.Known (Came e ∷ h) l → Known c h t
+    → Known c (Came e ∷ h) (are_used n new l.full (met e.what n places t))
+event c h e n places new l t en kp kn kl is =
+    grown c (Came e) h t (are_used n new l.full (met e.what n places t)) n (λ s. failing_by s e.what places || some_of (λ p. using_all s (entry_at p new)) l.full) en is
     (λ s. all_used n s new l.full (met e.what n places t)
     ∙ (ap (λ o. if some_of (λ p. using_all s (entry_at p new)) l.full then Some n else o) (met_at e.what n s places t)
     ∙ twice (some_of (λ p. using_all s (entry_at p new)) l.full) (failing_by s e.what places) n (entry_at s t)))
-    (event_so h e places new l kp kn kl)
-    (so_event h e places new l kp kn kl)
+    (event_so c h e places new l kp kn kl)
+    (so_event c h e places new l kp kn kl)
 
 -- outs
 abbrev opening_fails : What → (p : ℕ) → Bool
@@ -377,14 +377,14 @@ closed_is s b (Some x) = go (same_via x.via Stream) (is_live (stand_of x.stand))
     go true false b false = refl
     go false l b c = refl
 
-module _ (h : History) (places : List (ℕ × Place)) (kp : places_seen.Known h places) (s : ℕ) where
+module _ (c : Conf) (h : History) (places : List (ℕ × Place)) (kp : places_seen.Known h places) (s : ℕ) where
   stream_live : (p : ℕ) (b : Bool) → closed_badly s b (entry_at p places) ≡ ((is_at Stream s p h && is_live (stand p h)) && b)
   stream_live p b = closed_is s b (entry_at p places) ∙ ap₂ (λ x y. (is_site Stream s x && is_live y) && b) (kp.sites p) (kp.stands p)
 
-  badly_so : (o : Out) (b : Bool) → TellsEnd o h b → put_badly s (newest h) o b places ≡ true → BreaksOff s (Put o ∷ h)
+  badly_so : (o : Out) (b : Bool) → TellsEnd c o h b → put_badly s (newest h) o b places ≡ true → BreaksOff c s (Put o ∷ h)
   badly_so (OpenStream p i) b tells e = go (entry_at p places) refl e
     where
-      go : (x : Option Place) → entry_at p places ≡ x → opened_badly s (newest h) p i x ≡ true → BreaksOff s (Put (OpenStream p i) ∷ h)
+      go : (x : Option Place) → entry_at p places ≡ x → opened_badly s (newest h) p i x ≡ true → BreaksOff c s (Put (OpenStream p i) ∷ h)
       go (Some x) ex e = absurd (cc)
       go None ex e =
           let q = both (opening_fails (newest h) p) (i == s) e in
@@ -410,43 +410,43 @@ module _ (h : History) (places : List (ℕ × Place)) (kp : places_seen.Known h 
   so_closed : (p : ℕ) (b : Bool) → is_at Stream s p h ≡ true → is_live (stand p h) ≡ true → b ≡ true → put_badly s (newest h) (Close p) b places ≡ true
   so_closed p b at live bad = stream_live p b ∙ all (is_at Stream s p h && is_live (stand p h)) b (all (is_at Stream s p h) (is_live (stand p h)) at live) bad
 
-module _ (h : History) (o : Out) (bad : Bool) (places new : List (ℕ × Place)) (l : Held) (tells : TellsEnd o h bad) (kp : places_seen.Known h places) (kn : places_seen.Known (Put o ∷ h) new) (kl : held.Known (Put o ∷ h) l) (s : ℕ) where
-  out_so : (put_badly s (newest h) o bad places || some_of (λ p. using_all s (entry_at p new)) l.full) ≡ true → BreaksOff s (Put o ∷ h)
+module _ (c : Conf) (h : History) (o : Out) (bad : Bool) (places new : List (ℕ × Place)) (l : Held) (tells : TellsEnd c o h bad) (kp : places_seen.Known h places) (kn : places_seen.Known (Put o ∷ h) new) (kl : held.Known (Put o ∷ h) l) (s : ℕ) where
+  out_so : (put_badly s (newest h) o bad places || some_of (λ p. using_all s (entry_at p new)) l.full) ≡ true → BreaksOff c s (Put o ∷ h)
   out_so b = go (either (put_badly s (newest h) o bad places) _ b)
     where
-      go : (put_badly s (newest h) o bad places ≡ true) ⊎ (some_of (λ p. using_all s (entry_at p new)) l.full ≡ true) → BreaksOff s (Put o ∷ h)
-      go (inl b) = badly_so h places kp s o bad tells b
-      go (inr b) = used_so (Put o ∷ h) new l kn kl s b
+      go : (put_badly s (newest h) o bad places ≡ true) ⊎ (some_of (λ p. using_all s (entry_at p new)) l.full ≡ true) → BreaksOff c s (Put o ∷ h)
+      go (inl b) = badly_so c h places kp s o bad tells b
+      go (inr b) = used_so c (Put o ∷ h) new l kn kl s b
 
-  so_out : BreaksOff s (Put o ∷ h) → (put_badly s (newest h) o bad places || some_of (λ p. using_all s (entry_at p new)) l.full) ≡ true
+  so_out : BreaksOff c s (Put o ∷ h) → (put_badly s (newest h) o bad places || some_of (λ p. using_all s (entry_at p new)) l.full) ≡ true
   so_out (OpeningFailed d p f before i w at st) = absurd (let z : Some o ≡ None = ap head_out i in cc)
   so_out (OpeningFailedAtOnce p f before i w st) =
       let oo : o ≡ OpenStream p s = some_event o (OpenStream p s) (ap head_out i) in
       let hh : before ≡ h = sym (ap rest_of i) in
       first_true (put_badly s (newest h) o bad places) _
-      (ap (λ (o : Out). put_badly s (newest h) o bad places) oo ∙ so_opened h places kp s p f (ap newest (sym hh) ∙ w) (ap (stand p) (sym hh) ∙ st) bad)
-  so_out (IdsAreUsed p at alive le) = second_true (put_badly s (newest h) o bad places) _ (so_used (Put o ∷ h) new l kn kl s p at alive le)
+      (ap (λ (o : Out). put_badly s (newest h) o bad places) oo ∙ so_opened c h places kp s p f (ap newest (sym hh) ∙ w) (ap (stand p) (sym hh) ∙ st) bad)
+  so_out (IdsAreUsed p at alive le) = second_true (put_badly s (newest h) o bad places) _ (so_used c (Put o ∷ h) new l kn kl s p at alive le)
   so_out (ConnectionEnded p before i at live ends) =
       let oo : o ≡ Close p = some_event o (Close p) (ap head_out i) in
       let hh : before ≡ h = sym (ap rest_of i) in
-      let told : TellsEnd (Close p) h bad = subst (λ (o : Out). TellsEnd o h bad) oo tells in
+      let told : TellsEnd c (Close p) h bad = subst (λ (o : Out). TellsEnd c o h bad) oo tells in
       first_true (put_badly s (newest h) o bad places) _
       (ap (λ (o : Out). put_badly s (newest h) o bad places) oo
-      ∙ so_closed h places kp s p bad (ap (is_at Stream s p) (sym hh) ∙ at) (ap (λ (h : History). is_live (stand p h)) (sym hh) ∙ live) (told.1 (subst (EndsBadly p) hh ends)))
+      ∙ so_closed c h places kp s p bad (ap (is_at Stream s p) (sym hh) ∙ at) (ap (λ (h : History). is_live (stand p h)) (sym hh) ∙ live) (told.1 (subst (EndsBadly c p) hh ends)))
 
-out : (h : History) (o : Out) (bad : Bool) (n : ℕ) (places new : List (ℕ × Place)) (l : Held) (t : Backs) → n ≡ now h → TellsEnd o h bad → places_seen.Known h places → places_seen.Known (Put o ∷ h) new → held.Known (Put o ∷ h) l → Known h t
-    → Known (Put o ∷ h) (are_used n new l.full (has_put (newest h) o bad n places t))
-out h o bad n places new l t en tells kp kn kl is =
-    grown (Put o) h t (are_used n new l.full (has_put (newest h) o bad n places t)) n (λ s. put_badly s (newest h) o bad places || some_of (λ p. using_all s (entry_at p new)) l.full) en is
+out : (c : Conf) (h : History) (o : Out) (bad : Bool) (n : ℕ) (places new : List (ℕ × Place)) (l : Held) (t : Backs) → n ≡ now h → TellsEnd c o h bad → places_seen.Known h places → places_seen.Known (Put o ∷ h) new → held.Known (Put o ∷ h) l → Known c h t
+    → Known c (Put o ∷ h) (are_used n new l.full (has_put (newest h) o bad n places t))
+out c h o bad n places new l t en tells kp kn kl is =
+    grown c (Put o) h t (are_used n new l.full (has_put (newest h) o bad n places t)) n (λ s. put_badly s (newest h) o bad places || some_of (λ p. using_all s (entry_at p new)) l.full) en is
     (λ s. all_used n s new l.full (has_put (newest h) o bad n places t)
     ∙ (ap (λ x. if some_of (λ p. using_all s (entry_at p new)) l.full then Some n else x) (put_at (newest h) o bad n s places t)
     ∙ twice (some_of (λ p. using_all s (entry_at p new)) l.full) (put_badly s (newest h) o bad places) n (entry_at s t)))
-    (out_so h o bad places new l tells kp kn kl)
-    (so_out h o bad places new l tells kp kn kl)
+    (out_so c h o bad places new l tells kp kn kl)
+    (so_out c h o bad places new l tells kp kn kl)
 
-pub goes_on : GoesOn
-goes_on = record {
+pub goes_on : (c : Conf) → GoesOn c
+goes_on c = record {
   begins = record { so = λ s n e. absurd (cc); back = λ s n e. absurd e; latest = λ s m e. absurd (cc) };
-  event = event;
-  out = out;
+  event = event c;
+  out = out c;
 }

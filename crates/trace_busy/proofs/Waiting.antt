@@ -11,11 +11,11 @@ use Rattle.client_request.specs.declared.event.Out.{Out}
 use Rattle.client_request.specs.declared.event.Out.TheVariants.{Start, OpenDgram, OpenStream, Send, Write, Resume, Close, Stale, Reply}
 use Rattle.client_request.specs.declared.event.Via.{Via}
 use Rattle.client_request.specs.declared.event.Via.TheVariants.{Dgram, Stream}
-use Rattle.right_trace.specs.Trace.{History, Came, Put}
-use Rattle.right_trace.specs.Time.{now, read_timeout}
+use Rattle.right_trace.specs.Trace.{History, Came, Put, Conf}
+use Rattle.right_trace.specs.Time.{now, read_timeout, recv_size}
 use Rattle.right_trace.specs.Messages.{Octets, is_valid}
 use Rattle.right_trace.specs.Requests.{Asking, asking, asking_of, asks, is_ask, replied}
-use Rattle.right_trace.specs.Frames.{brings, came, came_here}
+use Rattle.right_trace.specs.Frames.{brings, came, came_here, received}
 use Rattle.right_trace.specs.Parts.{IsIn}
 use Rattle.right_trace.specs.Writes.{waiting_with}
 use Rattle.right_trace.specs.Exchanges.{IsAmong, has_answer, unanswered, octets_for}
@@ -45,10 +45,10 @@ second_true false b e = e
 
 -- events
 
-sent_event : (h : History) (e : Event) (r : Request) (k p id n : ℕ) (o : Octets) → IsAmong o (unanswered r p k id n (Came e ∷ h)) → IsAmong o (unanswered r p k id n h)
-sent_event h e r k p id n o = go (has_answer r id (came p e.what h))
+sent_event : (conf : Conf) (h : History) (e : Event) (r : Request) (k p id n : ℕ) (o : Octets) → IsAmong o (unanswered conf r p k id n (Came e ∷ h)) → IsAmong o (unanswered conf r p k id n h)
+sent_event conf h e r k p id n o = go (has_answer r id (received (recv_size conf) (came p e.what h)))
   where
-    go : (b : Bool) → IsAmong o (if b then [] else unanswered r p k id n h) → IsAmong o (unanswered r p k id n h)
+    go : (b : Bool) → IsAmong o (if b then [] else unanswered conf r p k id n h) → IsAmong o (unanswered conf r p k id n h)
     go true i = absurd i
     go false i = i
 
@@ -84,11 +84,11 @@ asking_stays h e k a asked = go (is_ask e.what && (asks h == k)) refl
     go true i = absurd (less (asks h) k (same_number (asks h) k (one_and (is_ask e.what) (asks h == k) i)) (asked_below k h (ap is_some asked)))
     go false i = asked
 
-so_still : (h : History) (e : Event) (k : ℕ) (y : Carried) → IsSo k h y → IsSo k (Came e ∷ h) y
-so_still h e k y so = (so.0, asking_stays h e k so.0 so.1, so.2)
+so_still : (c : Conf) (h : History) (e : Event) (k : ℕ) (y : Carried) → IsSo c k h y → IsSo c k (Came e ∷ h) y
+so_still c h e k y so = (so.0, asking_stays h e k so.0 so.1, so.2)
 
 -- the next request is asked
-module _ (h : History) (r : Requests) (t : Waits) (kr : requests.Known h r) (is : Known h t) (e : Event) where
+module _ (conf : Conf) (h : History) (r : Requests) (t : Waits) (kr : requests.Known h r) (is : Known conf h t) (e : Event) where
   asked_waits : (q : Request) (k : ℕ) → is_some (entry_at k (joined (is_valid q && not (replied_seen r.asked r)) r.asked t.requests)) ≡ ((is_some (if asks h == k then Some (record { request = q; moment = max e.moment.0 (now h) }) else asking k h) && not (replied k h)) && is_valid_asking (if asks h == k then Some (record { request = q; moment = max e.moment.0 (now h) }) else asking k h))
   asked_waits q k = go (asks h == k) refl (is_valid q && not (replied_seen r.asked r)) refl
     where
@@ -122,28 +122,28 @@ module _ (h : History) (r : Requests) (t : Waits) (kr : requests.Known h r) (is 
   joined_rise true = sets.rise_puts 0 r.asked t.requests (omega arith) is.rise
   joined_rise false = is.rise
 
-  asks_one : (q : Request) → e.what ≡ Ask q → Known (Came e ∷ h) (is_asked q r t)
+  asks_one : (q : Request) → e.what ≡ Ask q → Known conf (Came e ∷ h) (is_asked q r t)
   asks_one q i = record {
     requests = λ k. asked_waits q k ∙ sym (ap (λ w. (is_some (if is_ask w && (asks h == k) then asking_of w (max e.moment.0 (now h)) else asking k h) && not (replied k h)) && is_valid_asking (if is_ask w && (asks h == k) then asking_of w (max e.moment.0 (now h)) else asking k h)) i);
     rise = joined_rise (is_valid q && not (replied_seen r.asked r));
-    sent = λ q k p id n o am. is.sent q k p id n o (sent_event h e q k p id n o am);
+    sent = λ q k p id n o am. is.sent q k p id n o (sent_event conf h e q k p id n o am);
     written = λ ms k p id o am. is.written (came_here p h) k p id o (written_event h e ms k p id o am);
-    carried = λ k y am. so_still h e k y (is.carried k y am);
+    carried = λ k y am. so_still conf h e k y (is.carried k y am);
   }
 
-  quiet : (w : What) → e.what ≡ w → is_ask w ≡ false → Known (Came e ∷ h) t
+  quiet : (w : What) → e.what ≡ w → is_ask w ≡ false → Known conf (Came e ∷ h) t
   quiet w i silent = record {
     requests = λ k. is.requests k ∙ sym (ap (λ b. (is_some (if b && (asks h == k) then asking_of e.what (max e.moment.0 (now h)) else asking k h) && not (replied k h)) && is_valid_asking (if b && (asks h == k) then asking_of e.what (max e.moment.0 (now h)) else asking k h)) (ap is_ask i ∙ silent));
     rise = is.rise;
-    sent = λ q k p id n o am. is.sent q k p id n o (sent_event h e q k p id n o am);
+    sent = λ q k p id n o am. is.sent q k p id n o (sent_event conf h e q k p id n o am);
     written = λ ms k p id o am. is.written (came_here p h) k p id o (written_event h e ms k p id o am);
-    carried = λ k y am. so_still h e k y (is.carried k y am);
+    carried = λ k y am. so_still conf h e k y (is.carried k y am);
   }
 
-  pub known_met : Known (Came e ∷ h) (met e.what r t)
+  pub known_met : Known conf (Came e ∷ h) (met e.what r t)
   known_met = go e.what refl
     where
-      go : (w : What) → e.what ≡ w → Known (Came e ∷ h) (met w r t)
+      go : (w : What) → e.what ≡ w → Known conf (Came e ∷ h) (met w r t)
       go (Ask q) i = asks_one q i
       go (Opened p) i = quiet (Opened p) i refl
       go (OpenFailed p f) i = quiet (OpenFailed p f) i refl
@@ -179,11 +179,11 @@ spot_comes j q i k p id t a b c =
     ∙ (ap (λ d. is_spot p id (if d then record { place = q; id = i } ∷ listed k t else listed k t)) a
     ∙ first_true ((q == p) && (i == id)) _ (ap₂ (λ x y. x && y) b c))
 
-module _ (h : History) (t : Waits) (is : Known h t) where
-  sent_more : (q j i : ℕ) (m : Octets) (r : Request) (k p id n : ℕ) (o : Octets) → IsAmong o (unanswered r p k id n (Put (Send q j i m) ∷ h)) → is_spot p id (listed k (adds j (record { place = q; id = i }) t.spots)) ≡ true
-  sent_more q j i m r k p id n o = go ((q == p) && ((j == k) && (i == id))) refl (nat_lt n (now h + read_timeout))
+module _ (conf : Conf) (h : History) (t : Waits) (is : Known conf h t) where
+  sent_more : (q j i : ℕ) (m : Octets) (r : Request) (k p id n : ℕ) (o : Octets) → IsAmong o (unanswered conf r p k id n (Put (Send q j i m) ∷ h)) → is_spot p id (listed k (adds j (record { place = q; id = i }) t.spots)) ≡ true
+  sent_more q j i m r k p id n o = go ((q == p) && ((j == k) && (i == id))) refl (nat_lt n (now h + read_timeout conf))
     where
-      go : (b : Bool) → ((q == p) && ((j == k) && (i == id))) ≡ b → (c : Bool) → IsAmong o (if b && c then m ∷ unanswered r p k id n h else unanswered r p k id n h) → is_spot p id (listed k (adds j (record { place = q; id = i }) t.spots)) ≡ true
+      go : (b : Bool) → ((q == p) && ((j == k) && (i == id))) ≡ b → (c : Bool) → IsAmong o (if b && c then m ∷ unanswered conf r p k id n h else unanswered conf r p k id n h) → is_spot p id (listed k (adds j (record { place = q; id = i }) t.spots)) ≡ true
       go true e true am = (let x = one_and (q == p) _ e in let y = one_and (j == k) (i == id) x.1 in spot_comes j q i k p id t.spots y.0 x.0 y.1)
       go true e false am = spot_stays j q i k p id t.spots (is.sent r k p id n o am)
       go false e c am = spot_stays j q i k p id t.spots (is.sent r k p id n o am)
@@ -212,20 +212,20 @@ module _ (h : History) (t : Waits) (is : Known h t) where
       go false e = ap is_some (sets.stays k j t.requests e) ∙ is.requests k
 
   -- what was noted, and one more
-  noted_so : (v : Via) (j i : ℕ) (m : Octets) (o : Option Asking) → asking j h ≡ o → (k : ℕ) (y : Carried) → IsIn y (listed k (noted_as v j i m o t.carried)) → IsSo k h y
+  noted_so : (v : Via) (j i : ℕ) (m : Octets) (o : Option Asking) → asking j h ≡ o → (k : ℕ) (y : Carried) → IsIn y (listed k (noted_as conf v j i m o t.carried)) → IsSo conf k h y
   noted_so v j i m None e k y am = is.carried k y am
   noted_so v j i m (Some a) e k y am = go (j == k) refl (subst (λ (ys : List Carried). IsIn y ys) (listed_adds k j new t.carried) am)
     where
       new : Carried
-      new = record { via = v; id = i; octets = m; carries = carries_by v m a.request i }
+      new = record { via = v; id = i; octets = m; carries = carries_by conf.transports.dgram_udp_payload_size v m a.request i }
 
-      go : (b : Bool) → (j == k) ≡ b → IsIn y (if b then new ∷ listed k t.carried else listed k t.carried) → IsSo k h y
-      go true s (inl same) = subst (λ (x : Carried). IsSo k h x) same (a, subst (λ (n : ℕ). asking n h ≡ Some a) (same_number j k s) e, refl)
+      go : (b : Bool) → (j == k) ≡ b → IsIn y (if b then new ∷ listed k t.carried else listed k t.carried) → IsSo conf k h y
+      go true s (inl same) = subst (λ (x : Carried). IsSo conf k h x) same (a, subst (λ (n : ℕ). asking n h ≡ Some a) (same_number j k s) e, refl)
       go true s (inr am) = is.carried k y am
       go false s am = is.carried k y am
 
   module _ (rs : Requests) (kr : requests.Known h rs) where
-    pub known_put : (o : Out) → Known (Put o ∷ h) (has_put o rs t)
+    pub known_put : (o : Out) → Known conf (Put o ∷ h) (has_put conf o rs t)
     known_put (Send q j i m) = record {
       requests = is.requests;
       rise = is.rise;
@@ -248,9 +248,9 @@ module _ (h : History) (t : Waits) (is : Known h t) where
     known_put (Close p) = record { requests = is.requests; rise = is.rise; sent = λ r k p id n o am. is.sent r k p id n o am; written = λ ms k p id o am. is.written ms k p id o am; carried = is.carried }
     known_put (Stale j) = record { requests = is.requests; rise = is.rise; sent = λ r k p id n o am. is.sent r k p id n o am; written = λ ms k p id o am. is.written ms k p id o am; carried = is.carried }
 
-pub goes_on : GoesOn
-goes_on = record {
+pub goes_on : (conf : Conf) → GoesOn conf
+goes_on conf = record {
   begins = record { requests = λ k. refl; rise = tt; sent = λ r k p id n o am. absurd am; written = λ ms k p id o am. absurd am; carried = λ k y am. absurd am };
-  event = λ h r t e kr is. known_met h r t kr is e;
-  out = λ h r t o kr is. known_put h t is r kr o;
+  event = λ h r t e kr is. known_met conf h r t kr is e;
+  out = λ h r t o kr is. known_put conf h t is r kr o;
 }

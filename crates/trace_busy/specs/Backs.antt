@@ -7,7 +7,7 @@ use Rattle.client_request.specs.declared.event.What.TheVariants.{OpenFailed}
 use Rattle.client_request.specs.declared.event.Out.{Out}
 use Rattle.client_request.specs.declared.event.Out.TheVariants.{OpenStream, Close}
 use Rattle.client_request.specs.declared.event.Via.TheVariants.{Stream}
-use Rattle.right_trace.specs.Trace.{History, Came, Put}
+use Rattle.right_trace.specs.Trace.{History, Came, Put, Conf}
 use Rattle.right_trace.specs.Time.{now, newest, Ever, back_off}
 use Rattle.right_trace.specs.Requests.{same_via}
 use Rattle.right_trace.specs.Places.{is_opening, is_alive, is_live}
@@ -71,20 +71,20 @@ is_within n None = false
 is_within n (Some m) = nat_lt n (m + 128000000)
 
 -- what is kept is what the definitions say
-pub record Known (h : History) (t : Backs) : Type 0 where
-  pub so : (s n : ℕ) → is_within n (entry_at s t) ≡ true → Ever (HappenedWithin (back_off + back_off) s n) h
-  pub back : (s n : ℕ) → Ever (HappenedWithin (back_off + back_off) s n) h → is_within n (entry_at s t) ≡ true
+pub record Known (c : Conf) (h : History) (t : Backs) : Type 0 where
+  pub so : (s n : ℕ) → is_within n (entry_at s t) ≡ true → Ever (HappenedWithin c (back_off + back_off) s n) h
+  pub back : (s n : ℕ) → Ever (HappenedWithin c (back_off + back_off) s n) h → is_within n (entry_at s t) ≡ true
   pub latest : (s m : ℕ) → entry_at s t ≡ Some m → m ≤ now h
 
 -- where an out closes a place, it is said whether that ends badly
-abbrev pub TellsEnd : Out → History → Bool → Type 0
-TellsEnd (Close p) h b = Tells (EndsBadly p h) b
-TellsEnd _ h b = Unit {0}
+abbrev pub TellsEnd : (c : Conf) → Out → History → Bool → Type 0
+TellsEnd c (Close p) h b = Tells (EndsBadly c p h) b
+TellsEnd c _ h b = Unit {0}
 
 -- It is known before the first row, and goes on over events and outs; what is known of places and ids behind each is counted too.
-pub record GoesOn : Type 0 where
-  pub begins : Known [] []
-  pub event : (h : History) (e : Event) (n : ℕ) (places new : List (ℕ × Place)) (l : Held) (t : Backs) → n ≡ now (Came e ∷ h) → places_seen.Known h places → places_seen.Known (Came e ∷ h) new → held.Known (Came e ∷ h) l → Known h t
-      → Known (Came e ∷ h) (are_used n new l.full (met e.what n places t))
-  pub out : (h : History) (o : Out) (bad : Bool) (n : ℕ) (places new : List (ℕ × Place)) (l : Held) (t : Backs) → n ≡ now h → TellsEnd o h bad → places_seen.Known h places → places_seen.Known (Put o ∷ h) new → held.Known (Put o ∷ h) l → Known h t
-      → Known (Put o ∷ h) (are_used n new l.full (has_put (newest h) o bad n places t))
+pub record GoesOn (c : Conf) : Type 0 where
+  pub begins : Known c [] []
+  pub event : (h : History) (e : Event) (n : ℕ) (places new : List (ℕ × Place)) (l : Held) (t : Backs) → n ≡ now (Came e ∷ h) → places_seen.Known h places → places_seen.Known (Came e ∷ h) new → held.Known (Came e ∷ h) l → Known c h t
+      → Known c (Came e ∷ h) (are_used n new l.full (met e.what n places t))
+  pub out : (h : History) (o : Out) (bad : Bool) (n : ℕ) (places new : List (ℕ × Place)) (l : Held) (t : Backs) → n ≡ now h → TellsEnd c o h bad → places_seen.Known h places → places_seen.Known (Put o ∷ h) new → held.Known (Put o ∷ h) l → Known c h t
+      → Known c (Put o ∷ h) (are_used n new l.full (has_put (newest h) o bad n places t))

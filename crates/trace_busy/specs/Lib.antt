@@ -1,3 +1,4 @@
 pub mod Backs
 pub mod Waits
+pub mod Taken
 pub mod Busy

@@ -14,6 +14,7 @@ ghost use Rattle.client_request.specs.declared.event.Via.TheVariants.{Stream};
 ghost use Rattle.trace_busy.specs.Busy as plain;
 
 use crate::backs::Backs;
+use crate::taken::are_taken;
 use crate::waits::{Carried, Spot, Waits};
 use client_request::{RequestMessage, Via};
 use dns_base::{NoMemory, Octets};
@@ -23,13 +24,14 @@ use std::alloc::Global;
 use trace_exchanges::Open;
 use trace_frames::{Brought, Ledger, Written};
 use trace_loads::Loads;
-use trace_questions::ServerUse;
-use trace_sets::{Members, count};
+use trace_questions::{ServerUse, TraceConf};
+use trace_sets::Members;
 use trace_tables::{Newest, Place, Sent, Stand, Started, same_via};
 use trace_writes::Writing;
 
 /// What is known behind a row.
 pub struct Scene<'a> {
+    pub conf: &'a TraceConf,
     /// How each server is used, in order.
     pub servers: &'a [ServerUse],
     pub ledger: &'a Ledger,
@@ -45,6 +47,7 @@ pub struct Scene<'a> {
 impl Drop for Scene<'_> {
     fn drop(self) {
         let Scene {
+            conf: _,
             servers: _,
             ledger: _,
             sends: _,
@@ -56,13 +59,13 @@ impl Drop for Scene<'_> {
     }
 }
 
-/// Whether a send is of a request, under an id, and 5 seconds are not over.
-fn is_waited_for(request: u64, id: u16, now: u64, send: &Sent) -> bool
-    ensures { result ≡ is_for request id now send.now }
+/// Whether a send is of a request, under an id, and waited for still.
+fn is_waited_for(conf: &TraceConf, request: u64, id: u16, now: u64, send: &Sent) -> bool
+    ensures { result ≡ is_for conf.now request id now send.now }
 {
     send.request == request
         && send.id == id
-        && u128::from(now) < u128::from(send.moment) + 5_000_000
+        && u128::from(now) < u128::from(send.moment) + conf.read_timeout().as_micros()
 }
 
 /// Whether what was noted was noted of these octets, under this id.
@@ -107,13 +110,13 @@ fn brings_at(brought: &Option<Brought>, place: u64, id: u16) -> bool
     }
 }
 
-/// Whether 30 seconds are not over since a start.
-fn has_begun_lately(now: u64, begun: Option<u64>) -> bool
-    ensures { result ≡ is_young now begun }
+/// Whether the time of a request by stream is not over since a start.
+fn has_begun_lately(conf: &TraceConf, now: u64, begun: Option<u64>) -> bool
+    ensures { result ≡ is_young conf.now now begun }
 {
     match begun {
         None => false,
-        Some(begun) => u128::from(now) < u128::from(begun) + 30_000_000,
+        Some(begun) => u128::from(now) < u128::from(begun) + conf.stream_timeout().as_micros(),
     }
 }
 
@@ -194,11 +197,11 @@ impl<'a> Scene<'a> {
         id: u16,
         octets: &Octets,
     ) -> Result<bool, NoMemory>
-        ensures { IfOk result (λ b. b ≡ plain.carries_seen via asked.now request id octets.now self.now) }
+        ensures { IfOk result (λ b. b ≡ plain.carries_seen self.now.conf.now via asked.now request id octets.now self.now) }
     {
         match self.noted(via, request, id, octets) {
             Some(carries) => Ok(carries),
-            None => carries(alloc, via, octets, asked, id),
+            None => carries(alloc, self.conf.udp_payload_size(), via, octets, asked, id),
         }
     }
 
@@ -211,11 +214,11 @@ impl<'a> Scene<'a> {
         id: u16,
         sends: &[Sent],
     ) -> Result<bool, NoMemory>
-        ensures { IfOk result (λ b. b ≡ plain.some_sent asked.now request id self.now.ledger.now.books.requests.clock sends.now self.now) }
+        ensures { IfOk result (λ b. b ≡ plain.some_sent self.now.conf.now asked.now request id self.now.ledger.now.books.requests.clock sends.now self.now) }
     {
         let now = self.ledger.books.requests.clock;
         for send in sends {
-            if is_waited_for(request, id, now, send)
+            if is_waited_for(self.conf, request, id, now, send)
                 && self.carries(alloc, Via::Dgram, asked, request, id, &send.octets)?
             {
                 return Ok(true);
@@ -233,7 +236,7 @@ impl<'a> Scene<'a> {
         id: u16,
         writes: &Newest<Written>,
     ) -> Result<bool, NoMemory>
-        ensures { IfOk result (λ b. b ≡ plain.some_written asked.now request id writes.now self.now) }
+        ensures { IfOk result (λ b. b ≡ plain.some_written self.now.conf.now asked.now request id writes.now self.now) }
     {
         for written in writes {
             if written.request == request
@@ -255,7 +258,7 @@ impl<'a> Scene<'a> {
         request: u64,
         spot: Spot,
     ) -> Result<bool, NoMemory>
-        ensures { IfOk result (λ b. b ≡ plain.some_sent asked.now request spot.id self.now.ledger.now.books.requests.clock (listed spot.place self.now.sends.now) self.now) }
+        ensures { IfOk result (λ b. b ≡ plain.some_sent self.now.conf.now asked.now request spot.id self.now.ledger.now.books.requests.clock (listed spot.place self.now.sends.now) self.now) }
     {
         match self.sends.get(spot.place) {
             None => Ok(false),
@@ -271,7 +274,7 @@ impl<'a> Scene<'a> {
         request: u64,
         spot: Spot,
     ) -> Result<bool, NoMemory>
-        ensures { IfOk result (λ b. b ≡ plain.some_written asked.now request spot.id (waiting_seen spot.place spot.id self.now.ledger.now.waiting) self.now) }
+        ensures { IfOk result (λ b. b ≡ plain.some_written self.now.conf.now asked.now request spot.id (waiting_seen spot.place spot.id self.now.ledger.now.waiting) self.now) }
     {
         let Some(at) = self.ledger.waiting.get(spot.place) else {
             return Ok(false);
@@ -291,11 +294,14 @@ impl<'a> Scene<'a> {
         spot: Spot,
         server: u32,
     ) -> Result<bool, NoMemory>
-        ensures { IfOk result (λ b. b ≡ plain.is_open_by Stream asked.now request spot.place spot.id server self.now) }
+        ensures { IfOk result (λ b. b ≡ plain.is_open_by self.now.conf.now Stream asked.now request spot.place spot.id server self.now) }
     {
         let requests = &self.ledger.books.requests;
-        if !has_begun_lately(requests.clock, requests.start(request, server, Via::Stream))
-            || brings_at(&self.ledger.frames.brought, spot.place, spot.id)
+        if !has_begun_lately(
+            self.conf,
+            requests.clock,
+            requests.start(request, server, Via::Stream),
+        ) || brings_at(&self.ledger.frames.brought, spot.place, spot.id)
         {
             return Ok(false);
         }
@@ -319,7 +325,7 @@ impl<'a> Scene<'a> {
         request: u64,
         spot: Spot,
     ) -> Result<bool, NoMemory>
-        ensures { IfOk result (λ b. b ≡ plain.is_open_at asked.now request spot (entry_at spot.place self.now.ledger.now.books.places) self.now) }
+        ensures { IfOk result (λ b. b ≡ plain.is_open_at self.now.conf.now asked.now request spot (entry_at spot.place self.now.ledger.now.books.places) self.now) }
     {
         let Some(place) = self.ledger.books.places.get(spot.place) else {
             return Ok(false);
@@ -344,7 +350,7 @@ impl<'a> Scene<'a> {
         request: u64,
         spots: &Newest<Spot>,
     ) -> Result<bool, NoMemory>
-        ensures { IfOk result (λ b. b ≡ plain.some_open asked.now request spots.now self.now) }
+        ensures { IfOk result (λ b. b ≡ plain.some_open self.now.conf.now asked.now request spots.now self.now) }
     {
         for spot in spots {
             if self.is_open_at(alloc, asked, request, *spot)? {
@@ -360,7 +366,7 @@ impl<'a> Scene<'a> {
         asked: &RequestMessage,
         request: u64,
     ) -> Result<bool, NoMemory>
-        ensures { IfOk result (λ b. b ≡ plain.some_open asked.now request (listed request self.now.waits.now.spots) self.now) }
+        ensures { IfOk result (λ b. b ≡ plain.some_open self.now.conf.now asked.now request (listed request self.now.waits.now.spots) self.now) }
     {
         match self.waits.spots.get(request) {
             None => Ok(false),
@@ -390,13 +396,20 @@ impl<'a> Scene<'a> {
         }
     }
 
-    /// Whether a server is busy for all requests that it has so.
-    fn serves(&self, via: Via, server: u32) -> bool
-        ensures { result ≡ plain.serves via server self.now }
+    /// Whether a server is busy for a request that it has so.
+    fn serves(&self, via: Via, server: u32, request: u64) -> bool
+        ensures { result ≡ plain.serves self.now.conf.now via server request self.now }
     {
         match via {
             Via::Dgram => {
-                count(&self.loads.dgrams, u64::from(server)) >= 100 || self.some_dgram_opens(server)
+                self.some_dgram_opens(server)
+                    || are_taken(
+                        &self.ledger.books,
+                        &self.loads.dgrams,
+                        request,
+                        u64::from(server),
+                        self.conf.max_places(),
+                    )
             }
             Via::Stream => {
                 self.some_stream_moves(server)
@@ -409,11 +422,11 @@ impl<'a> Scene<'a> {
     }
 
     /// Whether one of the servers that these are starts at is.
-    fn some_serves(&self, starts: &Newest<Started>) -> bool
-        ensures { result ≡ plain.some_serves starts.now self.now }
+    fn some_serves(&self, request: u64, starts: &Newest<Started>) -> bool
+        ensures { result ≡ plain.some_serves self.now.conf.now request starts.now self.now }
     {
         for start in starts {
-            if self.serves(start.via, start.server) {
+            if self.serves(start.via, start.server, request) {
                 return true;
             }
         }
@@ -421,17 +434,17 @@ impl<'a> Scene<'a> {
     }
 
     fn some_serves_of(&self, request: u64) -> bool
-        ensures { result ≡ plain.some_serves (listed request self.now.ledger.now.books.requests.starts) self.now }
+        ensures { result ≡ plain.some_serves self.now.conf.now request (listed request self.now.ledger.now.books.requests.starts) self.now }
     {
         match self.ledger.books.requests.starts.get(request) {
             None => false,
-            Some(starts) => self.some_serves(starts),
+            Some(starts) => self.some_serves(request, starts),
         }
     }
 
     /// Whether a request is busy at a server.
     fn is_busy(&self, alloc: Global, request: u64) -> Result<bool, NoMemory>
-        ensures { IfOk result (λ b. b ≡ plain.busy_seen self.now request) }
+        ensures { IfOk result (λ b. b ≡ plain.busy_seen self.now.conf.now self.now request) }
     {
         let Some(asked) = self.ledger.books.requests.askings.get(request) else {
             return Ok(false);
@@ -443,7 +456,7 @@ impl<'a> Scene<'a> {
     }
 
     fn all_busy(&self, alloc: Global, requests: &Members) -> Result<bool, NoMemory>
-        ensures { IfOk result (λ b. b ≡ plain.all_busy self.now requests.now) }
+        ensures { IfOk result (λ b. b ≡ plain.all_busy self.now.conf.now self.now requests.now) }
     {
         for (request, _) in requests {
             if !self.is_busy(alloc, request)? {

@@ -14,6 +14,7 @@
 mod backs;
 mod busy;
 mod laws;
+mod taken;
 mod waits;
 
 pub use backs::{Backs, meet_backs, note_used, put_backs};

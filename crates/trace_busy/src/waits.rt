@@ -10,6 +10,7 @@ use message_matching::carries;
 use number_table::NumberTable;
 use request_validity::RequestValidity;
 use std::alloc::Global;
+use trace_questions::TraceConf;
 use trace_sets::Members;
 use trace_tables::{Newest, Requests, add};
 
@@ -117,14 +118,14 @@ impl Waits {
     /// What a request is sent or written as is noted, if it was asked.
     fn note(
         &mut self,
-        alloc: Global,
+        conf: &TraceConf,
         requests: &Requests,
         via: Via,
         request: u64,
         id: u16,
         octets: &Octets,
     ) -> Result<(), NoMemory>
-        ensures { OnOk result (self.new ≡ plain.notes via request id octets.now requests.now self.old) }
+        ensures { OnOk result (self.new ≡ plain.notes conf.now via request id octets.now requests.now self.old) }
     {
         let Some(asked) = requests.askings.get(request) else {
             return Ok(());
@@ -133,14 +134,21 @@ impl Waits {
             via,
             id,
             octets: octets.try_clone()?,
-            carries: carries(alloc, via, octets, &asked.request, id)?,
+            carries: carries(
+                conf.alloc(),
+                conf.udp_payload_size(),
+                via,
+                octets,
+                &asked.request,
+                id,
+            )?,
         };
-        add(&mut self.carried, alloc, request, noted)
+        add(&mut self.carried, conf.alloc(), request, noted)
     }
 
     /// An out is put, over the requests as they were.
-    pub fn put(&mut self, alloc: Global, requests: &Requests, out: &Out) -> Result<(), NoMemory>
-        ensures { OnOk result (self.new ≡ plain.has_put out.now requests.now self.old) }
+    pub fn put(&mut self, conf: &TraceConf, requests: &Requests, out: &Out) -> Result<(), NoMemory>
+        ensures { OnOk result (self.new ≡ plain.has_put conf.now out.now requests.now self.old) }
     {
         match out {
             Out::Send {
@@ -149,8 +157,8 @@ impl Waits {
                 id,
                 octets,
             } => {
-                self.note(alloc, requests, Via::Dgram, *request, *id, octets)?;
-                self.go_to(alloc, *request, *place, *id)
+                self.note(conf, requests, Via::Dgram, *request, *id, octets)?;
+                self.go_to(conf.alloc(), *request, *place, *id)
             }
             Out::Write {
                 place,
@@ -158,8 +166,8 @@ impl Waits {
                 id,
                 octets,
             } => {
-                self.note(alloc, requests, Via::Stream, *request, *id, octets)?;
-                self.go_to(alloc, *request, *place, *id)
+                self.note(conf, requests, Via::Stream, *request, *id, octets)?;
+                self.go_to(conf.alloc(), *request, *place, *id)
             }
             Out::Reply { request, .. } => {
                 take_out(&mut self.requests, *request);

@@ -56,36 +56,36 @@ sited v s = Some (record { via = v; server = s })
 
 -- sends that carried their request
 
-record CarriedBy (r : Request) (k : ℕ) (ns : List Named) : Type 0 where
+record CarriedBy (conf : Conf) (r : Request) (k : ℕ) (ns : List Named) : Type 0 where
   send : Named
   there : IsOneOf send ns
-  carries : CarriesBy Dgram send.octets r send.id
+  carries : CarriesBy conf Dgram send.octets r send.id
 
-carried_so : (r : Request) (k : ℕ) (xs : List Sent) → some_carried r k xs ≡ true → CarriedBy r k (names_of k xs)
-carried_so r k [] e = absurd (cc)
-carried_so r k (x ∷ xs) e = go (carried_so r k xs) (x.request == k) (carries_by Dgram x.octets r x.id) refl e
+carried_so : (conf : Conf) (r : Request) (k : ℕ) (xs : List Sent) → some_carried conf r k xs ≡ true → CarriedBy conf r k (names_of k xs)
+carried_so conf r k [] e = absurd (cc)
+carried_so conf r k (x ∷ xs) e = go (carried_so conf r k xs) (x.request == k) (carries_by conf.transports.dgram_udp_payload_size Dgram x.octets r x.id) refl e
   where
-    more : (b : Bool) → CarriedBy r k (names_of k xs) → CarriedBy r k (if b then record { id = x.id; octets = x.octets } ∷ names_of k xs else names_of k xs)
+    more : (b : Bool) → CarriedBy conf r k (names_of k xs) → CarriedBy conf r k (if b then record { id = x.id; octets = x.octets } ∷ names_of k xs else names_of k xs)
     more true c = record { send = c.send; there = inr c.there; carries = c.carries }
     more false c = c
 
-    go : (some_carried r k xs ≡ true → CarriedBy r k (names_of k xs)) → (a b : Bool) → carries_by Dgram x.octets r x.id ≡ b → ((a && b) || some_carried r k xs) ≡ true → CarriedBy r k (if a then record { id = x.id; octets = x.octets } ∷ names_of k xs else names_of k xs)
-    go rest true true i e = record { send = record { id = x.id; octets = x.octets }; there = inl refl; carries = carries_so Dgram x.octets r x.id i }
+    go : (some_carried conf r k xs ≡ true → CarriedBy conf r k (names_of k xs)) → (a b : Bool) → carries_by conf.transports.dgram_udp_payload_size Dgram x.octets r x.id ≡ b → ((a && b) || some_carried conf r k xs) ≡ true → CarriedBy conf r k (if a then record { id = x.id; octets = x.octets } ∷ names_of k xs else names_of k xs)
+    go rest true true i e = record { send = record { id = x.id; octets = x.octets }; there = inl refl; carries = carries_so conf Dgram x.octets r x.id i }
     go rest true false i e = more true (rest e)
     go rest false b i e = rest e
 
-so_carried : (r : Request) (k : ℕ) (n : Named) (xs : List Sent) → IsOneOf n (names_of k xs) → CarriesBy Dgram n.octets r n.id → some_carried r k xs ≡ true
-so_carried r k n [] i c = absurd i
-so_carried r k n (x ∷ xs) i c = go (λ i. so_carried r k n xs i c) (x.request == k) refl i
+so_carried : (conf : Conf) (r : Request) (k : ℕ) (n : Named) (xs : List Sent) → IsOneOf n (names_of k xs) → CarriesBy conf Dgram n.octets r n.id → some_carried conf r k xs ≡ true
+so_carried conf r k n [] i c = absurd i
+so_carried conf r k n (x ∷ xs) i c = go (λ i. so_carried conf r k n xs i c) (x.request == k) refl i
   where
-    go : (IsOneOf n (names_of k xs) → some_carried r k xs ≡ true) → (a : Bool) → (x.request == k) ≡ a → IsOneOf n (if a then record { id = x.id; octets = x.octets } ∷ names_of k xs else names_of k xs) → ((a && carries_by Dgram x.octets r x.id) || some_carried r k xs) ≡ true
+    go : (IsOneOf n (names_of k xs) → some_carried conf r k xs ≡ true) → (a : Bool) → (x.request == k) ≡ a → IsOneOf n (if a then record { id = x.id; octets = x.octets } ∷ names_of k xs else names_of k xs) → ((a && carries_by conf.transports.dgram_udp_payload_size Dgram x.octets r x.id) || some_carried conf r k xs) ≡ true
     go rest true j (inl e) =
-        let d : CarriesBy Dgram x.octets r x.id = subst (λ (n : Named). CarriesBy Dgram n.octets r n.id) (sym e) c in
-        first_true _ _ (so_carries Dgram x.octets r x.id d)
+        let d : CarriesBy conf Dgram x.octets r x.id = subst (λ (n : Named). CarriesBy conf Dgram n.octets r n.id) (sym e) c in
+        first_true _ _ (so_carries conf Dgram x.octets r x.id d)
     go rest true j (inr i) = second_true _ _ (rest i)
     go rest false j i = rest i
 
-module _ (bp : Books) (k p : ℕ) (x : History) (kp : books.Known x bp) where
+module _ (conf : Conf) (bp : Books) (k p : ℕ) (x : History) (kp : books.Known x bp) where
   -- request k was sent at p, as the definitions have it
   record WasSent : Type 0 where
     server : ℕ
@@ -94,19 +94,19 @@ module _ (bp : Books) (k p : ℕ) (x : History) (kp : books.Known x bp) where
     has_it : started_seen k server Dgram bp.requests ≡ true
     request : Request
     asked : (t : ℕ) × (asking k x ≡ Some (record { request = request; moment = t }))
-    by : CarriedBy request k (named p k x)
+    by : CarriedBy conf request k (named p k x)
 
-  carried_there : (o : Option Asking) → asking k x ≡ o → was_carried k o (listed p bp.sends.sent) ≡ true → (r : Request) × ((t : ℕ) × (asking k x ≡ Some (record { request = r; moment = t }))) × CarriedBy r k (named p k x)
+  carried_there : (o : Option Asking) → asking k x ≡ o → was_carried conf k o (listed p bp.sends.sent) ≡ true → (r : Request) × ((t : ℕ) × (asking k x ≡ Some (record { request = r; moment = t }))) × CarriedBy conf r k (named p k x)
   carried_there None i e = absurd (cc)
-  carried_there (Some a) i e = (a.request, (a.moment, i), subst (CarriedBy a.request k) (kp.sends.names p k) (carried_so a.request k (listed p bp.sends.sent) e))
+  carried_there (Some a) i e = (a.request, (a.moment, i), subst (CarriedBy conf a.request k) (kp.sends.names p k) (carried_so conf a.request k (listed p bp.sends.sent) e))
 
-  hit_so : (o : Option ℕ) → alive_server Dgram (entry_at p bp.places) ≡ o → was_sent bp k p o ≡ true → WasSent
+  hit_so : (o : Option ℕ) → alive_server Dgram (entry_at p bp.places) ≡ o → was_sent conf bp k p o ≡ true → WasSent
   hit_so None i e = absurd (cc)
   hit_so (Some s) i e =
-      let q = both (started_seen k s Dgram bp.requests) (was_carried k (entry_at k bp.requests.askings) (listed p bp.sends.sent)) e in
+      let q = both (started_seen k s Dgram bp.requests) (was_carried conf k (entry_at k bp.requests.askings) (listed p bp.sends.sent)) e in
       let t = server_there Dgram s (entry_at p bp.places) i in
       let at : site p x ≡ Some (record { via = Dgram; server = s }) = sym (kp.places.sites p) ∙ t.0 in
-      let r = carried_there (asking k x) refl (ap (λ o. was_carried k o (listed p bp.sends.sent)) (sym (kp.requests.askings k)) ∙ q.1) in
+      let r = carried_there (asking k x) refl (ap (λ o. was_carried conf k o (listed p bp.sends.sent)) (sym (kp.requests.askings k)) ∙ q.1) in
       record { server = s; at = ap (is_site Dgram s) at ∙ own s; alive = sym (kp.places.stands p) ∙ t.1; has_it = q.0; request = r.0; asked = r.1; by = r.2 }
 
   is_sited : (s : ℕ) (o : Option Site) → is_site Dgram s o ≡ true → o ≡ Some (record { via = Dgram; server = s })
@@ -117,15 +117,15 @@ module _ (bp : Books) (k p : ℕ) (x : History) (kp : books.Known x bp) where
       go Dgram i q = ap₂ sited i (same_number y.server s q.1)
       go Stream i q = absurd (let z : false ≡ true = sym (ap (λ v. same_via v Dgram) i) ∙ q.0 in cc)
 
-  so_hit : WasSent → is_hit bp k p ≡ true
+  so_hit : WasSent → is_hit conf bp k p ≡ true
   so_hit w =
       let at = is_sited w.server (site p x) w.at in
-      ap (was_sent bp k p) (there_server Dgram w.server (entry_at p bp.places) (kp.places.sites p ∙ at) (kp.places.stands p ∙ w.alive))
+      ap (was_sent conf bp k p) (there_server Dgram w.server (entry_at p bp.places) (kp.places.sites p ∙ at) (kp.places.stands p ∙ w.alive))
       ∙ all (started_seen k w.server Dgram bp.requests) _ w.has_it
-      (ap (λ o. was_carried k o (listed p bp.sends.sent)) (kp.requests.askings k ∙ w.asked.1)
-      ∙ so_carried w.request k w.by.send (listed p bp.sends.sent) (subst (IsOneOf w.by.send) (sym (kp.sends.names p k)) w.by.there) w.by.carries)
+      (ap (λ o. was_carried conf k o (listed p bp.sends.sent)) (kp.requests.askings k ∙ w.asked.1)
+      ∙ so_carried conf w.request k w.by.send (listed p bp.sends.sent) (subst (IsOneOf w.by.send) (sym (kp.sends.names p k)) w.by.there) w.by.carries)
 
-  failed_there : (told : ℕ → What) (w : What) → w ≡ told p → WasSent → FailedAt told k x w
+  failed_there : (told : ℕ → What) (w : What) → w ≡ told p → WasSent → FailedAt conf told k x w
   failed_there told w e s = record {
     place = p;
     server = s.server;
@@ -140,8 +140,8 @@ module _ (bp : Books) (k p : ℕ) (x : History) (kp : books.Known x bp) where
     carries = s.by.carries;
   }
 
-there_failed : (bp : Books) (k : ℕ) (x : History) (kp : books.Known x bp) (told : ℕ → What) (w : What) (f : FailedAt told k x w) → is_hit bp k f.place ≡ true
-there_failed bp k x kp told w f = so_hit bp k f.place x kp (record {
+there_failed : (conf : Conf) (bp : Books) (k : ℕ) (x : History) (kp : books.Known x bp) (told : ℕ → What) (w : What) (f : FailedAt conf told k x w) → is_hit conf bp k f.place ≡ true
+there_failed conf bp k x kp told w f = so_hit conf bp k f.place x kp (record {
   server = f.server;
   at = f.at;
   alive = f.alive;
@@ -153,18 +153,18 @@ there_failed bp k x kp told w f = so_hit bp k f.place x kp (record {
 
 -- faults
 
-module _ (bp : Books) (k : ℕ) (x : History) (kp : books.Known x bp) where
-  sent_there : (p : ℕ) → is_hit bp k p ≡ true → WasSent bp k p x kp
-  sent_there p e = hit_so bp k p x kp (alive_server Dgram (entry_at p bp.places)) refl e
+module _ (conf : Conf) (bp : Books) (k : ℕ) (x : History) (kp : books.Known x bp) where
+  sent_there : (p : ℕ) → is_hit conf bp k p ≡ true → WasSent conf bp k p x kp
+  sent_there p e = hit_so conf bp k p x kp (alive_server Dgram (entry_at p bp.places)) refl e
 
-  one_so : (told : ℕ → What) (p : ℕ) (d e : Error) → (b : Bool) → is_hit bp k p ≡ b → if_hit b d ≡ Some e → (d ≡ e) × FailedAt told k x (told p)
-  one_so told p d e true i h = ((let z : d ≡ e = cc in z), failed_there bp k p x kp told (told p) refl (sent_there p i))
+  one_so : (told : ℕ → What) (p : ℕ) (d e : Error) → (b : Bool) → is_hit conf bp k p ≡ b → if_hit b d ≡ Some e → (d ≡ e) × FailedAt conf told k x (told p)
+  one_so told p d e true i h = ((let z : d ≡ e = cc in z), failed_there conf bp k p x kp told (told p) refl (sent_there p i))
   one_so told p d e false i h = absurd (cc)
 
-  fails_so : (w : What) (e : Error) → failure bp k w ≡ Some e → Fails k x w e
-  fails_so (SendFailed p f) e h = (let r = one_so (λ p. SendFailed p f) p (errors.Dgram (query.Send f)) e (is_hit bp k p) refl h in subst (Fails k x (SendFailed p f)) r.0 (InSending f r.1))
-  fails_so (ShortSend p) e h = (let r = one_so ShortSend p (errors.Dgram (query.Send fault.ShortSend)) e (is_hit bp k p) refl h in subst (Fails k x (ShortSend p)) r.0 (InPart r.1))
-  fails_so (RecvFailed p f) e h = (let r = one_so (λ p. RecvFailed p f) p (errors.Dgram (query.Receive f)) e (is_hit bp k p) refl h in subst (Fails k x (RecvFailed p f)) r.0 (InReceiving f r.1))
+  fails_so : (w : What) (e : Error) → failure conf bp k w ≡ Some e → Fails conf k x w e
+  fails_so (SendFailed p f) e h = (let r = one_so (λ p. SendFailed p f) p (errors.Dgram (query.Send f)) e (is_hit conf bp k p) refl h in subst (Fails conf k x (SendFailed p f)) r.0 (InSending f r.1))
+  fails_so (ShortSend p) e h = (let r = one_so ShortSend p (errors.Dgram (query.Send fault.ShortSend)) e (is_hit conf bp k p) refl h in subst (Fails conf k x (ShortSend p)) r.0 (InPart r.1))
+  fails_so (RecvFailed p f) e h = (let r = one_so (λ p. RecvFailed p f) p (errors.Dgram (query.Receive f)) e (is_hit conf bp k p) refl h in subst (Fails conf k x (RecvFailed p f)) r.0 (InReceiving f r.1))
   fails_so (Ask r) e h = absurd (cc)
   fails_so (Opened p) e h = absurd (cc)
   fails_so (OpenFailed p f) e h = absurd (cc)
@@ -176,13 +176,13 @@ module _ (bp : Books) (k : ℕ) (x : History) (kp : books.Known x bp) where
   fails_so (Ended p) e h = absurd (cc)
   fails_so Tick e h = absurd (cc)
 
-  so_fails : (w : What) (e : Error) → Fails k x w e → failure bp k w ≡ Some e
-  so_fails w _ (InSending f d) = ap (failure bp k) d.is_told ∙ ap (λ b. if_hit b (errors.Dgram (query.Send f))) (there_failed bp k x kp (λ p. SendFailed p f) w d)
-  so_fails w _ (InPart d) = ap (failure bp k) d.is_told ∙ ap (λ b. if_hit b (errors.Dgram (query.Send fault.ShortSend))) (there_failed bp k x kp ShortSend w d)
-  so_fails w _ (InReceiving f d) = ap (failure bp k) d.is_told ∙ ap (λ b. if_hit b (errors.Dgram (query.Receive f))) (there_failed bp k x kp (λ p. RecvFailed p f) w d)
+  so_fails : (w : What) (e : Error) → Fails conf k x w e → failure conf bp k w ≡ Some e
+  so_fails w _ (InSending f d) = ap (failure conf bp k) d.is_told ∙ ap (λ b. if_hit b (errors.Dgram (query.Send f))) (there_failed conf bp k x kp (λ p. SendFailed p f) w d)
+  so_fails w _ (InPart d) = ap (failure conf bp k) d.is_told ∙ ap (λ b. if_hit b (errors.Dgram (query.Send fault.ShortSend))) (there_failed conf bp k x kp ShortSend w d)
+  so_fails w _ (InReceiving f d) = ap (failure conf bp k) d.is_told ∙ ap (λ b. if_hit b (errors.Dgram (query.Receive f))) (there_failed conf bp k x kp (λ p. RecvFailed p f) w d)
 
-pub tells_failure : (past : Books) (k : ℕ) (w : What) (o : Option Error) → o ≡ failure past k w → TellsFailure past k w o
-tells_failure past k w o e x kp d = ((λ u. fails_so past k x kp w d (sym e ∙ u)), (λ f. e ∙ so_fails past k x kp w d f))
+pub tells_failure : (conf : Conf) (past : Books) (k : ℕ) (w : What) (o : Option Error) → o ≡ failure conf past k w → TellsFailure conf past k w o
+tells_failure conf past k w o e x kp d = ((λ u. fails_so conf past k x kp w d (sym e ∙ u)), (λ f. e ∙ so_fails conf past k x kp w d f))
 
 -- messages that don't answer
 

@@ -26,42 +26,42 @@ use Rattle.trace_exchanges.specs.declared.coming.Coming.{Coming}
 use Rattle.trace_exchanges.specs.Coming.{is_wanted, AllComing}
 
 -- some send of request k, which is r, carried it
-abbrev pub some_carried : Request → (k : ℕ) → List Sent → Bool
-some_carried r k [] = false
-some_carried r k (x ∷ xs) = ((x.request == k) && carries_by Dgram x.octets r x.id) || some_carried r k xs
+abbrev pub some_carried : (c : Conf) → Request → (k : ℕ) → List Sent → Bool
+some_carried c r k [] = false
+some_carried c r k (x ∷ xs) = ((x.request == k) && carries_by c.transports.dgram_udp_payload_size Dgram x.octets r x.id) || some_carried c r k xs
 
-abbrev pub was_carried : (k : ℕ) → Option Asking → List Sent → Bool
-was_carried k None xs = false
-was_carried k (Some a) xs = some_carried a.request k xs
+abbrev pub was_carried : (c : Conf) (k : ℕ) → Option Asking → List Sent → Bool
+was_carried c k None xs = false
+was_carried c k (Some a) xs = some_carried c a.request k xs
 
-abbrev pub was_sent : (past : Books) → (k p : ℕ) → Option ℕ → Bool
-was_sent past k p None = false
-was_sent past k p (Some s) = started_seen k s Dgram past.requests && was_carried k (entry_at k past.requests.askings) (listed p past.sends.sent)
+abbrev pub was_sent : (c : Conf) (past : Books) → (k p : ℕ) → Option ℕ → Bool
+was_sent c past k p None = false
+was_sent c past k p (Some s) = started_seen k s Dgram past.requests && was_carried c k (entry_at k past.requests.askings) (listed p past.sends.sent)
 
 -- request k was sent at p, an alive place of a server that has it
-abbrev pub is_hit : (past : Books) → (k p : ℕ) → Bool
-is_hit past k p = was_sent past k p (alive_server Dgram (entry_at p past.places))
+abbrev pub is_hit : (c : Conf) (past : Books) → (k p : ℕ) → Bool
+is_hit c past k p = was_sent c past k p (alive_server Dgram (entry_at p past.places))
 
 abbrev pub if_hit : Bool → Error → Option Error
 if_hit true e = Some e
 if_hit false e = None
 
 -- the error that an event tells of a request
-abbrev pub failure : (past : Books) → (k : ℕ) → What → Option Error
-failure past k (SendFailed p f) = if_hit (is_hit past k p) (errors.Dgram (query.Send f))
-failure past k (ShortSend p) = if_hit (is_hit past k p) (errors.Dgram (query.Send fault.ShortSend))
-failure past k (RecvFailed p f) = if_hit (is_hit past k p) (errors.Dgram (query.Receive f))
-failure past k _ = None
+abbrev pub failure : (c : Conf) (past : Books) → (k : ℕ) → What → Option Error
+failure c past k (SendFailed p f) = if_hit (is_hit c past k p) (errors.Dgram (query.Send f))
+failure c past k (ShortSend p) = if_hit (is_hit c past k p) (errors.Dgram (query.Send fault.ShortSend))
+failure c past k (RecvFailed p f) = if_hit (is_hit c past k p) (errors.Dgram (query.Receive f))
+failure c past k _ = None
 
 -- by the definitions an event tells this of a request
-pub data Fails (k : ℕ) (past : History) (w : What) : Error → Type 0 where
-  InSending : (f : Fault) → FailedAt (λ p. SendFailed p f) k past w → Fails k past w (errors.Dgram (query.Send f))
-  InPart : FailedAt ShortSend k past w → Fails k past w (errors.Dgram (query.Send fault.ShortSend))
-  InReceiving : (f : Fault) → FailedAt (λ p. RecvFailed p f) k past w → Fails k past w (errors.Dgram (query.Receive f))
+pub data Fails (c : Conf) (k : ℕ) (past : History) (w : What) : Error → Type 0 where
+  InSending : (f : Fault) → FailedAt c (λ p. SendFailed p f) k past w → Fails c k past w (errors.Dgram (query.Send f))
+  InPart : FailedAt c ShortSend k past w → Fails c k past w (errors.Dgram (query.Send fault.ShortSend))
+  InReceiving : (f : Fault) → FailedAt c (λ p. RecvFailed p f) k past w → Fails c k past w (errors.Dgram (query.Receive f))
 
 -- the answer, of every history that the books know
-abbrev pub TellsFailure : (past : Books) → (k : ℕ) → What → Option Error → Type 0
-TellsFailure past k w o = (x : History) → books.Known x past → (e : Error) → (o ≡ Some e → Fails k x w e) × (Fails k x w e → o ≡ Some e)
+abbrev pub TellsFailure : (c : Conf) (past : Books) → (k : ℕ) → What → Option Error → Type 0
+TellsFailure c past k w o = (x : History) → books.Known x past → (e : Error) → (o ≡ Some e → Fails c k x w e) × (Fails c k x w e → o ≡ Some e)
 
 -- a message came by stream and does not answer
 abbrev pub is_wrong : (k : ℕ) → Coming → Bool

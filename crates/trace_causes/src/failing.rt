@@ -12,21 +12,30 @@ use dns_base::NoMemory;
 use message_matching::carries;
 use number_table::NumberTable;
 use request_validity::RequestValidity;
-use std::alloc::Global;
 use trace_exchanges::Coming;
+use trace_questions::TraceConf;
 use trace_tables::{Asked, Books, Newest, Place, Sent, Stand};
 
 /// Whether some send of a request carried it.
 fn some_carried(
-    alloc: Global,
+    conf: &TraceConf,
     asked: &RequestMessage,
     request: u64,
     sends: &Newest<Sent>,
 ) -> Result<bool, NoMemory>
-    ensures { IfOk result (λ b. b ≡ plain.some_carried asked.now request sends.now) }
+    ensures { IfOk result (λ b. b ≡ plain.some_carried conf.now asked.now request sends.now) }
 {
     for sent in sends {
-        if sent.request == request && carries(alloc, Via::Dgram, &sent.octets, asked, sent.id)? {
+        if sent.request == request
+            && carries(
+                conf.alloc(),
+                conf.udp_payload_size(),
+                Via::Dgram,
+                &sent.octets,
+                asked,
+                sent.id,
+            )?
+        {
             return Ok(true);
         }
     }
@@ -35,20 +44,20 @@ fn some_carried(
 
 /// The same of a request that was asked, at a place.
 fn was_carried(
-    alloc: Global,
+    conf: &TraceConf,
     askings: &NumberTable<Asked>,
     sent: &NumberTable<Newest<Sent>>,
     request: u64,
     place: u64,
 ) -> Result<bool, NoMemory>
-    ensures { IfOk result (λ b. b ≡ plain.was_carried request (entry_at request askings.now) (listed place sent.now)) }
+    ensures { IfOk result (λ b. b ≡ plain.was_carried conf.now request (entry_at request askings.now) (listed place sent.now)) }
 {
     let Some(asked) = askings.get(request) else {
         return Ok(false);
     };
     match sent.get(place) {
         None => Ok(false),
-        Some(sends) => some_carried(alloc, &asked.request, request, sends),
+        Some(sends) => some_carried(conf, &asked.request, request, sends),
     }
 }
 
@@ -65,8 +74,8 @@ fn server_at(places: &NumberTable<Place>, number: u64) -> Option<u32>
 }
 
 /// Whether a request was sent at a place that is alive, of a server that has it.
-fn is_hit(alloc: Global, past: &Books, request: u64, place: u64) -> Result<bool, NoMemory>
-    ensures { IfOk result (λ b. b ≡ plain.is_hit past.now request place) }
+fn is_hit(conf: &TraceConf, past: &Books, request: u64, place: u64) -> Result<bool, NoMemory>
+    ensures { IfOk result (λ b. b ≡ plain.is_hit conf.now past.now request place) }
 {
     let Some(server) = server_at(&past.places, place) else {
         return Ok(false);
@@ -75,7 +84,7 @@ fn is_hit(alloc: Global, past: &Books, request: u64, place: u64) -> Result<bool,
         return Ok(false);
     }
     was_carried(
-        alloc,
+        conf,
         &past.requests.askings,
         &past.sends.sent,
         request,
@@ -90,24 +99,24 @@ fn if_hit(is_hit: bool, error: Error) -> Option<Error>
 }
 
 fn find_failure(
-    alloc: Global,
+    conf: &TraceConf,
     past: &Books,
     what: &What,
     request: u64,
 ) -> Result<Option<Error>, NoMemory>
-    ensures { IfOk result (λ e. e ≡ plain.failure past.now request what.now) }
+    ensures { IfOk result (λ e. e ≡ plain.failure conf.now past.now request what.now) }
 {
     match what {
         What::SendFailed { place, fault } => Ok(if_hit(
-            is_hit(alloc, past, request, *place)?,
+            is_hit(conf, past, request, *place)?,
             Error::Dgram(QueryError::Send(*fault)),
         )),
         What::ShortSend { place } => Ok(if_hit(
-            is_hit(alloc, past, request, *place)?,
+            is_hit(conf, past, request, *place)?,
             Error::Dgram(QueryError::Send(Fault::ShortSend)),
         )),
         What::RecvFailed { place, fault } => Ok(if_hit(
-            is_hit(alloc, past, request, *place)?,
+            is_hit(conf, past, request, *place)?,
             Error::Dgram(QueryError::Receive(*fault)),
         )),
         _ => Ok(None),
@@ -117,15 +126,15 @@ fn find_failure(
 /// The error of sending or receiving that an event tells of a request, which was sent where it happened: `past` is what was
 /// known before the row.
 pub fn failure(
-    alloc: Global,
+    conf: &TraceConf,
     past: &Books,
     what: &What,
     request: u64,
 ) -> Result<Option<Error>, NoMemory>
-    ensures value { IfOk result (λ e. e ≡ plain.failure past.now request what.now) }
-    ensures told { IfOk result (plain.TellsFailure past.now request what.now) }
+    ensures value { IfOk result (λ e. e ≡ plain.failure conf.now past.now request what.now) }
+    ensures told { IfOk result (plain.TellsFailure conf.now past.now request what.now) }
 {
-    find_failure(alloc, past, what, request)
+    find_failure(conf, past, what, request)
 }
 
 /// Whether a message came for a request by stream and does not answer it.

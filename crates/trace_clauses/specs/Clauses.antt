@@ -43,7 +43,7 @@ OtherOwes c s past w end h o = OutRight c s past w h end o
 pub record OutsAreOrderly (c : Conf) (s : Settings) (past : History) (row : Row) : Type 0 where
   pub outs : EachOwes (OtherOwes c s past row.event.what (after row past)) (Came row.event ∷ past) row.outs
   pub busy : HasServer c → WaitingIsBusy c (after row past)
-  pub places : PlacesAreMet s (after row past)
+  pub places : PlacesAreMet c s (after row past)
   pub marks : MarksStand row.outs
 
 -- what all errors owe, alone and together

@@ -33,9 +33,12 @@ abbrev pub some_matching : (k : ℕ) → List Coming → Bool
 some_matching k [] = false
 some_matching k (x ∷ xs) = ((x.request == k) && matches x) || some_matching k xs
 
--- none came for it that may not be passed over
-abbrev pub none_came : (past : Ledger) → Timers → (here : Ledger) → Here → Earlier → List Coming → (k : ℕ) → Bool
-none_came l t l' o e xs k = not (is_marked k e.arrivals.came) && (excused_in l'.frames.brought l'.books.requests.clock l t l' o || not (some_matching k xs))
+-- none came for it that may not be passed over, where those of the row may or not
+abbrev pub none_of : (excused : Bool) → Earlier → List Coming → (k : ℕ) → Bool
+none_of b e xs k = not (is_marked k e.arrivals.came) && (b || not (some_matching k xs))
+
+abbrev pub none_came : (c : Conf) (past : Ledger) → Timers → (here : Ledger) → Here → Earlier → List Coming → (k : ℕ) → Bool
+none_came c l t l' o e xs k = none_of (excused_in c l'.frames.brought l'.books.requests.clock l t l' o) e xs k
 
 -- how an answer is found: a server's error that is deferred may be given only when all is done and nothing came
 pub record IsOwn (c : Conf) (s : Settings) (l : Ledger) (t : Timers) (heard : Heards) (l' : Ledger) (o : Here) (e : Earlier) (sent : Open) (x : Exchanged) (w : What) (xs : List Coming) (k : ℕ) (error : Error) (b : Bool) : Type 0 where
@@ -43,11 +46,11 @@ pub record IsOwn (c : Conf) (s : Settings) (l : Ledger) (t : Timers) (heard : He
   pub done : Bool
   pub is_direct : TellsDirect c s l.books heard l'.books e w xs k error direct
   pub is_done : TellsDone c k w l.books l' sent x done
-  pub is : b ≡ (direct && (not (is_of_server error && s.defers_errors) || (done && none_came l t l' o e xs k)))
+  pub is : b ≡ (direct && (not (is_of_server error && s.defers_errors) || (done && none_came c l t l' o e xs k)))
 
 -- the answer, of every two histories that the tables know, the first before the row of the second, where all that came for the request in the row is among these
 abbrev pub TellsOwn : Conf → Settings → (past : Ledger) → Timers → Heards → (here : Ledger) → Here → Earlier → Open → Exchanged → What → List Coming → (k : ℕ) → Error → Bool → Type 0
 TellsOwn c s l t heard l' o e sent ex w xs k error b =
-    (want : Option ℕ) (x h : History) → row_before h ≡ x → newest h ≡ w → ledger.Known x l → timers.Known x t → heards.Known c x heard → earlier.Known c s x e
-    → ledger.Known h l' → here_outs.Known l.books.places h o → open_sends.Known h sent → exchanged.Known h ex → is_wanted want k ≡ true → AllComing c want x h xs
+    (want : Option ℕ) (x h : History) → row_before h ≡ x → newest h ≡ w → ledger.Known x l → timers.Known c x t → heards.Known c x heard → earlier.Known c s x e
+    → ledger.Known h l' → here_outs.Known l.books.places h o → open_sends.Known c h sent → exchanged.Known c h ex → is_wanted want k ≡ true → AllComing c want x h xs
     → Tells (OwnCause c s error k x w h) b

@@ -6,7 +6,6 @@ ghost use Rattle.trace_deferred.specs.Own as plain;
 
 use client_request::{Error, What};
 use dns_base::NoMemory;
-use std::alloc::Global;
 use trace_due::Timers;
 use trace_errors::{Earlier, direct_cause, is_excused, matches};
 use trace_exchanges::{Coming, Open};
@@ -50,24 +49,14 @@ fn some_matching(request: u64, comings: &[Coming]) -> bool
     false
 }
 
-/// Whether no message came for a request that may not be passed over.
-fn none_came(
-    past: &Ledger,
-    timers: &Timers,
-    here: &Ledger,
-    outs: &Here,
-    earlier: &Earlier,
-    comings: &[Coming],
-    request: u64,
-) -> bool
-    ensures { result ≡ plain.none_came past.now timers.now here.now outs.now earlier.now comings.now request }
+/// Whether no message came for a request that may not be passed over, where it is known whether those of this row may.
+fn none_came(excused: bool, earlier: &Earlier, comings: &[Coming], request: u64) -> bool
+    ensures { result ≡ plain.none_of excused earlier.now comings.now request }
 {
-    !earlier.arrivals.came.contains_key(request)
-        && (is_excused(past, timers, here, outs) || !some_matching(request, comings))
+    !earlier.arrivals.came.contains_key(request) && (excused || !some_matching(request, comings))
 }
 
 fn find_own(
-    alloc: Global,
     conf: &TraceConf,
     settings: &TraceSettings,
     past: &Ledger,
@@ -87,7 +76,6 @@ fn find_own(
 {
     let books = &past.books;
     let direct = direct_cause(
-        alloc,
         conf,
         settings,
         books,
@@ -99,8 +87,9 @@ fn find_own(
         request,
         error,
     )?;
-    let done = are_all_done(alloc, conf, books, here, sends, exchanged, what, request)?;
-    let none = none_came(past, timers, here, outs, earlier, comings, request);
+    let done = are_all_done(conf, books, here, sends, exchanged, what, request)?;
+    let excused = is_excused(conf, past, timers, here, outs);
+    let none = none_came(excused, earlier, comings, request);
     Ok(is_own(direct, is_deferred(error, settings), done, none))
 }
 
@@ -109,7 +98,6 @@ fn find_own(
 /// are what was known before the row; `here`, `sends` and `exchanged` are what is known where the error is given, `outs` is what
 /// the row's outs made of places by there, and `comings` all that came for the request by there.
 pub fn own_cause(
-    alloc: Global,
     conf: &TraceConf,
     settings: &TraceSettings,
     past: &Ledger,
@@ -128,7 +116,7 @@ pub fn own_cause(
     ensures { IfOk result (plain.TellsOwn conf.now settings.now past.now timers.now heard.now here.now outs.now earlier.now sends.now exchanged.now what.now comings.now request error) }
 {
     find_own(
-        alloc, conf, settings, past, timers, heard, here, outs, earlier, sends, exchanged, what,
-        comings, request, error,
+        conf, settings, past, timers, heard, here, outs, earlier, sends, exchanged, what, comings,
+        request, error,
     )
 }

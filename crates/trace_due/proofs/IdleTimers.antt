@@ -4,8 +4,8 @@ use Rattle.std.specs.Prelude.{is_some}
 use Rattle.std.proofs.lemmas.Bool.Decides.{nat_tests}
 use Rattle.number_table.specs.Entries.{puts, entry_at}
 use Rattle.dns_base.specs.Header.{id_of}
-use Rattle.right_trace.specs.Trace.{History, Came, Put}
-use Rattle.right_trace.specs.Time.{now}
+use Rattle.right_trace.specs.Trace.{History, Came, Put, Conf}
+use Rattle.right_trace.specs.Time.{now, idle_timeout}
 use Rattle.right_trace.specs.Messages.{Octets, keepalive_of}
 use Rattle.right_trace.specs.Places.{Alive, is_alive}
 use Rattle.right_trace.specs.Frames.{is_bad, came_here, has_frame}
@@ -59,11 +59,11 @@ frames_tell [] n = refl
 frames_tell (m ∷ ms) n = ap (last_keepalive ms) (frame_tells m n) ∙ frames_tell ms (or_before (told_in m) n)
 
 -- some of the newest row's frames count
-counted_tell : (ms later : List Octets) (p : ℕ) (h : History) → came_here p h ≡ ms ++ later → idle_with ms p h ≡ last_keepalive ms (idle_with [] p h)
-counted_tell [] later p h e = refl
-counted_tell (m ∷ ms) later p [] e = absurd (cc)
-counted_tell (m ∷ ms) later p (Came e ∷ h) c = refl
-counted_tell (m ∷ ms) later p (Put o ∷ h) e = counted_tell (m ∷ ms) later p h e
+counted_tell : (conf : Conf) (ms later : List Octets) (p : ℕ) (h : History) → came_here p h ≡ ms ++ later → idle_with conf ms p h ≡ last_keepalive ms (idle_with conf [] p h)
+counted_tell conf [] later p h e = refl
+counted_tell conf (m ∷ ms) later p [] e = absurd (cc)
+counted_tell conf (m ∷ ms) later p (Came e ∷ h) c = refl
+counted_tell conf (m ∷ ms) later p (Put o ∷ h) e = counted_tell conf (m ∷ ms) later p h e
 
 -- entries that are free
 
@@ -181,32 +181,32 @@ order true false = refl
 order false true = refl
 order false false = refl
 
-module _ (p : ℕ) (l : Ledger) (t : Timers) (h : History) (kl : ledger.Known h l) (kt : timers.Known h t) where
+module _ (conf : Conf) (p : ℕ) (l : Ledger) (t : Timers) (h : History) (kl : ledger.Known h l) (kt : timers.Known conf h t) where
   walk : Bool
-  walk = idle_walk [] (listed p l.waiting) (quiet_seen p t.quiet) (idle_seen p t.idle) l.books.requests.clock (frames_of p l.frames.brought)
+  walk = idle_walk [] (listed p l.waiting) (quiet_seen p t.quiet) (idle_seen (idle_timeout conf) p t.idle) l.books.requests.clock (frames_of p l.frames.brought)
 
   quiet_is : (c : List Octets) → (if has_frame c then l.books.requests.clock else quiet_seen p t.quiet) ≡ quiet_with c p h
   quiet_is c = quieting.goes_on.counts h l.books.requests.clock t.quiet c p kl.books.requests.time kt.quiets
 
-  idle_is : (c later : List Octets) → came_here p h ≡ c ++ later → last_told c (idle_seen p t.idle) ≡ idle_with c p h
-  idle_is c later e = sym (frames_tell c (idle_seen p t.idle)) ∙ (ap (last_keepalive c) (kt.idles.times p) ∙ sym (counted_tell c later p h e))
+  idle_is : (c later : List Octets) → came_here p h ≡ c ++ later → last_told c (idle_seen (idle_timeout conf) p t.idle) ≡ idle_with conf c p h
+  idle_is c later e = sym (frames_tell c (idle_seen (idle_timeout conf) p t.idle)) ∙ (ap (last_keepalive c) (kt.idles.times p) ∙ sym (counted_tell conf c later p h e))
 
   -- no id is held
   unheld_so : (c : List Octets) (id : ℕ) → (is_empty (listed id (listed p l.waiting)) || (brings_seen id c || false)) ≡ not (is_any (waiting_with c p id h))
   unheld_so c id = order (is_empty (listed id (listed p l.waiting))) (brings_seen id c) ∙ unheld_is h l.waiting kl.waiting c p id
 
-  passed_so : (c later : List Octets) → came_here p h ≡ c ++ later → (if has_frame c then l.books.requests.clock else quiet_seen p t.quiet) + last_told c (idle_seen p t.idle) ≤ l.books.requests.clock → quiet_with c p h + idle_with c p h ≤ now h
-  passed_so c later e le = subst (λ n. quiet_with c p h + idle_with c p h ≤ n) kl.books.requests.time
-      (subst (λ i. quiet_with c p h + i ≤ l.books.requests.clock) (idle_is c later e) (subst (λ q. q + last_told c (idle_seen p t.idle) ≤ l.books.requests.clock) (quiet_is c) le))
+  passed_so : (c later : List Octets) → came_here p h ≡ c ++ later → (if has_frame c then l.books.requests.clock else quiet_seen p t.quiet) + last_told c (idle_seen (idle_timeout conf) p t.idle) ≤ l.books.requests.clock → quiet_with c p h + idle_with conf c p h ≤ now h
+  passed_so c later e le = subst (λ n. quiet_with c p h + idle_with conf c p h ≤ n) kl.books.requests.time
+      (subst (λ i. quiet_with c p h + i ≤ l.books.requests.clock) (idle_is c later e) (subst (λ q. q + last_told c (idle_seen (idle_timeout conf) p t.idle) ≤ l.books.requests.clock) (quiet_is c) le))
 
-  so_passed : (c later : List Octets) → came_here p h ≡ c ++ later → quiet_with c p h + idle_with c p h ≤ now h → (if has_frame c then l.books.requests.clock else quiet_seen p t.quiet) + last_told c (idle_seen p t.idle) ≤ l.books.requests.clock
-  so_passed c later e le = subst (λ q. q + last_told c (idle_seen p t.idle) ≤ l.books.requests.clock) (sym (quiet_is c))
-      (subst (λ i. quiet_with c p h + i ≤ l.books.requests.clock) (sym (idle_is c later e)) (subst (λ n. quiet_with c p h + idle_with c p h ≤ n) (sym kl.books.requests.time) le))
+  so_passed : (c later : List Octets) → came_here p h ≡ c ++ later → quiet_with c p h + idle_with conf c p h ≤ now h → (if has_frame c then l.books.requests.clock else quiet_seen p t.quiet) + last_told c (idle_seen (idle_timeout conf) p t.idle) ≤ l.books.requests.clock
+  so_passed c later e le = subst (λ q. q + last_told c (idle_seen (idle_timeout conf) p t.idle) ≤ l.books.requests.clock) (sym (quiet_is c))
+      (subst (λ i. quiet_with c p h + i ≤ l.books.requests.clock) (sym (idle_is c later e)) (subst (λ n. quiet_with c p h + idle_with conf c p h ≤ n) (sym kl.books.requests.time) le))
 
-  due_so : (x : Place) → entry_at p l.books.places ≡ Some x → is_alive (stand_of x.stand) ≡ true → walk ≡ true → IdleTimerIsDue p h
+  due_so : (x : Place) → entry_at p l.books.places ≡ Some x → is_alive (stand_of x.stand) ≡ true → walk ≡ true → IdleTimerIsDue conf p h
   unfolding walk
   due_so x at live w =
-      let r = walk_so [] (listed p l.waiting) (quiet_seen p t.quiet) (idle_seen p t.idle) l.books.requests.clock (frames_of p l.frames.brought) w in
+      let r = walk_so [] (listed p l.waiting) (quiet_seen p t.quiet) (idle_seen (idle_timeout conf) p t.idle) l.books.requests.clock (frames_of p l.frames.brought) w in
       let came : came_here p h ≡ r.counted ++ r.later = sym (kl.frames.here p) ∙ r.are in
       record {
         counted = r.counted;
@@ -217,23 +217,23 @@ module _ (p : ℕ) (l : Ledger) (t : Timers) (h : History) (kl : ledger.Known h 
         passed = passed_so r.counted r.later came r.passed;
       }
 
-  so_due : (x : Place) → entry_at p l.books.places ≡ Some x → IdleTimerIsDue p h → (is_alive (stand_of x.stand) && walk) ≡ true
+  so_due : (x : Place) → entry_at p l.books.places ≡ Some x → IdleTimerIsDue conf p h → (is_alive (stand_of x.stand) && walk) ≡ true
   unfolding walk
   so_due x at d =
       all (is_alive (stand_of x.stand)) _ (ap is_alive (sym (ap stand_seen at) ∙ (kl.books.places.stands p ∙ d.alive)))
-      (ap (idle_walk [] (listed p l.waiting) (quiet_seen p t.quiet) (idle_seen p t.idle) l.books.requests.clock) (kl.frames.here p ∙ d.came)
-      ∙ so_walk [] (listed p l.waiting) (quiet_seen p t.quiet) (idle_seen p t.idle) l.books.requests.clock d.counted d.later
+      (ap (idle_walk [] (listed p l.waiting) (quiet_seen p t.quiet) (idle_seen (idle_timeout conf) p t.idle) l.books.requests.clock) (kl.frames.here p ∙ d.came)
+      ∙ so_walk [] (listed p l.waiting) (quiet_seen p t.quiet) (idle_seen (idle_timeout conf) p t.idle) l.books.requests.clock d.counted d.later
       (λ id. unheld_so d.counted id ∙ ap (λ ws. not (is_any ws)) (d.unheld id)) (so_passed d.counted d.later d.came d.passed))
 
-  idle_so : (o : Option Place) → entry_at p l.books.places ≡ o → idle_due_at p o l t ≡ true → IdleTimerIsDue p h
+  idle_so : (o : Option Place) → entry_at p l.books.places ≡ o → idle_due_at conf p o l t ≡ true → IdleTimerIsDue conf p h
   unfolding walk
   idle_so None e d = absurd (cc)
   idle_so (Some x) e d = let q = both (is_alive (stand_of x.stand)) _ d in due_so x e q.0 q.1
 
-  so_idle : (o : Option Place) → entry_at p l.books.places ≡ o → IdleTimerIsDue p h → idle_due_at p o l t ≡ true
+  so_idle : (o : Option Place) → entry_at p l.books.places ≡ o → IdleTimerIsDue conf p h → idle_due_at conf p o l t ≡ true
   unfolding walk
   so_idle None e d = absurd (let z = sym (ap stand_seen e) ∙ (kl.books.places.stands p ∙ d.alive) in cc)
   so_idle (Some x) e d = so_due x e d
 
-pub tells_idle_timer : (p : ℕ) (l : Ledger) (t : Timers) (b : Bool) → b ≡ idle_due p l t → TellsIdleTimer p l t b
-tells_idle_timer p l t b e h kl kt = ((λ u. idle_so p l t h kl kt (entry_at p l.books.places) refl (sym e ∙ u)), (λ d. e ∙ so_idle p l t h kl kt (entry_at p l.books.places) refl d))
+pub tells_idle_timer : (conf : Conf) (p : ℕ) (l : Ledger) (t : Timers) (b : Bool) → b ≡ idle_due conf p l t → TellsIdleTimer conf p l t b
+tells_idle_timer conf p l t b e h kl kt = ((λ u. idle_so conf p l t h kl kt (entry_at p l.books.places) refl (sym e ∙ u)), (λ d. e ∙ so_idle conf p l t h kl kt (entry_at p l.books.places) refl d))

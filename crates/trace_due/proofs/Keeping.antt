@@ -8,7 +8,7 @@ use Rattle.client_request.specs.declared.event.Out.{Out}
 use Rattle.client_request.specs.declared.event.Out.TheVariants.{Start, OpenDgram, OpenStream, Send, Write, Resume, Close, Stale, Reply}
 use Rattle.client_request.specs.declared.event.Via.{Via}
 use Rattle.client_request.specs.declared.event.Via.TheVariants.{Dgram, Stream}
-use Rattle.right_trace.specs.Trace.{History, Came, Put}
+use Rattle.right_trace.specs.Trace.{History, Came, Put, Conf}
 use Rattle.right_trace.specs.Time.{now, newest}
 use Rattle.right_trace.specs.Messages.{is_valid}
 use Rattle.right_trace.specs.Requests.{Asking, asking, same_via, start, started}
@@ -54,8 +54,8 @@ loose_met (Some b) t w l p = go (has_frame b.frames) refl (b.place == p) refl
     go false i true e = sym (ap (λ f. if f then loose_end b.frames p t w else loose_seen p l) i)
     go false i false e = refl
 
-loose_event : (h : History) (l : Ledger) (t : Timers) (e : Event) → ledger.Known h l → timers.Known h t → (p : ℕ) → loose_seen p (met l.frames.brought l.waiting t.writing t.loose) ≡ ended_loose p (Came e ∷ h)
-loose_event h l t e kl kt p =
+loose_event : (c : Conf) (h : History) (l : Ledger) (t : Timers) (e : Event) → ledger.Known h l → timers.Known c h t → (p : ℕ) → loose_seen p (met l.frames.brought l.waiting t.writing t.loose) ≡ ended_loose p (Came e ∷ h)
+loose_event c h l t e kl kt p =
     loose_met l.frames.brought l.waiting t.writing t.loose p
     ∙ (ap (λ ms. if has_frame ms then loose_end ms p l.waiting t.writing else loose_seen p t.loose) (kl.frames.here p)
     ∙ ap₂ (λ a b. if has_frame (came_here p h) then a else b) (loose_is h l.waiting kl.waiting t.writing kt.writes (came_here p h) p) (kt.looses.ended p))
@@ -180,20 +180,20 @@ invalid_out h askings t (Close p) at is = quiet_out h t (Close p) is (λ j r v. 
 invalid_out h askings t (Stale k) at is = quiet_out h t (Stale k) is (λ j r v. refl)
 invalid_out h askings t (Reply k x) at is = quiet_out h t (Reply k x) is (λ j r v. refl)
 
-event : (h : History) (l : Ledger) (t : Timers) (e : Event) → AskedFirst h → ledger.Known h l → timers.Known h t → timers.Known (Came e ∷ h) (timers.met e l t)
-event h l t e first kl kt = record {
+event : (c : Conf) (h : History) (l : Ledger) (t : Timers) (e : Event) → AskedFirst h → ledger.Known h l → timers.Known c h t → timers.Known c (Came e ∷ h) (timers.met c e l t)
+event c h l t e first kl kt = record {
   writes = leaving.goes_on.event h t.writing e kt.writes;
   quiets = quieting.goes_on.event h l.books.places l.frames l.books.requests.clock t.quiet e kl.books.places kl.frames kl.books.requests.time kt.quiets;
-  idles = telling.goes_on.event h l.frames t.idle e kl.frames kt.idles;
-  looses = record { ended = loose_event h l t e kl kt };
+  idles = (telling.goes_on c).event h l.frames t.idle e kl.frames kt.idles;
+  looses = record { ended = loose_event c h l t e kl kt };
   invalids = invalid_event h t.invalid e first kt.invalids;
 }
 
-out : (h : History) (l : Ledger) (t : Timers) (o : Out) → ledger.Known h l → timers.Known h t → timers.Known (Put o ∷ h) (timers.has_put (newest h) o l t)
-out h l t o kl kt = record {
+out : (c : Conf) (h : History) (l : Ledger) (t : Timers) (o : Out) → ledger.Known h l → timers.Known c h t → timers.Known c (Put o ∷ h) (timers.has_put (newest h) o l t)
+out c h l t o kl kt = record {
   writes = leaving.goes_on.out h t.writing o kt.writes;
   quiets = quieting.goes_on.out h l.books.places l.books.requests.clock t.quiet o kl.books.places kl.books.requests.time kt.quiets;
-  idles = telling.goes_on.out h t.idle o kt.idles;
+  idles = (telling.goes_on c).out h t.idle o kt.idles;
   looses = record { ended = λ p. kt.looses.ended p };
   invalids = invalid_out h l.books.requests.askings t.invalid o kl.books.requests.askings kt.invalids;
 }
@@ -202,15 +202,15 @@ none_invalid : (v : Via) (s : ℕ) → invalid_seen v s invalid.nothing ≡ true
 none_invalid Dgram s e = cc
 none_invalid Stream s e = cc
 
-pub goes_on : GoesOn
-goes_on = record {
+pub goes_on : (c : Conf) → GoesOn c
+goes_on c = record {
   begins = record {
     writes = leaving.goes_on.begins;
     quiets = quieting.goes_on.begins;
-    idles = telling.goes_on.begins;
+    idles = (telling.goes_on c).begins;
     looses = record { ended = λ p. refl };
     invalids = record { so = λ v s e. absurd (none_invalid v s e); back = λ v s x. absurd (let z : None ≡ Some x.asking_of = x.asked in cc) };
   };
-  event = event;
-  out = out;
+  event = event c;
+  out = out c;
 }

@@ -3,8 +3,8 @@ use Rattle.std.specs.Prelude.{[], ◌∷◌}
 use Rattle.client_request.specs.declared.event.Event.{Event}
 use Rattle.client_request.specs.declared.event.Out.{Out}
 use Rattle.client_request.specs.declared.event.What.{What}
-use Rattle.right_trace.specs.Trace.{History, Came, Put}
-use Rattle.right_trace.specs.Time.{newest}
+use Rattle.right_trace.specs.Trace.{History, Came, Put, Conf}
+use Rattle.right_trace.specs.Time.{newest, idle_timeout}
 use Rattle.trace_frames.specs.declared.ledger.Ledger.{Ledger}
 use Rattle.trace_frames.specs.Ledger as ledger
 use Rattle.trace_writes.specs.Writing as writing
@@ -19,11 +19,11 @@ abbrev pub nothing : Timers
 nothing = record { writing = writing.nothing; quiet = []; idle = []; loose = []; invalid = invalid.nothing }
 
 -- what an event makes of it, over the ledger as it was
-abbrev pub met : Event → Ledger → Timers → Timers
-met e l t = record {
+abbrev pub met : (c : Conf) → Event → Ledger → Timers → Timers
+met c e l t = record {
   writing = writing.takes_in e.what t.writing;
   quiet = quiet.met e l.books.places l.frames.brought l.books.requests.clock t.quiet;
-  idle = idle.met l.frames.brought t.idle;
+  idle = idle.met (idle_timeout c) l.frames.brought t.idle;
   loose = loose.met l.frames.brought l.waiting t.writing t.loose;
   invalid = t.invalid;
 }
@@ -39,15 +39,15 @@ has_put w o l t = record {
 }
 
 -- what is kept is what the definitions say
-pub record Known (h : History) (t : Timers) : Type 0 where
+pub record Known (c : Conf) (h : History) (t : Timers) : Type 0 where
   pub writes : writing.Known h t.writing
   pub quiets : quiet.Known h t.quiet
-  pub idles : idle.Known h t.idle
+  pub idles : idle.Known c h t.idle
   pub looses : loose.Known h t.loose
   pub invalids : invalid.Known h t.invalid
 
 -- it is known before the first row, and goes on over events and outs
-pub record GoesOn : Type 0 where
-  pub begins : Known [] nothing
-  pub event : (h : History) (l : Ledger) (t : Timers) (e : Event) → AskedFirst h → ledger.Known h l → Known h t → Known (Came e ∷ h) (met e l t)
-  pub out : (h : History) (l : Ledger) (t : Timers) (o : Out) → ledger.Known h l → Known h t → Known (Put o ∷ h) (has_put (newest h) o l t)
+pub record GoesOn (c : Conf) : Type 0 where
+  pub begins : Known c [] nothing
+  pub event : (h : History) (l : Ledger) (t : Timers) (e : Event) → AskedFirst h → ledger.Known h l → Known c h t → Known c (Came e ∷ h) (met c e l t)
+  pub out : (h : History) (l : Ledger) (t : Timers) (o : Out) → ledger.Known h l → Known c h t → Known c (Put o ∷ h) (has_put (newest h) o l t)

@@ -10,20 +10,21 @@ ghost use Rattle.trace_due.specs.Due as plain;
 use crate::loose::{brings, ends_loose, frames_at, id_of};
 use crate::timers::Timers;
 use client_request::Via;
-use dns_base::{NoMemory, Octets};
+use dns_base::{Duration, NoMemory, Octets};
 use number_table::NumberTable;
 use std::alloc::Global;
 use trace_frames::{AtPlace, Ledger, Waiting, Written};
 use trace_idle::{idle_of, told_in};
+use trace_questions::TraceConf;
 use trace_tables::{Newest, Place, Stand};
 use trace_timers::quiet_since;
 
-/// Whether something was written more than 19 seconds before a moment.
-fn has_old(writes: &Newest<Written>, moment: u64) -> bool
-    ensures { result ≡ plain.has_old moment writes.now }
+/// Whether something was written longer before a moment than a frame is waited for.
+fn has_old(conf: &TraceConf, writes: &Newest<Written>, moment: u64) -> bool
+    ensures { result ≡ plain.has_old conf.now moment writes.now }
 {
     for written in writes {
-        if u128::from(written.moment) + 19_000_000 < u128::from(moment) {
+        if u128::from(written.moment) + conf.response_timeout().as_micros() < u128::from(moment) {
             return true;
         }
     }
@@ -31,21 +32,21 @@ fn has_old(writes: &Newest<Written>, moment: u64) -> bool
 }
 
 /// Whether what waits under an id is so old, and no frame has the id.
-fn is_late_id(at: &AtPlace, moment: u64, frames: &[Octets], id: u64) -> bool
-    ensures { result ≡ plain.is_late_id moment frames.now at.now id }
+fn is_late_id(conf: &TraceConf, at: &AtPlace, moment: u64, frames: &[Octets], id: u64) -> bool
+    ensures { result ≡ plain.is_late_id conf.now moment frames.now at.now id }
 {
     match at.get(id) {
         None => false,
-        Some(writes) => has_old(writes, moment) && !brings(id, frames),
+        Some(writes) => has_old(conf, writes, moment) && !brings(id, frames),
     }
 }
 
 /// Whether it is so under some id.
-fn has_late(at: &AtPlace, moment: u64, frames: &[Octets]) -> bool
-    ensures { result ≡ plain.has_late moment frames.now at.now at.now }
+fn has_late(conf: &TraceConf, at: &AtPlace, moment: u64, frames: &[Octets]) -> bool
+    ensures { result ≡ plain.has_late conf.now moment frames.now at.now at.now }
 {
     for (id, _) in at {
-        if is_late_id(at, moment, frames, id) {
+        if is_late_id(conf, at, moment, frames, id) {
             return true;
         }
     }
@@ -53,12 +54,18 @@ fn has_late(at: &AtPlace, moment: u64, frames: &[Octets]) -> bool
 }
 
 /// Whether something at a place waits so long.
-fn has_late_at(waiting: &Waiting, place: u64, moment: u64, frames: &[Octets]) -> bool
-    ensures { result ≡ plain.has_late moment frames.now (listed place waiting.now) (listed place waiting.now) }
+fn has_late_at(
+    conf: &TraceConf,
+    waiting: &Waiting,
+    place: u64,
+    moment: u64,
+    frames: &[Octets],
+) -> bool
+    ensures { result ≡ plain.has_late conf.now moment frames.now (listed place waiting.now) (listed place waiting.now) }
 {
     match waiting.get(place) {
         None => false,
-        Some(at) => has_late(at, moment, frames),
+        Some(at) => has_late(conf, at, moment, frames),
     }
 }
 
@@ -70,8 +77,8 @@ fn is_invalid_at(place: &Place, timers: &Timers) -> bool
 }
 
 /// Whether the read timer of a place is due at a moment, as what is kept says it.
-fn is_read_due(ledger: &Ledger, timers: &Timers, number: u64, moment: u64) -> bool
-    ensures { result ≡ plain.read_due number moment ledger.now timers.now }
+fn is_read_due(conf: &TraceConf, ledger: &Ledger, timers: &Timers, number: u64, moment: u64) -> bool
+    ensures { result ≡ plain.read_due conf.now number moment ledger.now timers.now }
 {
     let Some(place) = ledger.books.places.get(number) else {
         return false;
@@ -81,20 +88,26 @@ fn is_read_due(ledger: &Ledger, timers: &Timers, number: u64, moment: u64) -> bo
     }
     let frames = frames_at(&ledger.frames.brought, number);
     let since = quiet_since(&timers.quiet, number, frames, ledger.books.requests.clock);
-    if u128::from(since) + 19_000_000 >= u128::from(moment) {
+    if u128::from(since) + conf.response_timeout().as_micros() >= u128::from(moment) {
         return false;
     }
-    has_late_at(&ledger.waiting, number, moment, frames)
+    has_late_at(conf, &ledger.waiting, number, moment, frames)
         || ends_loose(&timers.loose, number, ledger, &timers.writing)
         || is_invalid_at(place, timers)
 }
 
 /// Whether the read timer of a stream place is due at a moment, by what is known.
-pub fn is_read_timer_due(ledger: &Ledger, timers: &Timers, place: u64, moment: u64) -> bool
-    ensures value { result ≡ plain.read_due place moment ledger.now timers.now }
-    ensures told { plain.TellsReadTimer place moment ledger.now timers.now result }
+pub fn is_read_timer_due(
+    conf: &TraceConf,
+    ledger: &Ledger,
+    timers: &Timers,
+    place: u64,
+    moment: u64,
+) -> bool
+    ensures value { result ≡ plain.read_due conf.now place moment ledger.now timers.now }
+    ensures told { plain.TellsReadTimer conf.now place moment ledger.now timers.now result }
 {
-    is_read_due(ledger, timers, place, moment)
+    is_read_due(conf, ledger, timers, place, moment)
 }
 
 /// Whether nothing waits but under ids that were freed.
@@ -143,10 +156,10 @@ fn free(freed: &mut NumberTable<()>, frame: &[u8]) -> Result<(), NoMemory>
 }
 
 /// Whether a sum is at most a moment.
-fn has_passed(quiet: u64, idle: u64, now: u64) -> bool
+fn has_passed(quiet: u64, idle: Duration, now: u64) -> bool
     ensures { result ≡ nat_le (quiet + idle) now }
 {
-    u128::from(quiet) + u128::from(idle) <= u128::from(now)
+    u128::from(quiet) + idle.as_micros() <= u128::from(now)
 }
 
 /// Whether a place is idle for long enough at once, or behind some of these frames.
@@ -155,7 +168,7 @@ fn is_due_behind(
     waiting: &Waiting,
     place: u64,
     quiet: u64,
-    idle: u64,
+    idle: Duration,
     now: u64,
     frames: &[Octets],
 ) -> Result<bool, NoMemory>
@@ -170,7 +183,7 @@ fn is_due_behind(
         }
         free(&mut freed, frame.as_slice())?;
         if let Some(told) = told_in(frame)? {
-            idle = told;
+            idle = Duration::from_micros(told);
         }
         quiet = now;
     }
@@ -185,12 +198,13 @@ fn quiet_of(timers: &Timers, place: u64) -> u64
 }
 
 fn is_idle_due(
+    conf: &TraceConf,
     alloc: Global,
     ledger: &Ledger,
     timers: &Timers,
     number: u64,
 ) -> Result<bool, NoMemory>
-    ensures { IfOk result (λ due. due ≡ plain.idle_due number ledger.now timers.now) }
+    ensures { IfOk result (λ due. due ≡ plain.idle_due conf.now number ledger.now timers.now) }
 {
     let Some(place) = ledger.books.places.get(number) else {
         return Ok(false);
@@ -200,7 +214,7 @@ fn is_idle_due(
     }
     let frames = frames_at(&ledger.frames.brought, number);
     let quiet = quiet_of(timers, number);
-    let idle = idle_of(&timers.idle, number);
+    let idle = idle_of(conf.idle_timeout(), &timers.idle, number);
     let now = ledger.books.requests.clock;
     is_due_behind(alloc, &ledger.waiting, number, quiet, idle, now, frames)
 }
@@ -208,12 +222,13 @@ fn is_idle_due(
 /// Whether the idle timer of a stream place is due in the newest row, by what is known here: before the row's event, or behind
 /// some of the frames that it brought.
 pub fn is_idle_timer_due(
+    conf: &TraceConf,
     alloc: Global,
     ledger: &Ledger,
     timers: &Timers,
     place: u64,
 ) -> Result<bool, NoMemory>
-    ensures { IfOk result (plain.TellsIdleTimer place ledger.now timers.now) }
+    ensures { IfOk result (plain.TellsIdleTimer conf.now place ledger.now timers.now) }
 {
-    is_idle_due(alloc, ledger, timers, place)
+    is_idle_due(conf, alloc, ledger, timers, place)
 }

@@ -11,6 +11,7 @@ use number_table::NumberTable;
 use std::alloc::Global;
 use trace_frames::Ledger;
 use trace_idle::{Idle, meet_idle};
+use trace_questions::TraceConf;
 use trace_timers::{Quiet, meet_quiet, put_quiet};
 use trace_writes::Writing;
 
@@ -55,12 +56,12 @@ impl Timers {
     }
 
     /// An event comes, over the ledger as it was.
-    pub fn meet(&mut self, ledger: &Ledger, event: &Event) -> Result<(), NoMemory>
-        ensures { OnOk result (self.new ≡ plain.met event.now ledger.now self.old) }
+    pub fn meet(&mut self, conf: &TraceConf, ledger: &Ledger, event: &Event) -> Result<(), NoMemory>
+        ensures { OnOk result (self.new ≡ plain.met conf.now event.now ledger.now self.old) }
     {
         let brought = &ledger.frames.brought;
         meet_loose(&mut self.loose, brought, &ledger.waiting, &self.writing)?;
-        meet_idle(&mut self.idle, brought)?;
+        meet_idle(conf.idle_timeout(), &mut self.idle, brought)?;
         let clock = ledger.books.requests.clock;
         meet_quiet(&mut self.quiet, &ledger.books.places, brought, clock, event)?;
         self.writing.meet(&event.what)

@@ -157,34 +157,34 @@ module _ (c : Conf) (want : Option ℕ) (past h : History) (xs : List Coming) (c
         (z, there, refl, refl, all (matches z) (lacks_validity s m (entry_at k askings)) (matches_is d.request d.via d.server d.place k d.id m d.matches) l)
 
   -- what may be passed over
-  module _ (l l' : Ledger) (t : Timers) (o : Here) (before : row_before h ≡ past) (kl : ledger.Known past l) (kl' : ledger.Known h l') (kt : timers.Known past t) (ko : here_outs.Known l.books.places h o) where
-    due : (p : ℕ) → (read_due p l'.books.requests.clock l t ≡ true → ReadTimerIsDue p (now h) past) × (ReadTimerIsDue p (now h) past → read_due p l'.books.requests.clock l t ≡ true)
-    due p = subst (λ n. (read_due p l'.books.requests.clock l t ≡ true → ReadTimerIsDue p n past) × (ReadTimerIsDue p n past → read_due p l'.books.requests.clock l t ≡ true)) kl'.books.requests.time
-        (tells_read_timer p l'.books.requests.clock l t (read_due p l'.books.requests.clock l t) refl past kl kt)
+  module _ (l l' : Ledger) (t : Timers) (o : Here) (before : row_before h ≡ past) (kl : ledger.Known past l) (kl' : ledger.Known h l') (kt : timers.Known c past t) (ko : here_outs.Known l.books.places h o) where
+    due : (p : ℕ) → (read_due c p l'.books.requests.clock l t ≡ true → ReadTimerIsDue c p (now h) past) × (ReadTimerIsDue c p (now h) past → read_due c p l'.books.requests.clock l t ≡ true)
+    due p = subst (λ n. (read_due c p l'.books.requests.clock l t ≡ true → ReadTimerIsDue c p n past) × (ReadTimerIsDue c p n past → read_due c p l'.books.requests.clock l t ≡ true)) kl'.books.requests.time
+        (tells_read_timer c p l'.books.requests.clock l t (read_due c p l'.books.requests.clock l t) refl past kl kt)
 
     excused : Bool
-    excused = excused_in l'.frames.brought l'.books.requests.clock l t l' o
+    excused = excused_in c l'.frames.brought l'.books.requests.clock l t l' o
 
-    excused_at : (p id : ℕ) (v : Via) (m : Octets) → first_of v id (came p (newest h) past) ≡ Some m → excused ≡ (is_passed_over p l'.books.requests.clock l t o && is_of_kind Stream (site p h))
+    excused_at : (p id : ℕ) (v : Via) (m : Octets) → first_of c v id (came p (newest h) past) ≡ Some m → excused ≡ (is_passed_over c p l'.books.requests.clock l t o && is_of_kind Stream (site p h))
     unfolding excused
     excused_at p id v m first =
-        let b = brought_to l' h p id v m past kl' before first in
-        ap (λ b. excused_in b l'.books.requests.clock l t l' o) b.1
-        ∙ (ap (λ p. is_passed_over p l'.books.requests.clock l t o && is_stream (entry_at p l'.books.places)) b.2
-        ∙ ap (λ b. is_passed_over p l'.books.requests.clock l t o && b) (stream_is (entry_at p l'.books.places) ∙ ap (is_of_kind Stream) (kl'.books.places.sites p)))
+        let b = brought_to c l' h p id v m past kl' before first in
+        ap (λ b. excused_in c b l'.books.requests.clock l t l' o) b.1
+        ∙ (ap (λ p. is_passed_over c p l'.books.requests.clock l t o && is_stream (entry_at p l'.books.places)) b.2
+        ∙ ap (λ b. is_passed_over c p l'.books.requests.clock l t o && b) (stream_is (entry_at p l'.books.places) ∙ ap (is_of_kind Stream) (kl'.books.places.sites p)))
 
-    excused_so : (p : ℕ) → (is_passed_over p l'.books.requests.clock l t o && is_of_kind Stream (site p h)) ≡ true → IsExcused p past (newest h) h
+    excused_so : (p : ℕ) → (is_passed_over c p l'.books.requests.clock l t o && is_of_kind Stream (site p h)) ≡ true → IsExcused c p past (newest h) h
     unfolding IsExcused
     excused_so p e =
-        let q = both (is_passed_over p l'.books.requests.clock l t o) (is_of_kind Stream (site p h)) e in
-        let r = both (closed_seen p o) (read_due p l'.books.requests.clock l t) q.0 in
+        let q = both (is_passed_over c p l'.books.requests.clock l t o) (is_of_kind Stream (site p h)) e in
+        let r = both (closed_seen p o) (read_due c p l'.books.requests.clock l t) q.0 in
         (sym (ko.closes p) ∙ r.0, (due p).0 r.1, q.1)
 
-    so_excused : (p : ℕ) → IsExcused p past (newest h) h → (is_passed_over p l'.books.requests.clock l t o && is_of_kind Stream (site p h)) ≡ true
+    so_excused : (p : ℕ) → IsExcused c p past (newest h) h → (is_passed_over c p l'.books.requests.clock l t o && is_of_kind Stream (site p h)) ≡ true
     unfolding IsExcused
-    so_excused p d = all (is_passed_over p l'.books.requests.clock l t o) (is_of_kind Stream (site p h)) (all (closed_seen p o) (read_due p l'.books.requests.clock l t) (ko.closes p ∙ d.0) ((due p).1 d.1)) d.2
+    so_excused p d = all (is_passed_over c p l'.books.requests.clock l t o) (is_of_kind Stream (site p h)) (all (closed_seen p o) (read_due c p l'.books.requests.clock l t) (ko.closes p ∙ d.0) ((due p).1 d.1)) d.2
 
-    pub came_so : (k : ℕ) → excused_in l'.frames.brought l'.books.requests.clock l t l' o ≡ false → Passing matches k xs → SomeCame c k past (newest h) h
+    pub came_so : (k : ℕ) → excused_in c l'.frames.brought l'.books.requests.clock l t l' o ≡ false → Passing matches k xs → SomeCame c k past (newest h) h
     unfolding excused
     came_so k non p =
         let z = p.coming in
@@ -195,7 +195,7 @@ module _ (c : Conf) (want : Option ℕ) (past h : History) (xs : List Coming) (c
           counts = λ x. (let y = excused_at z.place z.id z.via z.message d.1.comes.first ∙ so_excused z.place x in let w : true ≡ false = sym y ∙ non in cc);
         }
 
-    pub so_came : (k : ℕ) → is_wanted want k ≡ true → SomeCame c k past (newest h) h → (excused_in l'.frames.brought l'.books.requests.clock l t l' o ≡ false) × Passing matches k xs
+    pub so_came : (k : ℕ) → is_wanted want k ≡ true → SomeCame c k past (newest h) h → (excused_in c l'.frames.brought l'.books.requests.clock l t l' o ≡ false) × Passing matches k xs
     unfolding excused
     so_came k wanted d =
         let a = d.came in
@@ -208,7 +208,7 @@ module _ (c : Conf) (want : Option ℕ) (past h : History) (xs : List Coming) (c
 
 -- a row
 
-module _ (c : Conf) (s : Settings) (past : History) (row : Row) (l l' : Ledger) (t : Timers) (o : Here) (xs : List Coming) (a : Arrivals) (kl : ledger.Known past l) (kl' : ledger.Known (after row past) l') (kt : timers.Known past t) (ko : here_outs.Known l.books.places (after row past) o) (cs : AllComing c None past (after row past) xs) (ka : Known c s past a) where
+module _ (c : Conf) (s : Settings) (past : History) (row : Row) (l l' : Ledger) (t : Timers) (o : Here) (xs : List Coming) (a : Arrivals) (kl : ledger.Known past l) (kl' : ledger.Known (after row past) l') (kt : timers.Known c past t) (ko : here_outs.Known l.books.places (after row past) o) (cs : AllComing c None past (after row past) xs) (ka : Known c s past a) where
   abbrev Is : (k : ℕ) → History → Type 0
   Is k = OfRow (SomeCame c k)
 
@@ -221,7 +221,7 @@ module _ (c : Conf) (s : Settings) (past : History) (row : Row) (l l' : Ledger) 
   now_row : (k : ℕ) → Is k (after row past) → SomeCame c k past (newest (after row past)) (after row past)
   now_row k d = subst (λ x. SomeCame c k x (newest (after row past)) (after row past)) (before_row row past) d
 
-  came_row : (k : ℕ) (b : Bool) → excused_in l'.frames.brought l'.books.requests.clock l t l' o ≡ b → is_marked k (come b xs a.came) ≡ true → ByRow (Is k) (after row past)
+  came_row : (k : ℕ) (b : Bool) → excused_in c l'.frames.brought l'.books.requests.clock l t l' o ≡ b → is_marked k (come b xs a.came) ≡ true → ByRow (Is k) (after row past)
   came_row k true x e = row_later (Is k) row past (ka.came_so k e)
   came_row k false x e = go (all_new matches k xs a.came e)
     where
@@ -229,10 +229,10 @@ module _ (c : Conf) (s : Settings) (past : History) (row : Row) (l l' : Ledger) 
       go (inl e) = row_later (Is k) row past (ka.came_so k e)
       go (inr p) = inl (row_now k (came_so c None past (after row past) xs cs l l' t o (before_row row past) kl kl' kt ko k x p))
 
-  row_came : (k : ℕ) (b : Bool) → excused_in l'.frames.brought l'.books.requests.clock l t l' o ≡ b → ByRow (Is k) (after row past) → is_marked k (come b xs a.came) ≡ true
+  row_came : (k : ℕ) (b : Bool) → excused_in c l'.frames.brought l'.books.requests.clock l t l' o ≡ b → ByRow (Is k) (after row past) → is_marked k (come b xs a.came) ≡ true
   row_came k b x w = go b x (row_was (Is k) row past w)
     where
-      go : (b : Bool) → excused_in l'.frames.brought l'.books.requests.clock l t l' o ≡ b → Is k (after row past) ⊎ ByRow (Is k) past → is_marked k (come b xs a.came) ≡ true
+      go : (b : Bool) → excused_in c l'.frames.brought l'.books.requests.clock l t l' o ≡ b → Is k (after row past) ⊎ ByRow (Is k) past → is_marked k (come b xs a.came) ≡ true
       go true x (inr w) = ka.so_came k w
       go false x (inr w) = all_kept matches k xs a.came (ka.so_came k w)
       go true x (inl d) = absurd (let q = (so_came c None past (after row past) xs cs l l' t o (before_row row past) kl kl' kt ko k refl (now_row k d)).0 in let z : true ≡ false = sym x ∙ q in cc)
@@ -259,10 +259,10 @@ module _ (c : Conf) (s : Settings) (past : History) (row : Row) (l l' : Ledger) 
           let z = so_unkept c None past (after row past) xs cs s k l.books.requests.askings kl.books.requests.askings refl u.message d in
           all_marked (is_unkept_later s l.books.requests.askings) k xs a.unkept (record { coming = z.0; there = z.1; is_request = z.2; passes = all (is_deferred s z.0.message) (is_unkept s l.books.requests.askings z.0) (ap (is_deferred s) z.3 ∙ u.deferred) z.4 })
 
-  pub arrivals_row : Known c s (after row past) (after_row s l t l' o xs a)
+  pub arrivals_row : Known c s (after row past) (after_row c s l t l' o xs a)
   arrivals_row = record {
-    came_so = λ k e. came_row k (excused_in l'.frames.brought l'.books.requests.clock l t l' o) refl e;
-    so_came = λ k w. row_came k (excused_in l'.frames.brought l'.books.requests.clock l t l' o) refl w;
+    came_so = λ k e. came_row k (excused_in c l'.frames.brought l'.books.requests.clock l t l' o) refl e;
+    so_came = λ k w. row_came k (excused_in c l'.frames.brought l'.books.requests.clock l t l' o) refl w;
     unkept_so = unkept_row;
     so_unkept = row_unkept;
   }
@@ -270,7 +270,7 @@ module _ (c : Conf) (s : Settings) (past : History) (row : Row) (l l' : Ledger) 
 pub none_came : (c : Conf) (k : ℕ) → ByRow (OfRow (SomeCame c k)) [] → ⊥
 none_came c k (inl d) = (let e : None ≡ Some d.message = first_none d.came.via d.came.id d.message d.came.matches.comes.first in cc)
   where
-    first_none : (v : Via) (id : ℕ) (m : Octets) → first_of v id [] ≡ Some m → Path (Option Octets) None (Some m)
+    first_none : (v : Via) (id : ℕ) (m : Octets) → first_of c v id [] ≡ Some m → Path (Option Octets) None (Some m)
     first_none Dgram id m e = e
     first_none Stream id m e = e
 none_came c k (inr n) = n
@@ -278,7 +278,7 @@ none_came c k (inr n) = n
 pub none_unkept : (c : Conf) (s : Settings) (k : ℕ) (m : Octets) → ByRow (OfRow (CameWithoutValidity c s k m)) [] → ⊥
 none_unkept c s k m (inl d) = none_came c k (inl (record { message = m; came = record { request = d.request; via = d.via; server = d.server; place = d.place; id = d.id; matches = d.matches }; counts = λ x. (let e = first_none d.via d.id d.matches.comes.first in absurd (cc)) }))
   where
-    first_none : (v : Via) (id : ℕ) → first_of v id [] ≡ Some m → Path (Option Octets) None (Some m)
+    first_none : (v : Via) (id : ℕ) → first_of c v id [] ≡ Some m → Path (Option Octets) None (Some m)
     first_none Dgram id e = e
     first_none Stream id e = e
 none_unkept c s k m (inr n) = n

@@ -30,9 +30,9 @@ tells_never b e = ((λ u. (let z : true ≡ false = sym u ∙ e in cc)), (λ n. 
 -- the cause of each error
 abbrev pub CauseOf : (c : Conf) (k : ℕ) (x : History) (w : What) (h : History) → Error → Type 0
 CauseOf c k x w h (errors.Dgram (query.Connect f)) = FailedToOpen k f x w h
-CauseOf c k x w h (errors.Dgram (query.Send f)) = Fails k x w (errors.Dgram (query.Send f))
-CauseOf c k x w h (errors.Dgram (query.Receive f)) = Fails k x w (errors.Dgram (query.Receive f))
-CauseOf c k x w h (errors.Dgram query.Timeout) = TriesAreUp k (now h) x h
+CauseOf c k x w h (errors.Dgram (query.Send f)) = Fails c k x w (errors.Dgram (query.Send f))
+CauseOf c k x w h (errors.Dgram (query.Receive f)) = Fails c k x w (errors.Dgram (query.Receive f))
+CauseOf c k x w h (errors.Dgram query.Timeout) = TriesAreUp c k (now h) x h
 CauseOf c k x w h errors.WrongReplyForQuery = CameWrong c k x w h
 CauseOf c k x w h errors.StreamReadTimeout = StreamIsSilent c k (now h) x
 CauseOf c k x w h errors.MessageParseError = CannotBeComposed base_is_read false k h
@@ -51,7 +51,7 @@ module _ (c : Conf) (k : ℕ) (x : History) (w : What) (h : History) where
   cause_of _ (NotRead d) = d
   cause_of _ (NotComposed d) = d
 
-  of_failing : (e : Error) → Fails k x w e → ServerCause c k x w h e
+  of_failing : (e : Error) → Fails c k x w e → ServerCause c k x w h e
   of_failing _ (InSending f d) = NotSent f d
   of_failing _ (InPart d) = SentShort d
   of_failing _ (InReceiving f d) = NotReceived f d
@@ -85,12 +85,12 @@ module _ (c : Conf) (k : ℕ) (x : History) (w : What) (h : History) where
   of_cause errors.Failed d = absurd d
 
 -- an error of sending or receiving
-pub tells_failed : (past : Books) (k : ℕ) (w : What) (e : Error) (o : Option Error) (b : Bool) → TellsFailure past k w o → Tells (o ≡ Some e) b → TellsFails past k w e b
-tells_failed past k w e o b f t x kx = tells_same b (f x kx e).0 (f x kx e).1 t
+pub tells_failed : (conf : Conf) (past : Books) (k : ℕ) (w : What) (e : Error) (o : Option Error) (b : Bool) → TellsFailure conf past k w o → Tells (o ≡ Some e) b → TellsFails conf past k w e b
+tells_failed conf past k w e o b f t x kx = tells_same b (f x kx e).0 (f x kx e).1 t
 
 module _ (past here : Books) (heard : Heards) (w : What) (xs : List Coming) (k : ℕ) (c : Conf) (want : Option ℕ) (x h : History) (kx : books.Known x past) (kd : heards.Known c x heard) (kh : books.Known h here) (is : newest h ≡ w) (wanted : is_wanted want k ≡ true) (cs : AllComing c want x h xs) where
-  tries : (b : Bool) → Tells (TriesAreUp k here.requests.clock x h) b → Tells (TriesAreUp k (now h) x h) b
-  tries b t = subst (λ n. Tells (TriesAreUp k n x h) b) kh.requests.time t
+  tries : (b : Bool) → Tells (TriesAreUp c k here.requests.clock x h) b → Tells (TriesAreUp c k (now h) x h) b
+  tries b t = subst (λ n. Tells (TriesAreUp c k n x h) b) kh.requests.time t
 
   silence : (b : Bool) → Tells (StreamIsSilent c k here.requests.clock x) b → Tells (StreamIsSilent c k (now h) x) b
   silence b t = subst (λ n. Tells (StreamIsSilent c k n x) b) kh.requests.time t
@@ -98,11 +98,11 @@ module _ (past here : Books) (heard : Heards) (w : What) (xs : List Coming) (k :
   wrong : (b : Bool) → Tells (CameWrong c k x (newest h) h) b → Tells (CameWrong c k x w h) b
   wrong b t = subst (λ w. Tells (CameWrong c k x w h) b) is t
 
-  answered : (e : Error) (b : Bool) → AnswersFor past heard here w xs k e b → Tells (CauseOf c k x w h e) b
+  answered : (e : Error) (b : Bool) → AnswersFor c past heard here w xs k e b → Tells (CauseOf c k x w h e) b
   answered (errors.Dgram (query.Connect f)) b t = (let d = opening_decides x h past.places here.places here.requests w k f kx.places kh.places kh.requests in tells_same b d.0 d.1 t)
   answered (errors.Dgram (query.Send f)) b t = t x kx
   answered (errors.Dgram (query.Receive f)) b t = t x kx
-  answered (errors.Dgram query.Timeout) b t = tries b (tells_tries k here.requests.clock past here b t x h kx kh)
+  answered (errors.Dgram query.Timeout) b t = tries b (tells_tries c k here.requests.clock past here b t x h kx kh)
   answered errors.WrongReplyForQuery b t = wrong b (tells_wrong want k xs b t c x h wanted cs)
   answered errors.StreamReadTimeout b t = silence b (tells_silence c k here.requests.clock past heard b t x kx kd)
   answered errors.MessageParseError b t = t h kh
@@ -126,6 +126,6 @@ module _ (past here : Books) (heard : Heards) (w : What) (xs : List Coming) (k :
   answered errors.AlreadyDone b t = tells_never b t
   answered errors.Failed b t = tells_never b t
 
-pub tells_server : (past : Books) (heard : Heards) (here : Books) (w : What) (xs : List Coming) (k : ℕ) (e : Error) (b : Bool) → AnswersFor past heard here w xs k e b → TellsServer past heard here w xs k e b
-tells_server past heard here w xs k e b t c want x h kx kd kh is wanted cs =
-    tells_same b (of_cause c k x w h e) (cause_of c k x w h e) (answered past here heard w xs k c want x h kx kd kh is wanted cs e b t)
+pub tells_server : (conf : Conf) (past : Books) (heard : Heards) (here : Books) (w : What) (xs : List Coming) (k : ℕ) (e : Error) (b : Bool) → AnswersFor conf past heard here w xs k e b → TellsServer conf past heard here w xs k e b
+tells_server conf past heard here w xs k e b t want x h kx kd kh is wanted cs =
+    tells_same b (of_cause conf k x w h e) (cause_of conf k x w h e) (answered past here heard w xs k conf want x h kx kd kh is wanted cs e b t)

@@ -1,11 +1,11 @@
 -- What is found of direct causes is what the definitions say.
-use Rattle.std.proofs.Common.{◌≡◌, ℕ, ◌==◌, ◌&&◌, ◌||◌, ◌⊎◌, inl, inr, Bool, true, false, List, [], ◌∷◌, Option, Some, None, refl, sym, ap, ◌∙◌, subst}
+use Rattle.std.proofs.Common.{◌≡◌, ℕ, suc, ◌==◌, ◌&&◌, ◌||◌, ◌⊎◌, inl, inr, Bool, true, false, List, [], ◌∷◌, Option, Some, None, refl, sym, ap, ◌∙◌, subst}
 use Rattle.client_request.specs.declared.error.Error.{Error}
 use Rattle.client_request.specs.declared.error.Error.TheVariants as errors
 use Rattle.client_request.specs.declared.event.What.{What}
 use Rattle.client_request.specs.declared.event.What.TheVariants.{OpenFailed, SendFailed, ShortSend, RecvFailed, Tick}
 use Rattle.right_trace.specs.Trace.{History, Conf, Came, Put}
-use Rattle.right_trace.specs.Time.{newest, row_before, EarlierRow, OfRow}
+use Rattle.right_trace.specs.Time.{newest, row_before, EarlierRow, OfRow, max_tries}
 use Rattle.right_trace.specs.Settings.{Settings}
 use Rattle.right_trace.specs.Messages.{Octets}
 use Rattle.right_trace.specs.Requests.{Asking, asks, is_ask, is_asked_here}
@@ -37,18 +37,20 @@ second_true : (a b : Bool) → b ≡ true → (a || b) ≡ true
 second_true true b e = refl
 second_true false b e = e
 
-asked_is : (k : ℕ) (h : History) → is_asked_here k h ≡ (is_ask (newest h) && (asks (row_before h) == k))
+-- whether a row asks a request is told by its event
+pub asked_is : (k : ℕ) (h : History) → is_asked_here k h ≡ (is_ask (newest h) && (asks (row_before h) == k))
 asked_is k [] = refl
 asked_is k (Came e ∷ h) = refl
 asked_is k (Put o ∷ h) = asked_is k h
 
 -- before the first row no server gave an error
 none_first : (c : Conf) (k : ℕ) (e : Error) → ServerCause c k [] Tick [] e → ⊥
+unfolding max_tries
 none_first c k _ (NotOpened f d) = (let z : Tick ≡ OpenFailed d.place f = d.told in cc)
 none_first c k _ (NotSent f d) = (let z : Tick ≡ SendFailed d.place f = d.is_told in cc)
 none_first c k _ (SentShort d) = (let z : Tick ≡ ShortSend d.place = d.is_told in cc)
 none_first c k _ (NotReceived f d) = (let z : Tick ≡ RecvFailed d.place f = d.is_told in cc)
-none_first c k _ (NoAnswer d) = (let z : 0 ≡ 6 = d.six in cc)
+none_first c k _ (NoAnswer d) = (let z : 0 ≡ suc c.transports.dgram_max_retries = d.all in cc)
 none_first c k _ (WrongReply d) = (let z : None ≡ Some d.message = d.comes.first in cc)
 none_first c k _ (StreamSilence d) = (let z : None ≡ Some d.begun = d.is_begun in cc)
 none_first c k _ (NotRead d) = (let z : None ≡ Some d.asking_of = d.asked in cc)
@@ -135,12 +137,12 @@ module _ (c : Conf) (s : Settings) (past : Books) (heard : Heards) (here : Books
   so_before : (e : Error) → EarlierRow (IsCaused c k e) h → WasCaused c k e x
   so_before e d = subst (ByRow (IsCaused c k e)) before (earlier_so (IsCaused c k e) h d)
 
-  module _ (e : Error) (b : Bool) (d : ByServers s past heard here t w xs k e b) where
+  module _ (e : Error) (b : Bool) (d : ByServers c s past heard here t w xs k e b) where
     now_told : Tells (ServerCause c k x w h e) d.now
-    now_told = d.told c want x h kp kd kh is wanted cs
+    now_told = d.told want x h kp kd kh is wanted cs
 
     was_told : Tells (WasCaused c k e x) d.before
-    was_told = d.was c s x kp kd kt
+    was_told = d.was s x kp kd kt
 
     servers_so : b ≡ true → ByOne e
     servers_so u = go (either d.now (s.defers_errors && d.before) (sym d.is ∙ u))

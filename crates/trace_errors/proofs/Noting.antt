@@ -1,5 +1,5 @@
 -- Behind each row that is right what is noted of errors is what the definitions say.
-use Rattle.std.proofs.Common.{◌≡◌, ℕ, ◌==◌, ◌&&◌, ◌⊎◌, inl, inr, not, Bool, true, false, if◌then◌else◌, List, [], ◌∷◌, Option, Some, None, refl, sym, ap, ap₂, ◌∙◌, subst, arith}
+use Rattle.std.proofs.Common.{◌≡◌, ℕ, suc, ◌==◌, ◌&&◌, ◌⊎◌, inl, inr, not, Bool, true, false, if◌then◌else◌, List, [], ◌∷◌, Option, Some, None, refl, sym, ap, ap₂, ◌∙◌, subst, arith}
 use Rattle.client_request.specs.declared.error.Error.{Error}
 use Rattle.client_request.specs.declared.error.Error.TheVariants as errors
 use Rattle.client_request.specs.declared.error.QueryError.TheVariants as query
@@ -13,7 +13,7 @@ use Rattle.client_request.specs.declared.event.Row.{Row}
 use Rattle.client_request.specs.declared.event.Via.{Via}
 use Rattle.client_request.specs.declared.event.Via.TheVariants.{Dgram, Stream}
 use Rattle.right_trace.specs.Trace.{History, Conf, Came, Put, after}
-use Rattle.right_trace.specs.Time.{now, newest}
+use Rattle.right_trace.specs.Time.{now, newest, max_tries}
 use Rattle.right_trace.specs.Messages.{answers}
 use Rattle.right_trace.specs.Settings.{Settings}
 use Rattle.right_trace.specs.Requests.{same_via}
@@ -41,7 +41,7 @@ use Rattle.trace_errors.proofs.Caused.{cause_of, of_cause}
 use Rattle.trace_errors.specs.Rows.{IsCaused, WasCaused}
 use Rattle.trace_errors.specs.Noted.{Noted, notes, note_all, lost, wrong_of, silent_of, failed_place, unopened_place, closed_place, note_failed, note_lost, note_closed, after_row, IsNoted, Known, GoesOn}
 use Rattle.trace_errors.proofs.Rows.{same_number, own, more_so, more_kept, more_new, row_later, row_was}
-use Rattle.trace_errors.proofs.Steady.{starts_stay, six_stay, time_goes_on, ClosedIn, Ending, StillLive, IsUnopened, IsClosed, row_lives}
+use Rattle.trace_errors.proofs.Steady.{starts_stay, all_stay, time_goes_on, ClosedIn, Ending, StillLive, IsUnopened, IsClosed, row_lives}
 
 same_kind : (a b : Via) → same_via a b ≡ true → a ≡ b
 same_kind Dgram Dgram e = refl
@@ -149,73 +149,73 @@ tried_named k s y (Put (Reply j x) ∷ h) e = tried_named k s y h e
 
 -- where places end
 
-lost_kept : (b b' : Books) (k : ℕ) (e : Error) (o : Option ℕ) (t : Noted) → IsNoted k e t → IsNoted k e (note_lost b b' o t)
-lost_kept b b' k e None t i = i
-lost_kept b b' k e (Some p) t i = all_kept (λ x. x.request) (λ x. lost b b' x.request) k e (listed p b'.sends.sent) t i
+lost_kept : (c : Conf) (b b' : Books) (k : ℕ) (e : Error) (o : Option ℕ) (t : Noted) → IsNoted k e t → IsNoted k e (note_lost c b b' o t)
+lost_kept c b b' k e None t i = i
+lost_kept c b b' k e (Some p) t i = all_kept (λ x. x.request) (λ x. lost c b b' x.request) k e (listed p b'.sends.sent) t i
 
-closed_kept : (b b' : Books) (k : ℕ) (e : Error) (os : List Out) (t : Noted) → IsNoted k e t → IsNoted k e (note_closed b b' os t)
-closed_kept b b' k e [] t i = i
-closed_kept b b' k e (o ∷ os) t i = closed_kept b b' k e os (note_lost b b' (closed_place o) t) (lost_kept b b' k e (closed_place o) t i)
+closed_kept : (c : Conf) (b b' : Books) (k : ℕ) (e : Error) (os : List Out) (t : Noted) → IsNoted k e t → IsNoted k e (note_closed c b b' os t)
+closed_kept c b b' k e [] t i = i
+closed_kept c b b' k e (o ∷ os) t i = closed_kept c b b' k e os (note_lost c b b' (closed_place o) t) (lost_kept c b b' k e (closed_place o) t i)
 
-abbrev IsUp : (b b' : Books) (k : ℕ) → Error → Type 0
-IsUp b b' k e = (e ≡ errors.Dgram query.Timeout) × (tries_are_up k b'.requests.clock b.places b' ≡ true)
+abbrev IsUp : (c : Conf) (b b' : Books) (k : ℕ) → Error → Type 0
+IsUp c b b' k e = (e ≡ errors.Dgram query.Timeout) × (tries_are_up c k b'.requests.clock b.places b' ≡ true)
 
-lost_is : (b b' : Books) (k : ℕ) (e : Error) → lost b b' k ≡ Some e → IsUp b b' k e
-lost_is b b' k e q = go (tries_are_up k b'.requests.clock b.places b') q
+lost_is : (c : Conf) (b b' : Books) (k : ℕ) (e : Error) → lost c b b' k ≡ Some e → IsUp c b b' k e
+lost_is c b b' k e q = go (tries_are_up c k b'.requests.clock b.places b') q
   where
     go : (a : Bool) → (if a then error (errors.Dgram query.Timeout) else no_error) ≡ error e → (e ≡ errors.Dgram query.Timeout) × (a ≡ true)
     go true q = ((let z : errors.Dgram query.Timeout ≡ e = cc in sym z), refl)
     go false q = absurd (cc)
 
-is_lost : (b b' : Books) (k : ℕ) → tries_are_up k b'.requests.clock b.places b' ≡ true → lost b b' k ≡ Some (errors.Dgram query.Timeout)
-is_lost b b' k q = ap (λ a. if a then error (errors.Dgram query.Timeout) else no_error) q
+is_lost : (c : Conf) (b b' : Books) (k : ℕ) → tries_are_up c k b'.requests.clock b.places b' ≡ true → lost c b b' k ≡ Some (errors.Dgram query.Timeout)
+is_lost c b b' k q = ap (λ a. if a then error (errors.Dgram query.Timeout) else no_error) q
 
-lost_new : (b b' : Books) (k : ℕ) (e : Error) (o : Option ℕ) (t : Noted) → IsNoted k e (note_lost b b' o t) → IsNoted k e t ⊎ IsUp b b' k e
-lost_new b b' k e None t i = inl i
-lost_new b b' k e (Some p) t i = go (all_new (λ x. x.request) (λ x. lost b b' x.request) k e (listed p b'.sends.sent) t i)
+lost_new : (c : Conf) (b b' : Books) (k : ℕ) (e : Error) (o : Option ℕ) (t : Noted) → IsNoted k e (note_lost c b b' o t) → IsNoted k e t ⊎ IsUp c b b' k e
+lost_new c b b' k e None t i = inl i
+lost_new c b b' k e (Some p) t i = go (all_new (λ x. x.request) (λ x. lost c b b' x.request) k e (listed p b'.sends.sent) t i)
   where
-    go : IsNoted k e t ⊎ Noting (λ (x : Sent). x.request) (λ x. lost b b' x.request) k e (listed p b'.sends.sent) → IsNoted k e t ⊎ IsUp b b' k e
+    go : IsNoted k e t ⊎ Noting (λ (x : Sent). x.request) (λ x. lost c b b' x.request) k e (listed p b'.sends.sent) → IsNoted k e t ⊎ IsUp c b b' k e
     go (inl i) = inl i
-    go (inr n) = inr (lost_is b b' k e (ap (lost b b') (sym n.is_request) ∙ n.is_error))
+    go (inr n) = inr (lost_is c b b' k e (ap (lost c b b') (sym n.is_request) ∙ n.is_error))
 
-new_lost : (b b' : Books) (k p : ℕ) (o : Option ℕ) (t : Noted) → o ≡ Some p → SentOf k (listed p b'.sends.sent) → tries_are_up k b'.requests.clock b.places b' ≡ true → IsNoted k (errors.Dgram query.Timeout) (note_lost b b' o t)
-new_lost b b' k p o t e s q =
-    subst (λ o. IsNoted k (errors.Dgram query.Timeout) (note_lost b b' o t)) (sym e)
-    (subst (λ k. IsNoted k (errors.Dgram query.Timeout) (note_lost b b' (Some p) t)) s.is_request
-    (new_all (λ x. x.request) (λ x. lost b b' x.request) s.send (errors.Dgram query.Timeout) (listed p b'.sends.sent) t s.there (ap (lost b b') s.is_request ∙ is_lost b b' k q)))
+new_lost : (c : Conf) (b b' : Books) (k p : ℕ) (o : Option ℕ) (t : Noted) → o ≡ Some p → SentOf k (listed p b'.sends.sent) → tries_are_up c k b'.requests.clock b.places b' ≡ true → IsNoted k (errors.Dgram query.Timeout) (note_lost c b b' o t)
+new_lost c b b' k p o t e s q =
+    subst (λ o. IsNoted k (errors.Dgram query.Timeout) (note_lost c b b' o t)) (sym e)
+    (subst (λ k. IsNoted k (errors.Dgram query.Timeout) (note_lost c b b' (Some p) t)) s.is_request
+    (new_all (λ x. x.request) (λ x. lost c b b' x.request) s.send (errors.Dgram query.Timeout) (listed p b'.sends.sent) t s.there (ap (lost c b b') s.is_request ∙ is_lost c b b' k q)))
 
-closed_new : (b b' : Books) (k : ℕ) (e : Error) (os : List Out) (t : Noted) → IsNoted k e (note_closed b b' os t) → IsNoted k e t ⊎ IsUp b b' k e
-closed_new b b' k e [] t i = inl i
-closed_new b b' k e (o ∷ os) t i = go (closed_new b b' k e os (note_lost b b' (closed_place o) t) i)
+closed_new : (c : Conf) (b b' : Books) (k : ℕ) (e : Error) (os : List Out) (t : Noted) → IsNoted k e (note_closed c b b' os t) → IsNoted k e t ⊎ IsUp c b b' k e
+closed_new c b b' k e [] t i = inl i
+closed_new c b b' k e (o ∷ os) t i = go (closed_new c b b' k e os (note_lost c b b' (closed_place o) t) i)
   where
-    go : IsNoted k e (note_lost b b' (closed_place o) t) ⊎ IsUp b b' k e → IsNoted k e t ⊎ IsUp b b' k e
-    go (inl i) = lost_new b b' k e (closed_place o) t i
+    go : IsNoted k e (note_lost c b b' (closed_place o) t) ⊎ IsUp c b b' k e → IsNoted k e t ⊎ IsUp c b b' k e
+    go (inl i) = lost_new c b b' k e (closed_place o) t i
     go (inr u) = inr u
 
-new_closed : (b b' : Books) (k p : ℕ) (os : List Out) (t : Noted) → ClosedIn p os → SentOf k (listed p b'.sends.sent) → tries_are_up k b'.requests.clock b.places b' ≡ true → IsNoted k (errors.Dgram query.Timeout) (note_closed b b' os t)
-new_closed b b' k p [] t i s q = absurd i
-new_closed b b' k p (o ∷ os) t (inl e) s q = closed_kept b b' k (errors.Dgram query.Timeout) os (note_lost b b' (closed_place o) t) (new_lost b b' k p (closed_place o) t e s q)
-new_closed b b' k p (o ∷ os) t (inr i) s q = new_closed b b' k p os (note_lost b b' (closed_place o) t) i s q
+new_closed : (c : Conf) (b b' : Books) (k p : ℕ) (os : List Out) (t : Noted) → ClosedIn p os → SentOf k (listed p b'.sends.sent) → tries_are_up c k b'.requests.clock b.places b' ≡ true → IsNoted k (errors.Dgram query.Timeout) (note_closed c b b' os t)
+new_closed c b b' k p [] t i s q = absurd i
+new_closed c b b' k p (o ∷ os) t (inl e) s q = closed_kept c b b' k (errors.Dgram query.Timeout) os (note_lost c b b' (closed_place o) t) (new_lost c b b' k p (closed_place o) t e s q)
+new_closed c b b' k p (o ∷ os) t (inr i) s q = new_closed c b b' k p os (note_lost c b b' (closed_place o) t) i s q
 
 -- where faults are told
 
-failed_kept : (b : Books) (w : What) (k : ℕ) (e : Error) (o : Option ℕ) (t : Noted) → IsNoted k e t → IsNoted k e (note_failed b w o t)
-failed_kept b w k e None t i = i
-failed_kept b w k e (Some p) t i = all_kept (λ x. x.request) (λ x. failure b x.request w) k e (listed p b.sends.sent) t i
+failed_kept : (c : Conf) (b : Books) (w : What) (k : ℕ) (e : Error) (o : Option ℕ) (t : Noted) → IsNoted k e t → IsNoted k e (note_failed c b w o t)
+failed_kept c b w k e None t i = i
+failed_kept c b w k e (Some p) t i = all_kept (λ x. x.request) (λ x. failure c b x.request w) k e (listed p b.sends.sent) t i
 
-failed_new : (b : Books) (w : What) (k : ℕ) (e : Error) (o : Option ℕ) (t : Noted) → IsNoted k e (note_failed b w o t) → IsNoted k e t ⊎ (failure b k w ≡ Some e)
-failed_new b w k e None t i = inl i
-failed_new b w k e (Some p) t i = go (all_new (λ x. x.request) (λ x. failure b x.request w) k e (listed p b.sends.sent) t i)
+failed_new : (c : Conf) (b : Books) (w : What) (k : ℕ) (e : Error) (o : Option ℕ) (t : Noted) → IsNoted k e (note_failed c b w o t) → IsNoted k e t ⊎ (failure c b k w ≡ Some e)
+failed_new c b w k e None t i = inl i
+failed_new c b w k e (Some p) t i = go (all_new (λ x. x.request) (λ x. failure c b x.request w) k e (listed p b.sends.sent) t i)
   where
-    go : IsNoted k e t ⊎ Noting (λ (x : Sent). x.request) (λ x. failure b x.request w) k e (listed p b.sends.sent) → IsNoted k e t ⊎ (failure b k w ≡ Some e)
+    go : IsNoted k e t ⊎ Noting (λ (x : Sent). x.request) (λ x. failure c b x.request w) k e (listed p b.sends.sent) → IsNoted k e t ⊎ (failure c b k w ≡ Some e)
     go (inl i) = inl i
-    go (inr n) = inr (ap (λ k. failure b k w) (sym n.is_request) ∙ n.is_error)
+    go (inr n) = inr (ap (λ k. failure c b k w) (sym n.is_request) ∙ n.is_error)
 
-new_failed : (b : Books) (w : What) (k p : ℕ) (e : Error) (o : Option ℕ) (t : Noted) → o ≡ Some p → SentOf k (listed p b.sends.sent) → failure b k w ≡ Some e → IsNoted k e (note_failed b w o t)
-new_failed b w k p e o t q s f =
-    subst (λ o. IsNoted k e (note_failed b w o t)) (sym q)
-    (subst (λ k. IsNoted k e (note_failed b w (Some p) t)) s.is_request
-    (new_all (λ x. x.request) (λ x. failure b x.request w) s.send e (listed p b.sends.sent) t s.there (ap (λ k. failure b k w) s.is_request ∙ f)))
+new_failed : (c : Conf) (b : Books) (w : What) (k p : ℕ) (e : Error) (o : Option ℕ) (t : Noted) → o ≡ Some p → SentOf k (listed p b.sends.sent) → failure c b k w ≡ Some e → IsNoted k e (note_failed c b w o t)
+new_failed c b w k p e o t q s f =
+    subst (λ o. IsNoted k e (note_failed c b w o t)) (sym q)
+    (subst (λ k. IsNoted k e (note_failed c b w (Some p) t)) s.is_request
+    (new_all (λ x. x.request) (λ x. failure c b x.request w) s.send e (listed p b.sends.sent) t s.there (ap (λ k. failure c b k w) s.is_request ∙ f)))
 
 -- messages
 
@@ -227,8 +227,8 @@ wrong_is x e q = go (same_via x.via Stream) refl x.agrees refl q
     go true i true j q = absurd (cc)
     go false i b j q = absurd (cc)
 
-silent_is : (b b' : Books) (heard : Heards) (x : Coming) (e : Error) → silent_of b b' heard x ≡ Some e → (e ≡ errors.StreamReadTimeout) × (stream_is_silent x.request b'.requests.clock b.requests heard ≡ true)
-silent_is b b' heard x e q = go (same_via x.via Stream) (stream_is_silent x.request b'.requests.clock b.requests heard) q
+silent_is : (c : Conf) (b b' : Books) (heard : Heards) (x : Coming) (e : Error) → silent_of c b b' heard x ≡ Some e → (e ≡ errors.StreamReadTimeout) × (stream_is_silent c x.request b'.requests.clock b.requests heard ≡ true)
+silent_is c b b' heard x e q = go (same_via x.via Stream) (stream_is_silent c x.request b'.requests.clock b.requests heard) q
   where
     go : (a d : Bool) → (if a && d then error errors.StreamReadTimeout else no_error) ≡ Some e → (e ≡ errors.StreamReadTimeout) × (d ≡ true)
     go true true q = ((let z : errors.StreamReadTimeout ≡ e = cc in sym z), refl)
@@ -239,34 +239,34 @@ silent_is b b' heard x e q = go (same_via x.via Stream) (stream_is_silent x.requ
 
 module _ (c : Conf) (s : Settings) (past : History) (row : Row) (b b' : Books) (heard heard' : Heards) (xs : List Coming) (t : Noted) (right : RowRight c s past row) (kb : books.Known past b) (kb' : books.Known (after row past) b') (kd : heards.Known c past heard) (kd' : heards.Known c (after row past) heard') (cs : AllComing c None past (after row past) xs) (kt : Known c past t) where
   abbrev failed : Noted
-  failed = note_failed b row.event.what (failed_place row.event.what) t
+  failed = note_failed c b row.event.what (failed_place row.event.what) t
 
   abbrev unopened : Noted
-  unopened = note_lost b b' (unopened_place row.event.what) failed
+  unopened = note_lost c b b' (unopened_place row.event.what) failed
 
   abbrev closed : Noted
-  closed = note_closed b b' row.outs unopened
+  closed = note_closed c b b' row.outs unopened
 
   abbrev wronged : Noted
   wronged = note_all (λ x. x.request) wrong_of xs closed
 
   abbrev silenced : Noted
-  silenced = note_all (λ x. x.request) (silent_of b b' heard) xs wronged
+  silenced = note_all (λ x. x.request) (silent_of c b b' heard) xs wronged
 
   from_wronged : (k : ℕ) (e : Error) → IsNoted k e wronged → IsNoted k e silenced
-  from_wronged k e i = all_kept (λ x. x.request) (silent_of b b' heard) k e xs wronged i
+  from_wronged k e i = all_kept (λ x. x.request) (silent_of c b b' heard) k e xs wronged i
 
   from_closed : (k : ℕ) (e : Error) → IsNoted k e closed → IsNoted k e silenced
   from_closed k e i = from_wronged k e (all_kept (λ x. x.request) wrong_of k e xs closed i)
 
   from_unopened : (k : ℕ) (e : Error) → IsNoted k e unopened → IsNoted k e silenced
-  from_unopened k e i = from_closed k e (closed_kept b b' k e row.outs unopened i)
+  from_unopened k e i = from_closed k e (closed_kept c b b' k e row.outs unopened i)
 
   from_failed : (k : ℕ) (e : Error) → IsNoted k e failed → IsNoted k e silenced
-  from_failed k e i = from_unopened k e (lost_kept b b' k e (unopened_place row.event.what) failed i)
+  from_failed k e i = from_unopened k e (lost_kept c b b' k e (unopened_place row.event.what) failed i)
 
   from_past : (k : ℕ) (e : Error) → IsNoted k e t → IsNoted k e silenced
-  from_past k e i = from_failed k e (failed_kept b row.event.what k e (failed_place row.event.what) t i)
+  from_past k e i = from_failed k e (failed_kept c b row.event.what k e (failed_place row.event.what) t i)
 
   -- causes in the row
   caused : (k : ℕ) (e : Error) → ServerCause c k past row.event.what (after row past) e → IsCaused c k e (after row past)
@@ -275,45 +275,45 @@ module _ (c : Conf) (s : Settings) (past : History) (row : Row) (b b' : Books) (
   cause : (k : ℕ) (e : Error) → IsCaused c k e (after row past) → ServerCause c k past row.event.what (after row past) e
   cause k e d = subst (λ w. ServerCause c k past w (after row past) e) (row_event row past) (subst (λ x. ServerCause c k x (newest (after row past)) (after row past) e) (before_row row past) d)
 
-  tries_so : (k : ℕ) → tries_are_up k b'.requests.clock b.places b' ≡ true → TriesAreUp k (now (after row past)) past (after row past)
-  tries_so k e = subst (λ n. TriesAreUp k n past (after row past)) kb'.requests.time ((tells_tries k b'.requests.clock b b' (tries_are_up k b'.requests.clock b.places b') refl past (after row past) kb kb').0 e)
+  tries_so : (k : ℕ) → tries_are_up c k b'.requests.clock b.places b' ≡ true → TriesAreUp c k (now (after row past)) past (after row past)
+  tries_so k e = subst (λ n. TriesAreUp c k n past (after row past)) kb'.requests.time ((tells_tries c k b'.requests.clock b b' (tries_are_up c k b'.requests.clock b.places b') refl past (after row past) kb kb').0 e)
 
-  so_tries : (k : ℕ) → TriesAreUp k (now (after row past)) past (after row past) → tries_are_up k b'.requests.clock b.places b' ≡ true
-  so_tries k d = (tells_tries k b'.requests.clock b b' (tries_are_up k b'.requests.clock b.places b') refl past (after row past) kb kb').1 (subst (λ n. TriesAreUp k n past (after row past)) (sym kb'.requests.time) d)
+  so_tries : (k : ℕ) → TriesAreUp c k (now (after row past)) past (after row past) → tries_are_up c k b'.requests.clock b.places b' ≡ true
+  so_tries k d = (tells_tries c k b'.requests.clock b b' (tries_are_up c k b'.requests.clock b.places b') refl past (after row past) kb kb').1 (subst (λ n. TriesAreUp c k n past (after row past)) (sym kb'.requests.time) d)
 
-  silence_so : (k : ℕ) → stream_is_silent k b'.requests.clock b.requests heard ≡ true → StreamIsSilent c k (now (after row past)) past
-  silence_so k e = subst (λ n. StreamIsSilent c k n past) kb'.requests.time ((tells_silence c k b'.requests.clock b heard (stream_is_silent k b'.requests.clock b.requests heard) refl past kb kd).0 e)
+  silence_so : (k : ℕ) → stream_is_silent c k b'.requests.clock b.requests heard ≡ true → StreamIsSilent c k (now (after row past)) past
+  silence_so k e = subst (λ n. StreamIsSilent c k n past) kb'.requests.time ((tells_silence c k b'.requests.clock b heard (stream_is_silent c k b'.requests.clock b.requests heard) refl past kb kd).0 e)
 
-  so_silence : (k : ℕ) → StreamIsSilent c k (now (after row past)) past → stream_is_silent k b'.requests.clock b.requests heard ≡ true
-  so_silence k d = (tells_silence c k b'.requests.clock b heard (stream_is_silent k b'.requests.clock b.requests heard) refl past kb kd).1 (subst (λ n. StreamIsSilent c k n past) (sym kb'.requests.time) d)
+  so_silence : (k : ℕ) → StreamIsSilent c k (now (after row past)) past → stream_is_silent c k b'.requests.clock b.requests heard ≡ true
+  so_silence k d = (tells_silence c k b'.requests.clock b heard (stream_is_silent c k b'.requests.clock b.requests heard) refl past kb kd).1 (subst (λ n. StreamIsSilent c k n past) (sym kb'.requests.time) d)
 
   -- what is noted was caused
 
   now_caused : (k : ℕ) (e : Error) → ServerCause c k past row.event.what (after row past) e → WasCaused c k e (after row past)
   now_caused k e d = inl (caused k e d)
 
-  by_failed : (k : ℕ) (e : Error) → IsNoted k e t ⊎ (failure b k row.event.what ≡ Some e) → WasCaused c k e (after row past)
+  by_failed : (k : ℕ) (e : Error) → IsNoted k e t ⊎ (failure c b k row.event.what ≡ Some e) → WasCaused c k e (after row past)
   by_failed k e (inl i) = row_later (IsCaused c k e) row past (kt.so k e i)
-  by_failed k e (inr f) = now_caused k e (of_fails e ((tells_failure b k row.event.what (failure b k row.event.what) refl past kb e).0 f))
+  by_failed k e (inr f) = now_caused k e (of_fails e ((tells_failure c b k row.event.what (failure c b k row.event.what) refl past kb e).0 f))
     where
-      of_fails : (e : Error) → Fails k past row.event.what e → ServerCause c k past row.event.what (after row past) e
+      of_fails : (e : Error) → Fails c k past row.event.what e → ServerCause c k past row.event.what (after row past) e
       of_fails _ (InSending f d) = of_cause c k past row.event.what (after row past) (errors.Dgram (query.Send f)) (InSending f d)
       of_fails _ (InPart d) = of_cause c k past row.event.what (after row past) (errors.Dgram (query.Send fault.ShortSend)) (InPart d)
       of_fails _ (InReceiving f d) = of_cause c k past row.event.what (after row past) (errors.Dgram (query.Receive f)) (InReceiving f d)
 
-  by_up : (k : ℕ) (e : Error) → IsUp b b' k e → WasCaused c k e (after row past)
+  by_up : (k : ℕ) (e : Error) → IsUp c b b' k e → WasCaused c k e (after row past)
   by_up k e u = now_caused k e (subst (ServerCause c k past row.event.what (after row past)) (sym u.0) (NoAnswer (tries_so k u.1)))
 
-  by_lost : (k : ℕ) (e : Error) → IsNoted k e failed ⊎ IsUp b b' k e → WasCaused c k e (after row past)
-  by_lost k e (inl i) = by_failed k e (failed_new b row.event.what k e (failed_place row.event.what) t i)
+  by_lost : (k : ℕ) (e : Error) → IsNoted k e failed ⊎ IsUp c b b' k e → WasCaused c k e (after row past)
+  by_lost k e (inl i) = by_failed k e (failed_new c b row.event.what k e (failed_place row.event.what) t i)
   by_lost k e (inr u) = by_up k e u
 
-  by_closed : (k : ℕ) (e : Error) → IsNoted k e unopened ⊎ IsUp b b' k e → WasCaused c k e (after row past)
-  by_closed k e (inl i) = by_lost k e (lost_new b b' k e (unopened_place row.event.what) failed i)
+  by_closed : (k : ℕ) (e : Error) → IsNoted k e unopened ⊎ IsUp c b b' k e → WasCaused c k e (after row past)
+  by_closed k e (inl i) = by_lost k e (lost_new c b b' k e (unopened_place row.event.what) failed i)
   by_closed k e (inr u) = by_up k e u
 
   by_wrong : (k : ℕ) (e : Error) → IsNoted k e closed ⊎ Noting (λ (x : Coming). x.request) wrong_of k e xs → WasCaused c k e (after row past)
-  by_wrong k e (inl i) = by_closed k e (closed_new b b' k e row.outs unopened i)
+  by_wrong k e (inl i) = by_closed k e (closed_new c b b' k e row.outs unopened i)
   by_wrong k e (inr n) =
       let x = n.item in
       let q = wrong_is x e n.is_error in
@@ -324,27 +324,27 @@ module _ (c : Conf) (s : Settings) (past : History) (row : Row) (b b' : Books) (
       (subst (λ k. Comes c is.asked_as x.via x.server x.place k x.id x.message past (newest (after row past)) (after row past)) n.is_request is.comes)) in
       now_caused k e (subst (ServerCause c k past row.event.what (after row past)) (sym q.0) (WrongReply (record { request = is.asked_as; server = x.server; place = x.place; id = x.id; message = x.message; comes = comes; differs = sym is.agreeing ∙ q.2 })))
 
-  by_silent : (k : ℕ) (e : Error) → IsNoted k e wronged ⊎ Noting (λ (x : Coming). x.request) (silent_of b b' heard) k e xs → WasCaused c k e (after row past)
+  by_silent : (k : ℕ) (e : Error) → IsNoted k e wronged ⊎ Noting (λ (x : Coming). x.request) (silent_of c b b' heard) k e xs → WasCaused c k e (after row past)
   by_silent k e (inl i) = by_wrong k e (all_new (λ x. x.request) wrong_of k e xs closed i)
   by_silent k e (inr n) =
-      let q = silent_is b b' heard n.item e n.is_error in
-      now_caused k e (subst (ServerCause c k past row.event.what (after row past)) (sym q.0) (StreamSilence (silence_so k (ap (λ k. stream_is_silent k b'.requests.clock b.requests heard) (sym n.is_request) ∙ q.1))))
+      let q = silent_is c b b' heard n.item e n.is_error in
+      now_caused k e (subst (ServerCause c k past row.event.what (after row past)) (sym q.0) (StreamSilence (silence_so k (ap (λ k. stream_is_silent c k b'.requests.clock b.requests heard) (sym n.is_request) ∙ q.1))))
 
   noted_so : (k : ℕ) (e : Error) → IsNoted k e silenced → WasCaused c k e (after row past)
-  noted_so k e i = by_silent k e (all_new (λ x. x.request) (silent_of b b' heard) k e xs wronged i)
+  noted_so k e i = by_silent k e (all_new (λ x. x.request) (silent_of c b b' heard) k e xs wronged i)
 
   -- what was caused is noted
 
-  sent_there : (told : ℕ → What) (k : ℕ) (d : FailedAt told k past row.event.what) → SentOf k (listed d.place b.sends.sent)
+  sent_there : (told : ℕ → What) (k : ℕ) (d : FailedAt c told k past row.event.what) → SentOf k (listed d.place b.sends.sent)
   sent_there told k d = sent_of k d.send (listed d.place b.sends.sent) (subst (IsOneOf d.send) (sym (kb.sends.names d.place k)) d.named_there)
 
-  fails_noted : (k : ℕ) (e : Error) → Fails k past row.event.what e → failure b k row.event.what ≡ Some e → IsNoted k e failed
-  fails_noted k _ (InSending f d) q = new_failed b row.event.what k d.place (errors.Dgram (query.Send f)) (failed_place row.event.what) t (ap failed_place d.is_told) (sent_there (λ p. SendFailed p f) k d) q
-  fails_noted k _ (InPart d) q = new_failed b row.event.what k d.place (errors.Dgram (query.Send fault.ShortSend)) (failed_place row.event.what) t (ap failed_place d.is_told) (sent_there ShortSend k d) q
-  fails_noted k _ (InReceiving f d) q = new_failed b row.event.what k d.place (errors.Dgram (query.Receive f)) (failed_place row.event.what) t (ap failed_place d.is_told) (sent_there (λ p. RecvFailed p f) k d) q
+  fails_noted : (k : ℕ) (e : Error) → Fails c k past row.event.what e → failure c b k row.event.what ≡ Some e → IsNoted k e failed
+  fails_noted k _ (InSending f d) q = new_failed c b row.event.what k d.place (errors.Dgram (query.Send f)) (failed_place row.event.what) t (ap failed_place d.is_told) (sent_there (λ p. SendFailed p f) k d) q
+  fails_noted k _ (InPart d) q = new_failed c b row.event.what k d.place (errors.Dgram (query.Send fault.ShortSend)) (failed_place row.event.what) t (ap failed_place d.is_told) (sent_there ShortSend k d) q
+  fails_noted k _ (InReceiving f d) q = new_failed c b row.event.what k d.place (errors.Dgram (query.Receive f)) (failed_place row.event.what) t (ap failed_place d.is_told) (sent_there (λ p. RecvFailed p f) k d) q
 
-  failing_noted : (k : ℕ) (e : Error) → Fails k past row.event.what e → IsNoted k e silenced
-  failing_noted k e d = from_failed k e (fails_noted k e d ((tells_failure b k row.event.what (failure b k row.event.what) refl past kb e).1 d))
+  failing_noted : (k : ℕ) (e : Error) → Fails c k past row.event.what e → IsNoted k e silenced
+  failing_noted k e d = from_failed k e (fails_noted k e d ((tells_failure c b k row.event.what (failure c b k row.event.what) refl past kb e).1 d))
 
   sending : (k : ℕ) (f : Fault) → WasCaused c k (errors.Dgram (query.Send f)) (after row past) → IsNoted k (errors.Dgram (query.Send f)) silenced
   sending k f w = go (row_was (IsCaused c k (errors.Dgram (query.Send f))) row past w)
@@ -374,29 +374,29 @@ module _ (c : Conf) (s : Settings) (past : History) (row : Row) (b b' : Books) (
       go (inl d) = wrong_noted k (cause_of c k past row.event.what (after row past) errors.WrongReplyForQuery (cause k errors.WrongReplyForQuery d))
       go (inr w) = from_past k errors.WrongReplyForQuery (kt.wrong k w)
 
-  tries_end : (k : ℕ) → TriesAreUp k (now (after row past)) past (after row past) → IsNoted k (errors.Dgram query.Timeout) silenced ⊎ TriesAreUp k (now (after row past)) (after row past) (after row past)
+  tries_end : (k : ℕ) → TriesAreUp c k (now (after row past)) past (after row past) → IsNoted k (errors.Dgram query.Timeout) silenced ⊎ TriesAreUp c k (now (after row past)) (after row past) (after row past)
   tries_end k d = go (row_lives row past d.last.place d.lived)
     where
       sent : SentOf k (listed d.last.place b'.sends.sent)
       sent = (let n = tried_named k d.server d.last (after row past) d.is_last in sent_of k n.0 (listed d.last.place b'.sends.sent) (subst (IsOneOf n.0) (sym (kb'.sends.names d.last.place k)) n.1))
 
-      go : Ending d.last.place row past → IsNoted k (errors.Dgram query.Timeout) silenced ⊎ TriesAreUp k (now (after row past)) (after row past) (after row past)
-      go (StillLive l) = inr (record { server = d.server; six = d.six; last = d.last; is_last = d.is_last; old = d.old; lived = l })
-      go (IsUnopened e) = inl (from_unopened k (errors.Dgram query.Timeout) (new_lost b b' k d.last.place (unopened_place row.event.what) failed e sent (so_tries k d)))
-      go (IsClosed i) = inl (from_closed k (errors.Dgram query.Timeout) (new_closed b b' k d.last.place row.outs unopened i sent (so_tries k d)))
+      go : Ending d.last.place row past → IsNoted k (errors.Dgram query.Timeout) silenced ⊎ TriesAreUp c k (now (after row past)) (after row past) (after row past)
+      go (StillLive l) = inr (record { server = d.server; all = d.all; last = d.last; is_last = d.is_last; old = d.old; lived = l })
+      go (IsUnopened e) = inl (from_unopened k (errors.Dgram query.Timeout) (new_lost c b b' k d.last.place (unopened_place row.event.what) failed e sent (so_tries k d)))
+      go (IsClosed i) = inl (from_closed k (errors.Dgram query.Timeout) (new_closed c b b' k d.last.place row.outs unopened i sent (so_tries k d)))
 
-  tries : (k : ℕ) → WasCaused c k (errors.Dgram query.Timeout) (after row past) → IsNoted k (errors.Dgram query.Timeout) silenced ⊎ TriesAreUp k (now (after row past)) (after row past) (after row past)
+  tries : (k : ℕ) → WasCaused c k (errors.Dgram query.Timeout) (after row past) → IsNoted k (errors.Dgram query.Timeout) silenced ⊎ TriesAreUp c k (now (after row past)) (after row past) (after row past)
   tries k w = go (row_was (IsCaused c k (errors.Dgram query.Timeout)) row past w)
     where
-      older : IsNoted k (errors.Dgram query.Timeout) t ⊎ TriesAreUp k (now past) past past → IsNoted k (errors.Dgram query.Timeout) silenced ⊎ TriesAreUp k (now (after row past)) (after row past) (after row past)
+      older : IsNoted k (errors.Dgram query.Timeout) t ⊎ TriesAreUp c k (now past) past past → IsNoted k (errors.Dgram query.Timeout) silenced ⊎ TriesAreUp c k (now (after row past)) (after row past) (after row past)
       older (inl i) = inl (from_past k (errors.Dgram query.Timeout) i)
       older (inr d) =
-          let six = six_stay c s past row right k d.server d.six in
+          let kept = all_stay c s past row right k d.server d.all in
           let l = time_goes_on row past in
           let o = d.old in
-          tries_end k (record { server = d.server; six = six.0; last = d.last; is_last = six.1 ∙ d.is_last; old = omega arith; lived = d.lived })
+          tries_end k (record { server = d.server; all = kept.0; last = d.last; is_last = kept.1 ∙ d.is_last; old = omega arith; lived = d.lived })
 
-      go : IsCaused c k (errors.Dgram query.Timeout) (after row past) ⊎ WasCaused c k (errors.Dgram query.Timeout) past → IsNoted k (errors.Dgram query.Timeout) silenced ⊎ TriesAreUp k (now (after row past)) (after row past) (after row past)
+      go : IsCaused c k (errors.Dgram query.Timeout) (after row past) ⊎ WasCaused c k (errors.Dgram query.Timeout) past → IsNoted k (errors.Dgram query.Timeout) silenced ⊎ TriesAreUp c k (now (after row past)) (after row past) (after row past)
       go (inl d) = tries_end k (cause_of c k past row.event.what (after row past) (errors.Dgram query.Timeout) (cause k (errors.Dgram query.Timeout) d))
       go (inr w) = older (kt.tries k w)
 
@@ -406,7 +406,7 @@ module _ (c : Conf) (s : Settings) (past : History) (row : Row) (b b' : Books) (
       let comes = subst (λ x. Comes c d.request Stream r d.place k d.id d.message x (newest (after row past)) (after row past)) (before_row row past) d.comes in
       let z : Coming = record { request = k; via = Stream; server = r; place = d.place; id = d.id; message = d.message; agrees = answers d.request d.id d.message } in
       let there = cs.back d.request Stream r d.place k d.id d.message refl comes in
-      new_all (λ x. x.request) (silent_of b b' heard) z errors.StreamReadTimeout xs wronged there (ap (λ a. if a then error errors.StreamReadTimeout else no_error) (so_silence k q))
+      new_all (λ x. x.request) (silent_of c b b' heard) z errors.StreamReadTimeout xs wronged there (ap (λ a. if a then error errors.StreamReadTimeout else no_error) (so_silence k q))
 
   silence_end : (k : ℕ) → StreamIsSilent c k (now (after row past)) past → IsNoted k errors.StreamReadTimeout silenced ⊎ StreamIsSilent c k (now (after row past)) (after row past)
   silence_end k d = go (heard_seen k d.server heard') refl
@@ -439,26 +439,27 @@ module _ (c : Conf) (s : Settings) (past : History) (row : Row) (b b' : Books) (
       go (inl d) = silence_end k (cause_of c k past row.event.what (after row past) errors.StreamReadTimeout (cause k errors.StreamReadTimeout d))
       go (inr w) = older (kt.silence k w)
 
-  pub noted_row : Known c (after row past) (after_row b b' heard row xs t)
+  pub noted_row : Known c (after row past) (after_row c b b' heard row xs t)
   noted_row = record { so = noted_so; sending = sending; receiving = receiving; wrong = wrong; tries = tries; silence = silence }
 
 nothing_caused : (c : Conf) (k : ℕ) (e : Error) → (ServerCause c k [] Tick [] e → ⊥) → WasCaused c k e [] → ⊥
 nothing_caused c k e f (inl d) = f d
 nothing_caused c k e f (inr n) = n
 
-never_fails : (k : ℕ) (e : Error) → Fails k [] Tick e → ⊥
-never_fails k _ (InSending f d) = (let z : Tick ≡ SendFailed d.place f = d.is_told in cc)
-never_fails k _ (InPart d) = (let z : Tick ≡ ShortSend d.place = d.is_told in cc)
-never_fails k _ (InReceiving f d) = (let z : Tick ≡ RecvFailed d.place f = d.is_told in cc)
+never_fails : (conf : Conf) (k : ℕ) (e : Error) → Fails conf k [] Tick e → ⊥
+never_fails conf k _ (InSending f d) = (let z : Tick ≡ SendFailed d.place f = d.is_told in cc)
+never_fails conf k _ (InPart d) = (let z : Tick ≡ ShortSend d.place = d.is_told in cc)
+never_fails conf k _ (InReceiving f d) = (let z : Tick ≡ RecvFailed d.place f = d.is_told in cc)
 
 pub goes_on : GoesOn
+unfolding max_tries
 goes_on = record {
   begins = λ c. record {
     so = λ k e i. absurd i;
-    sending = λ k f w. absurd (nothing_caused c k (errors.Dgram (query.Send f)) (λ d. never_fails k (errors.Dgram (query.Send f)) (cause_of c k [] Tick [] (errors.Dgram (query.Send f)) d)) w);
-    receiving = λ k f w. absurd (nothing_caused c k (errors.Dgram (query.Receive f)) (λ d. never_fails k (errors.Dgram (query.Receive f)) (cause_of c k [] Tick [] (errors.Dgram (query.Receive f)) d)) w);
+    sending = λ k f w. absurd (nothing_caused c k (errors.Dgram (query.Send f)) (λ d. never_fails c k (errors.Dgram (query.Send f)) (cause_of c k [] Tick [] (errors.Dgram (query.Send f)) d)) w);
+    receiving = λ k f w. absurd (nothing_caused c k (errors.Dgram (query.Receive f)) (λ d. never_fails c k (errors.Dgram (query.Receive f)) (cause_of c k [] Tick [] (errors.Dgram (query.Receive f)) d)) w);
     wrong = λ k w. absurd (nothing_caused c k errors.WrongReplyForQuery (λ d. (let q = cause_of c k [] Tick [] errors.WrongReplyForQuery d in let z : None ≡ Some q.message = q.comes.first in cc)) w);
-    tries = λ k w. absurd (nothing_caused c k (errors.Dgram query.Timeout) (λ d. (let q = cause_of c k [] Tick [] (errors.Dgram query.Timeout) d in let z : 0 ≡ 6 = q.six in cc)) w);
+    tries = λ k w. absurd (nothing_caused c k (errors.Dgram query.Timeout) (λ d. (let q = cause_of c k [] Tick [] (errors.Dgram query.Timeout) d in let z : 0 ≡ suc c.transports.dgram_max_retries = q.all in cc)) w);
     silence = λ k w. absurd (nothing_caused c k errors.StreamReadTimeout (λ d. (let q = cause_of c k [] Tick [] errors.StreamReadTimeout d in let z : None ≡ Some q.begun = q.is_begun in cc)) w);
   };
   row = λ c s past row b b' heard heard' xs t right kb kb' kd kd' cs kt. noted_row c s past row b b' heard heard' xs t right kb kb' kd kd' cs kt;

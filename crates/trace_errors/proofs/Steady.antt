@@ -1,4 +1,4 @@
--- What a row that is right leaves as it was: starts, six sends, and places that neither close nor fail to open.
+-- What a row that is right leaves as it was: starts, all sends that a server may get, and places that neither close nor fail to open.
 use Rattle.std.proofs.Common.{◌≡◌, ℕ, suc, ◌==◌, ◌<◌, ◌≤◌, ◌&&◌, ◌⊎◌, inl, inr, Bool, true, false, if◌then◌else◌, List, [], ◌∷◌, Option, Some, max, refl, sym, ap, ap₂, ◌∙◌, arith}
 use Rattle.std.specs.Prelude.{is_some}
 use Rattle.client_request.specs.declared.event.What.{What}
@@ -9,7 +9,7 @@ use Rattle.client_request.specs.declared.event.Row.{Row}
 use Rattle.client_request.specs.declared.event.Via.{Via}
 use Rattle.client_request.specs.declared.event.Via.TheVariants.{Dgram, Stream}
 use Rattle.right_trace.specs.Trace.{History, Conf, Came, Put, put_all, after}
-use Rattle.right_trace.specs.Time.{now, newest}
+use Rattle.right_trace.specs.Time.{now, newest, max_tries}
 use Rattle.right_trace.specs.Settings.{Settings}
 use Rattle.right_trace.specs.Requests.{same_via, start, started}
 use Rattle.right_trace.specs.Places.{is_at, Stand, Unused, Opening, Alive, Gone, stand, is_live, on_event, on_out, opened, failed, closed}
@@ -60,40 +60,40 @@ module _ (c : Conf) (s : Settings) (past : History) (w : What) (end : History) w
   out_starts h (Stale j) right k r t v e = e
   out_starts h (Reply j x) right k r t v e = e
 
-  abbrev SixStay : (k r : ℕ) (h g : History) → Type 0
-  SixStay k r h g = (sends k r g ≡ 6) × (last_try k r g ≡ last_try k r h)
+  abbrev AllStay : (k r : ℕ) (h g : History) → Type 0
+  AllStay k r h g = (sends k r g ≡ max_tries c) × (last_try k r g ≡ last_try k r h)
 
-  out_six : (h : History) (o : Out) → OutRight c s past w h end o → (k r : ℕ) → sends k r h ≡ 6 → SixStay k r h (Put o ∷ h)
-  out_six h (Send p j i o) right k r e = go (j == k) refl (is_at Dgram r p h) refl
+  out_all : (h : History) (o : Out) → OutRight c s past w h end o → (k r : ℕ) → sends k r h ≡ max_tries c → AllStay k r h (Put o ∷ h)
+  out_all h (Send p j i o) right k r e = go (j == k) refl (is_at Dgram r p h) refl
     where
       never : (j == k) ≡ true → is_at Dgram r p h ≡ true → ⊥
       never x y =
-          let l : sends j r h < 6 = right.1 r y in
-          let q : sends j r h ≡ 6 = ap (λ j. sends j r h) (same_number j k x) ∙ e in
+          let l : sends j r h < max_tries c = right.1 r y in
+          let q : sends j r h ≡ max_tries c = ap (λ j. sends j r h) (same_number j k x) ∙ e in
           omega arith
 
-      go : (a : Bool) → (j == k) ≡ a → (b : Bool) → is_at Dgram r p h ≡ b → ((if a && b then suc (sends k r h) else sends k r h) ≡ 6) × ((if a && b then Some (record { place = p; moment = now h }) else last_try k r h) ≡ last_try k r h)
+      go : (a : Bool) → (j == k) ≡ a → (b : Bool) → is_at Dgram r p h ≡ b → ((if a && b then suc (sends k r h) else sends k r h) ≡ max_tries c) × ((if a && b then Some (record { place = p; moment = now h }) else last_try k r h) ≡ last_try k r h)
       go true x true y = absurd (never x y)
       go true x false y = (e, refl)
       go false x b y = (e, refl)
-  out_six h (Start j q u) right k r e = (e, refl)
-  out_six h (OpenDgram p q) right k r e = (e, refl)
-  out_six h (OpenStream p q) right k r e = (e, refl)
-  out_six h (Write p j i o) right k r e = (e, refl)
-  out_six h (Resume p o) right k r e = (e, refl)
-  out_six h (Close p) right k r e = (e, refl)
-  out_six h (Stale j) right k r e = (e, refl)
-  out_six h (Reply j x) right k r e = (e, refl)
+  out_all h (Start j q u) right k r e = (e, refl)
+  out_all h (OpenDgram p q) right k r e = (e, refl)
+  out_all h (OpenStream p q) right k r e = (e, refl)
+  out_all h (Write p j i o) right k r e = (e, refl)
+  out_all h (Resume p o) right k r e = (e, refl)
+  out_all h (Close p) right k r e = (e, refl)
+  out_all h (Stale j) right k r e = (e, refl)
+  out_all h (Reply j x) right k r e = (e, refl)
 
   outs_start : (os : List Out) (h : History) → OutsRight c s past w end h os → (k r t : ℕ) (v : Via) → start k r v h ≡ Some t → start k r v (put_all os h) ≡ Some t
   outs_start [] h right k r t v e = e
   outs_start (o ∷ os) h right k r t v e = outs_start os (Put o ∷ h) right.1 k r t v (out_starts h o right.0 k r t v e)
 
-  outs_six : (os : List Out) (h : History) → OutsRight c s past w end h os → (k r : ℕ) → sends k r h ≡ 6 → SixStay k r h (put_all os h)
-  outs_six [] h right k r e = (e, refl)
-  outs_six (o ∷ os) h right k r e =
-      let a = out_six h o right.0 k r e in
-      let b = outs_six os (Put o ∷ h) right.1 k r a.0 in
+  outs_all : (os : List Out) (h : History) → OutsRight c s past w end h os → (k r : ℕ) → sends k r h ≡ max_tries c → AllStay k r h (put_all os h)
+  outs_all [] h right k r e = (e, refl)
+  outs_all (o ∷ os) h right k r e =
+      let a = out_all h o right.0 k r e in
+      let b = outs_all os (Put o ∷ h) right.1 k r a.0 in
       (b.0, b.1 ∙ a.1)
 
 -- by a row
@@ -101,8 +101,8 @@ module _ (c : Conf) (s : Settings) (past : History) (row : Row) (right : RowRigh
   pub starts_stay : (k r t : ℕ) (v : Via) → start k r v past ≡ Some t → start k r v (after row past) ≡ Some t
   starts_stay k r t v e = outs_start c s past row.event.what (after row past) row.outs (Came row.event ∷ past) right.outs k r t v e
 
-  pub six_stay : (k r : ℕ) → sends k r past ≡ 6 → (sends k r (after row past) ≡ 6) × (last_try k r (after row past) ≡ last_try k r past)
-  six_stay k r e = outs_six c s past row.event.what (after row past) row.outs (Came row.event ∷ past) right.outs k r e
+  pub all_stay : (k r : ℕ) → sends k r past ≡ max_tries c → (sends k r (after row past) ≡ max_tries c) × (last_try k r (after row past) ≡ last_try k r past)
+  all_stay k r e = outs_all c s past row.event.what (after row past) row.outs (Came row.event ∷ past) right.outs k r e
 
 pub time_goes_on : (row : Row) (past : History) → now past ≤ now (after row past)
 time_goes_on row past =

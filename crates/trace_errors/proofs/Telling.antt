@@ -63,21 +63,21 @@ module _ (c : Conf) (s : Settings) (b : Books) (heard : Heards) (t : Earlier) (k
   caused : (e : Error) → CauseOf c k (row_before x) (newest x) x e → WasCaused c k e x
   caused e d = inl (of_cause c k (row_before x) (newest x) x e d)
 
-  tries_so : tries_are_up k b.requests.clock b.places b ≡ true → WasCaused c k (errors.Dgram query.Timeout) x
+  tries_so : tries_are_up c k b.requests.clock b.places b ≡ true → WasCaused c k (errors.Dgram query.Timeout) x
   unfolding read_timeout
   tries_so e =
-      let d : TriesAreUp k (now x) x x = subst (λ n. TriesAreUp k n x x) kb.requests.time ((tells_tries k b.requests.clock b b (tries_are_up k b.requests.clock b.places b) refl x x kb kb).0 e) in
-      let o : d.last.moment + 5000000 ≤ now x = d.old in
-      caused (errors.Dgram query.Timeout) (record { server = d.server; six = d.six; last = d.last; is_last = d.is_last; old = d.old; lived = lived k d.server d.last x d.is_last (omega arith) d.lived })
+      let d : TriesAreUp c k (now x) x x = subst (λ n. TriesAreUp c k n x x) kb.requests.time ((tells_tries c k b.requests.clock b b (tries_are_up c k b.requests.clock b.places b) refl x x kb kb).0 e) in
+      let o : d.last.moment + read_timeout c ≤ now x = d.old in
+      caused (errors.Dgram query.Timeout) (record { server = d.server; all = d.all; last = d.last; is_last = d.is_last; old = d.old; lived = lived k d.server d.last x d.is_last (omega arith) d.lived })
 
-  so_tries : TriesAreUp k (now x) x x → tries_are_up k b.requests.clock b.places b ≡ true
-  so_tries d = (tells_tries k b.requests.clock b b (tries_are_up k b.requests.clock b.places b) refl x x kb kb).1 (subst (λ n. TriesAreUp k n x x) (sym kb.requests.time) d)
+  so_tries : TriesAreUp c k (now x) x x → tries_are_up c k b.requests.clock b.places b ≡ true
+  so_tries d = (tells_tries c k b.requests.clock b b (tries_are_up c k b.requests.clock b.places b) refl x x kb kb).1 (subst (λ n. TriesAreUp c k n x x) (sym kb.requests.time) d)
 
-  silence_so : stream_is_silent k b.requests.clock b.requests heard ≡ true → WasCaused c k errors.StreamReadTimeout x
+  silence_so : stream_is_silent c k b.requests.clock b.requests heard ≡ true → WasCaused c k errors.StreamReadTimeout x
   unfolding stream_timeout
   silence_so e =
-      let d : StreamIsSilent c k (now x) x = subst (λ n. StreamIsSilent c k n x) kb.requests.time ((tells_silence c k b.requests.clock b heard (stream_is_silent k b.requests.clock b.requests heard) refl x kb kd).0 e) in
-      let o : d.begun + 30000000 ≤ now x = d.passed in
+      let d : StreamIsSilent c k (now x) x = subst (λ n. StreamIsSilent c k n x) kb.requests.time ((tells_silence c k b.requests.clock b heard (stream_is_silent c k b.requests.clock b.requests heard) refl x kb kd).0 e) in
+      let o : d.begun + stream_timeout c ≤ now x = d.passed in
       caused errors.StreamReadTimeout (record {
         server = d.server;
         begun = d.begun;
@@ -86,28 +86,28 @@ module _ (c : Conf) (s : Settings) (b : Books) (heard : Heards) (t : Earlier) (k
         silent = λ w. d.silent (inr (so_earlier (Heard c k d.server) (unheard_first c k d.server) x w));
       })
 
-  so_silence : StreamIsSilent c k (now x) x → stream_is_silent k b.requests.clock b.requests heard ≡ true
-  so_silence d = (tells_silence c k b.requests.clock b heard (stream_is_silent k b.requests.clock b.requests heard) refl x kb kd).1 (subst (λ n. StreamIsSilent c k n x) (sym kb.requests.time) d)
+  so_silence : StreamIsSilent c k (now x) x → stream_is_silent c k b.requests.clock b.requests heard ≡ true
+  so_silence d = (tells_silence c k b.requests.clock b heard (stream_is_silent c k b.requests.clock b.requests heard) refl x kb kd).1 (subst (λ n. StreamIsSilent c k n x) (sym kb.requests.time) d)
 
-  lost_so : IsLost k t.noted b → WasCaused c k (errors.Dgram query.Timeout) x
+  lost_so : IsLost c k t.noted b → WasCaused c k (errors.Dgram query.Timeout) x
   lost_so (inl i) = kt.noted.so k (errors.Dgram query.Timeout) i
   lost_so (inr e) = tries_so e
 
-  so_lost : WasCaused c k (errors.Dgram query.Timeout) x → IsLost k t.noted b
+  so_lost : WasCaused c k (errors.Dgram query.Timeout) x → IsLost c k t.noted b
   so_lost w = go (kt.noted.tries k w)
     where
-      go : IsNoted k (errors.Dgram query.Timeout) t.noted ⊎ TriesAreUp k (now x) x x → IsLost k t.noted b
+      go : IsNoted k (errors.Dgram query.Timeout) t.noted ⊎ TriesAreUp c k (now x) x x → IsLost c k t.noted b
       go (inl i) = inl i
       go (inr d) = inr (so_tries d)
 
-  silent_so : IsSilent k t.noted b heard → WasCaused c k errors.StreamReadTimeout x
+  silent_so : IsSilent c k t.noted b heard → WasCaused c k errors.StreamReadTimeout x
   silent_so (inl i) = kt.noted.so k errors.StreamReadTimeout i
   silent_so (inr e) = silence_so e
 
-  so_silent : WasCaused c k errors.StreamReadTimeout x → IsSilent k t.noted b heard
+  so_silent : WasCaused c k errors.StreamReadTimeout x → IsSilent c k t.noted b heard
   so_silent w = go (kt.noted.silence k w)
     where
-      go : IsNoted k errors.StreamReadTimeout t.noted ⊎ StreamIsSilent c k (now x) x → IsSilent k t.noted b heard
+      go : IsNoted k errors.StreamReadTimeout t.noted ⊎ StreamIsSilent c k (now x) x → IsSilent c k t.noted b heard
       go (inl i) = inl i
       go (inr d) = inr (so_silence d)
 
@@ -120,7 +120,7 @@ module _ (c : Conf) (s : Settings) (b : Books) (heard : Heards) (t : Earlier) (k
   nobody : (e : Error) → ((g : History) → CauseOf c k (row_before g) (newest g) g e → ⊥) → (a : Bool) → a ≡ false → Tells (WasCaused c k e x) a
   nobody e f a q = tells_never a q (never c k e f x)
 
-  answered : (e : Error) (a : Bool) → AnswersFor b heard t k e a → Tells (WasCaused c k e x) a
+  answered : (e : Error) (a : Bool) → AnswersFor c b heard t k e a → Tells (WasCaused c k e x) a
   answered (errors.Dgram (query.Connect f)) a q = tells_same a (kt.openings.so k f) (kt.openings.back k f) q
   answered (errors.Dgram (query.Send f)) a q = tells_same a (kt.noted.so k (errors.Dgram (query.Send f))) (kt.noted.sending k f) q
   answered (errors.Dgram (query.Receive f)) a q = tells_same a (kt.noted.so k (errors.Dgram (query.Receive f))) (kt.noted.receiving k f) q
@@ -148,8 +148,8 @@ module _ (c : Conf) (s : Settings) (b : Books) (heard : Heards) (t : Earlier) (k
   answered errors.AlreadyDone a q = nobody errors.AlreadyDone (λ g d. d) a q
   answered errors.Failed a q = nobody errors.Failed (λ g d. d) a q
 
-pub tells_earlier : (b : Books) (heard : Heards) (t : Earlier) (k : ℕ) (e : Error) (a : Bool) → AnswersFor b heard t k e a → TellsEarlier b heard t k e a
-tells_earlier b heard t k e a q c s x kb kd kt = answered c s b heard t k x kb kd kt e a q
+pub tells_earlier : (conf : Conf) (b : Books) (heard : Heards) (t : Earlier) (k : ℕ) (e : Error) (a : Bool) → AnswersFor conf b heard t k e a → TellsEarlier conf b heard t k e a
+tells_earlier conf b heard t k e a q s x kb kd kt = answered conf s b heard t k x kb kd kt e a q
 
 pub goes_on : GoesOn
 goes_on = record {

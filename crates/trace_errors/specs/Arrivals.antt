@@ -56,9 +56,9 @@ abbrev pub is_unkept_later : Settings → List (ℕ × Asking) → Coming → Bo
 is_unkept_later s askings x = is_deferred s x.message && is_unkept s askings x
 
 -- what a row makes of it, over what was known before it and what is known behind it, and by what came in it
-abbrev pub after_row : Settings → (past : Ledger) → Timers → (here : Ledger) → Here → List Coming → Arrivals → Arrivals
-after_row s l t l' o xs a = record {
-  came = come (excused_in l'.frames.brought l'.books.requests.clock l t l' o) xs a.came;
+abbrev pub after_row : (c : Conf) → Settings → (past : Ledger) → Timers → (here : Ledger) → Here → List Coming → Arrivals → Arrivals
+after_row c s l t l' o xs a = record {
+  came = come (excused_in c l'.frames.brought l'.books.requests.clock l t l' o) xs a.came;
   unkept = mark_all (is_unkept_later s l.books.requests.askings) xs a.unkept;
 }
 
@@ -81,6 +81,6 @@ pub record Known (c : Conf) (s : Settings) (h : History) (t : Arrivals) : Type 0
 -- it is known before the first row, and goes on over rows
 pub record GoesOn : Type 0 where
   pub begins : (c : Conf) (s : Settings) → Known c s [] nothing
-  pub row : (c : Conf) (s : Settings) (past : History) (row : Row) (l l' : Ledger) (t : Timers) (o : Here) (xs : List Coming) (a : Arrivals) → ledger.Known past l → ledger.Known (after row past) l' → timers.Known past t
+  pub row : (c : Conf) (s : Settings) (past : History) (row : Row) (l l' : Ledger) (t : Timers) (o : Here) (xs : List Coming) (a : Arrivals) → ledger.Known past l → ledger.Known (after row past) l' → timers.Known c past t
       → here_outs.Known l.books.places (after row past) o → AllComing c None past (after row past) xs → Known c s past a
-      → Known c s (after row past) (after_row s l t l' o xs a)
+      → Known c s (after row past) (after_row c s l t l' o xs a)

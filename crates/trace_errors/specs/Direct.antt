@@ -43,11 +43,11 @@ HasOther c s past here t w xs k errors.MessageParseError = IsWithoutValidity s p
 HasOther c s past here t w xs k _ = ⊥
 
 -- a server gave the error here, or it was deferred and given in a row before
-pub record ByServers (s : Settings) (past : Books) (heard : Heards) (here : Books) (t : Earlier) (w : What) (xs : List Coming) (k : ℕ) (e : Error) (b : Bool) : Type 0 where
+pub record ByServers (c : Conf) (s : Settings) (past : Books) (heard : Heards) (here : Books) (t : Earlier) (w : What) (xs : List Coming) (k : ℕ) (e : Error) (b : Bool) : Type 0 where
   pub now : Bool
   pub before : Bool
-  pub told : TellsServer past heard here w xs k e now
-  pub was : TellsEarlier past heard t k e before
+  pub told : TellsServer c past heard here w xs k e now
+  pub was : TellsEarlier c past heard t k e before
   pub is : b ≡ (now || (s.defers_errors && before))
 
 -- either of both
@@ -55,7 +55,7 @@ pub record IsDirect (c : Conf) (s : Settings) (past : Books) (heard : Heards) (h
   pub other : Bool
   pub by_server : Bool
   pub has_other : Tells (HasOther c s past here t w xs k e) other
-  pub servers : ByServers s past heard here t w xs k e by_server
+  pub servers : ByServers c s past heard here t w xs k e by_server
   pub is : b ≡ (other || by_server)
 
 -- the answer, of every two histories that the tables know, the first before the row of the second, where all that came for the request in the row is among these

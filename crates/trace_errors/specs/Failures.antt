@@ -19,23 +19,23 @@ use Rattle.trace_promptness.specs.Heard as heards
 use Rattle.trace_promptness.specs.Overdue.{tries_are_up, stream_is_silent}
 
 -- an event tells a request of this error in sending or receiving
-abbrev pub TellsFails : (past : Books) → (k : ℕ) → What → Error → Bool → Type 0
-TellsFails past k w e b = (x : History) → books.Known x past → Tells (Fails k x w e) b
+abbrev pub TellsFails : (c : Conf) (past : Books) → (k : ℕ) → What → Error → Bool → Type 0
+TellsFails c past k w e b = (x : History) → books.Known x past → Tells (Fails c k x w e) b
 
 -- what an answer is for each error
-abbrev pub AnswersFor : (past : Books) → Heards → (here : Books) → What → List Coming → (k : ℕ) → Error → Bool → Type 0
-AnswersFor past heard here w xs k (errors.Dgram (query.Connect f)) b = Tells (opening_fault past.places here.places here.requests k w ≡ Some f) b
-AnswersFor past heard here w xs k (errors.Dgram (query.Send f)) b = TellsFails past k w (errors.Dgram (query.Send f)) b
-AnswersFor past heard here w xs k (errors.Dgram (query.Receive f)) b = TellsFails past k w (errors.Dgram (query.Receive f)) b
-AnswersFor past heard here w xs k (errors.Dgram query.Timeout) b = b ≡ tries_are_up k here.requests.clock past.places here
-AnswersFor past heard here w xs k errors.WrongReplyForQuery b = b ≡ some_wrong k xs
-AnswersFor past heard here w xs k errors.StreamReadTimeout b = b ≡ stream_is_silent k here.requests.clock past.requests heard
-AnswersFor past heard here w xs k errors.MessageParseError b = TellsUnread k here b
-AnswersFor past heard here w xs k errors.MessageBuilderPushError b = TellsTooMany k here b
-AnswersFor past heard here w xs k _ b = b ≡ false
+abbrev pub AnswersFor : (c : Conf) (past : Books) → Heards → (here : Books) → What → List Coming → (k : ℕ) → Error → Bool → Type 0
+AnswersFor c past heard here w xs k (errors.Dgram (query.Connect f)) b = Tells (opening_fault past.places here.places here.requests k w ≡ Some f) b
+AnswersFor c past heard here w xs k (errors.Dgram (query.Send f)) b = TellsFails c past k w (errors.Dgram (query.Send f)) b
+AnswersFor c past heard here w xs k (errors.Dgram (query.Receive f)) b = TellsFails c past k w (errors.Dgram (query.Receive f)) b
+AnswersFor c past heard here w xs k (errors.Dgram query.Timeout) b = b ≡ tries_are_up c k here.requests.clock past.places here
+AnswersFor c past heard here w xs k errors.WrongReplyForQuery b = b ≡ some_wrong k xs
+AnswersFor c past heard here w xs k errors.StreamReadTimeout b = b ≡ stream_is_silent c k here.requests.clock past.requests heard
+AnswersFor c past heard here w xs k errors.MessageParseError b = TellsUnread k here b
+AnswersFor c past heard here w xs k errors.MessageBuilderPushError b = TellsTooMany k here b
+AnswersFor c past heard here w xs k _ b = b ≡ false
 
 -- the answer, of every two histories that the tables know, where all that came for the request in the row is among these
-abbrev pub TellsServer : (past : Books) → Heards → (here : Books) → What → List Coming → (k : ℕ) → Error → Bool → Type 0
-TellsServer past heard here w xs k e b =
-    (c : Conf) (want : Option ℕ) (x h : History) → books.Known x past → heards.Known c x heard → books.Known h here → newest h ≡ w → is_wanted want k ≡ true → AllComing c want x h xs
+abbrev pub TellsServer : (c : Conf) (past : Books) → Heards → (here : Books) → What → List Coming → (k : ℕ) → Error → Bool → Type 0
+TellsServer c past heard here w xs k e b =
+    (want : Option ℕ) (x h : History) → books.Known x past → heards.Known c x heard → books.Known h here → newest h ≡ w → is_wanted want k ≡ true → AllComing c want x h xs
     → Tells (ServerCause c k x w h e) b

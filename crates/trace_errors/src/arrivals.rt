@@ -14,6 +14,7 @@ use trace_due::Timers;
 use trace_exchanges::Coming;
 use trace_frames::{Here, Ledger};
 use trace_promptness::{TraceSettings, is_passed_over};
+use trace_questions::TraceConf;
 use trace_tables::{Asked, Place};
 
 /// Requests that messages came for, each with nothing.
@@ -54,14 +55,20 @@ fn is_stream(places: &NumberTable<Place>, place: u64) -> bool
 /// Whether what came in the row may be passed over: its place, a stream, was closed in the row, and its read timer was due then.
 /// `past` and `timers` are what was known before the row, `ledger` is what is known here, and `here` what the row's outs made of
 /// places.
-pub fn is_excused(past: &Ledger, timers: &Timers, ledger: &Ledger, here: &Here) -> bool
-    ensures { result ≡ excused_in ledger.now.frames.brought ledger.now.books.requests.clock past.now timers.now ledger.now here.now }
+pub fn is_excused(
+    conf: &TraceConf,
+    past: &Ledger,
+    timers: &Timers,
+    ledger: &Ledger,
+    here: &Here,
+) -> bool
+    ensures { result ≡ excused_in conf.now ledger.now.frames.brought ledger.now.books.requests.clock past.now timers.now ledger.now here.now }
 {
     match &ledger.frames.brought {
         None => false,
         Some(brought) => {
             let moment = ledger.books.requests.clock;
-            is_passed_over(past, timers, here, brought.place, moment)
+            is_passed_over(conf, past, timers, here, brought.place, moment)
                 && is_stream(&ledger.books.places, brought.place)
         }
     }
@@ -170,6 +177,7 @@ impl Arrivals {
     /// behind it, and `here` what its outs made of places.
     pub fn take(
         &mut self,
+        conf: &TraceConf,
         settings: &TraceSettings,
         past: &Ledger,
         timers: &Timers,
@@ -177,9 +185,9 @@ impl Arrivals {
         here: &Here,
         comings: &[Coming],
     ) -> Result<(), NoMemory>
-        ensures { OnOk result (self.new ≡ plain.after_row settings.now past.now timers.now ledger.now here.now comings.now self.old) }
+        ensures { OnOk result (self.new ≡ plain.after_row conf.now settings.now past.now timers.now ledger.now here.now comings.now self.old) }
     {
-        let excused = is_excused(past, timers, ledger, here);
+        let excused = is_excused(conf, past, timers, ledger, here);
         come(&mut self.came, excused, comings)?;
         mark_unkept(
             &mut self.unkept,

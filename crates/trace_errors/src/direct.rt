@@ -10,14 +10,13 @@ use crate::failures::server_cause;
 use client_request::{Error, What};
 use dns_base::NoMemory;
 use number_table::NumberTable;
-use std::alloc::Global;
 use trace_exchanges::Coming;
 use trace_promptness::{Heards, TraceSettings};
 use trace_questions::TraceConf;
 use trace_tables::{Asked, Books};
 
-/// Whether the row asks a request.
-fn is_asked_here(past: &Books, what: &What, request: u64) -> bool
+/// Whether a row with this event asks a request: `past` is what was known before it.
+pub fn is_asked_here(past: &Books, what: &What, request: u64) -> bool
     ensures { result ≡ plain.asked_here request what.now past.now }
 {
     matches!(what, What::Ask { .. }) && past.requests.asked == request
@@ -84,7 +83,7 @@ fn has_other(
 
 /// Whether a server gives the error here, or gave it in a row before and it was deferred.
 fn is_by_server(
-    alloc: Global,
+    conf: &TraceConf,
     settings: &TraceSettings,
     past: &Books,
     heard: &Heards,
@@ -95,10 +94,10 @@ fn is_by_server(
     request: u64,
     error: Error,
 ) -> Result<bool, NoMemory>
-    ensures { IfOk result (plain.ByServers settings.now past.now heard.now here.now earlier.now what.now comings.now request error) }
+    ensures { IfOk result (plain.ByServers conf.now settings.now past.now heard.now here.now earlier.now what.now comings.now request error) }
 {
-    let now = server_cause(alloc, past, heard, here, what, comings, request, error)?;
-    let before = earlier.was_caused(past, heard, request, error);
+    let now = server_cause(conf, past, heard, here, what, comings, request, error)?;
+    let before = earlier.was_caused(conf, past, heard, request, error);
     Ok(now || (settings.defers_errors() && before))
 }
 
@@ -107,7 +106,6 @@ fn is_by_server(
 /// `earlier` are what was known before the row, `here` is what is known where the error is given, and `comings` all that came for
 /// the request by there.
 pub fn direct_cause(
-    alloc: Global,
     conf: &TraceConf,
     settings: &TraceSettings,
     past: &Books,
@@ -122,12 +120,11 @@ pub fn direct_cause(
     ensures { IfOk result (plain.TellsDirect conf.now settings.now past.now heard.now here.now earlier.now what.now comings.now request error) }
 {
     find_direct(
-        alloc, conf, settings, past, heard, here, earlier, what, comings, request, error,
+        conf, settings, past, heard, here, earlier, what, comings, request, error,
     )
 }
 
 fn find_direct(
-    alloc: Global,
     conf: &TraceConf,
     settings: &TraceSettings,
     past: &Books,
@@ -145,7 +142,7 @@ fn find_direct(
         conf, settings, past, here, earlier, what, comings, request, error,
     )?;
     let by_server = is_by_server(
-        alloc, settings, past, heard, here, earlier, what, comings, request, error,
+        conf, settings, past, heard, here, earlier, what, comings, request, error,
     )?;
     Ok(other || by_server)
 }

@@ -17,6 +17,7 @@ use trace_due::Timers;
 use trace_exchanges::Coming;
 use trace_frames::{Here, Ledger};
 use trace_promptness::{Heards, TraceSettings, are_tries_up, is_stream_silent};
+use trace_questions::TraceConf;
 use trace_tables::Books;
 
 /// What is known of rows that are done, for causes of errors.
@@ -40,23 +41,23 @@ impl Drop for Earlier {
 }
 
 /// Whether a request's tries were up in a row that is done.
-fn is_lost(noted: &Noted, past: &Books, request: u64) -> bool
-    ensures { Tells (plain.IsLost request noted.now past.now) result }
+fn is_lost(conf: &TraceConf, noted: &Noted, past: &Books, request: u64) -> bool
+    ensures { Tells (plain.IsLost conf.now request noted.now past.now) result }
 {
     if is_noted(noted, request, Failing::Lost) {
         return true;
     }
-    are_tries_up(past, past, request, past.requests.clock)
+    are_tries_up(conf, past, past, request, past.requests.clock)
 }
 
 /// Whether a stream left a request without a message for long in a row that is done.
-fn is_silent(noted: &Noted, past: &Books, heard: &Heards, request: u64) -> bool
-    ensures { Tells (plain.IsSilent request noted.now past.now heard.now) result }
+fn is_silent(conf: &TraceConf, noted: &Noted, past: &Books, heard: &Heards, request: u64) -> bool
+    ensures { Tells (plain.IsSilent conf.now request noted.now past.now heard.now) result }
 {
     if is_noted(noted, request, Failing::Silent) {
         return true;
     }
-    is_stream_silent(&past.requests, heard, request, past.requests.clock)
+    is_stream_silent(conf, &past.requests, heard, request, past.requests.clock)
 }
 
 impl Earlier {
@@ -75,7 +76,7 @@ impl Earlier {
     /// known behind it, and `here` what its outs made of places.
     pub fn take(
         &mut self,
-        alloc: Global,
+        conf: &TraceConf,
         settings: &TraceSettings,
         past: &Ledger,
         timers: &Timers,
@@ -85,14 +86,14 @@ impl Earlier {
         row: &Row,
         comings: &[Coming],
     ) -> Result<(), NoMemory>
-        ensures { OnOk result (self.new ≡ plain.after_row settings.now past.now timers.now heard.now ledger.now here.now row.now comings.now self.old) }
+        ensures { OnOk result (self.new ≡ plain.after_row conf.now settings.now past.now timers.now heard.now ledger.now here.now row.now comings.now self.old) }
     {
         let Ledger { books, .. } = ledger;
         self.openings
-            .take(alloc, &past.books.places, &books.places, row)?;
+            .take(conf.alloc(), &past.books.places, &books.places, row)?;
         note_row(
+            conf,
             &mut self.noted,
-            alloc,
             &past.books,
             heard,
             books,
@@ -100,11 +101,18 @@ impl Earlier {
             comings,
         )?;
         self.arrivals
-            .take(settings, past, timers, ledger, here, comings)
+            .take(conf, settings, past, timers, ledger, here, comings)
     }
 
-    fn find(&self, past: &Books, heard: &Heards, request: u64, error: Error) -> bool
-        ensures { plain.AnswersFor past.now heard.now self.now request error result }
+    fn find(
+        &self,
+        conf: &TraceConf,
+        past: &Books,
+        heard: &Heards,
+        request: u64,
+        error: Error,
+    ) -> bool
+        ensures { plain.AnswersFor conf.now past.now heard.now self.now request error result }
     {
         match error {
             Error::Dgram(QueryError::Connect(fault)) => self.openings.is_refused(request, fault),
@@ -114,9 +122,9 @@ impl Earlier {
             Error::Dgram(QueryError::Receive(fault)) => {
                 is_noted(&self.noted, request, Failing::Receiving(fault))
             }
-            Error::Dgram(QueryError::Timeout) => is_lost(&self.noted, past, request),
+            Error::Dgram(QueryError::Timeout) => is_lost(conf, &self.noted, past, request),
             Error::WrongReplyForQuery => is_noted(&self.noted, request, Failing::Wrong),
-            Error::StreamReadTimeout => is_silent(&self.noted, past, heard, request),
+            Error::StreamReadTimeout => is_silent(conf, &self.noted, past, heard, request),
             Error::MessageParseError => is_unread(past, request),
             Error::MessageBuilderPushError => has_too_many(past, request),
             _ => false,
@@ -125,9 +133,16 @@ impl Earlier {
 
     /// Whether a server gave a request this error in a row that is done, and it had its cause there: `past` and `heard` are what
     /// is known behind those rows.
-    pub fn was_caused(&self, past: &Books, heard: &Heards, request: u64, error: Error) -> bool
-        ensures { plain.TellsEarlier past.now heard.now self.now request error result }
+    pub fn was_caused(
+        &self,
+        conf: &TraceConf,
+        past: &Books,
+        heard: &Heards,
+        request: u64,
+        error: Error,
+    ) -> bool
+        ensures { plain.TellsEarlier conf.now past.now heard.now self.now request error result }
     {
-        self.find(past, heard, request, error)
+        self.find(conf, past, heard, request, error)
     }
 }

@@ -9,11 +9,10 @@ ghost use Rattle.trace_errors.specs.Failures as plain;
 use crate::failing::Failing;
 use client_request::{Error, Fault, QueryError, What};
 use dns_base::NoMemory;
-use std::alloc::Global;
 use trace_causes::{came_wrong, failure, has_too_many, is_unread};
 use trace_exchanges::Coming;
 use trace_promptness::{Heards, are_tries_up, is_stream_silent};
-use trace_questions::opening_fault;
+use trace_questions::{TraceConf, opening_fault};
 use trace_tables::Books;
 
 /// Whether this error is found.
@@ -30,15 +29,15 @@ fn is_error(found: Option<Error>, wanted: Failing) -> bool
 /// Whether an event tells a request of an error in sending or receiving.
 #[tactic(auto, using(crate::proofs::Caused::tells_failed))]
 fn has_failed(
-    alloc: Global,
+    conf: &TraceConf,
     past: &Books,
     what: &What,
     request: u64,
     wanted: Failing,
 ) -> Result<bool, NoMemory>
-    ensures { IfOk result (plain.TellsFails past.now request what.now (error_of wanted)) }
+    ensures { IfOk result (plain.TellsFails conf.now past.now request what.now (error_of wanted)) }
 {
-    let found = failure(alloc, past, what, request)?;
+    let found = failure(conf, past, what, request)?;
     Ok(is_error(found, wanted))
 }
 
@@ -50,7 +49,7 @@ fn has_not_opened(past: &Books, here: &Books, what: &What, request: u64, fault: 
 }
 
 fn find(
-    alloc: Global,
+    conf: &TraceConf,
     past: &Books,
     heard: &Heards,
     here: &Books,
@@ -59,7 +58,7 @@ fn find(
     request: u64,
     error: Error,
 ) -> Result<bool, NoMemory>
-    ensures { IfOk result (plain.AnswersFor past.now heard.now here.now what.now comings.now request error) }
+    ensures { IfOk result (plain.AnswersFor conf.now past.now heard.now here.now what.now comings.now request error) }
 {
     let moment = here.requests.clock;
     match error {
@@ -67,14 +66,20 @@ fn find(
             Ok(has_not_opened(past, here, what, request, fault))
         }
         Error::Dgram(QueryError::Send(fault)) => {
-            has_failed(alloc, past, what, request, Failing::Sending(fault))
+            has_failed(conf, past, what, request, Failing::Sending(fault))
         }
         Error::Dgram(QueryError::Receive(fault)) => {
-            has_failed(alloc, past, what, request, Failing::Receiving(fault))
+            has_failed(conf, past, what, request, Failing::Receiving(fault))
         }
-        Error::Dgram(QueryError::Timeout) => Ok(are_tries_up(past, here, request, moment)),
+        Error::Dgram(QueryError::Timeout) => Ok(are_tries_up(conf, past, here, request, moment)),
         Error::WrongReplyForQuery => Ok(came_wrong(request, comings)),
-        Error::StreamReadTimeout => Ok(is_stream_silent(&past.requests, heard, request, moment)),
+        Error::StreamReadTimeout => Ok(is_stream_silent(
+            conf,
+            &past.requests,
+            heard,
+            request,
+            moment,
+        )),
         Error::MessageParseError => Ok(is_unread(here, request)),
         Error::MessageBuilderPushError => Ok(has_too_many(here, request)),
         _ => Ok(false),
@@ -85,7 +90,7 @@ fn find(
 /// are what was known before the row, `here` is what is known where the error is given, and `comings` all that came for the
 /// request by there.
 pub fn server_cause(
-    alloc: Global,
+    conf: &TraceConf,
     past: &Books,
     heard: &Heards,
     here: &Books,
@@ -94,7 +99,7 @@ pub fn server_cause(
     request: u64,
     error: Error,
 ) -> Result<bool, NoMemory>
-    ensures { IfOk result (plain.TellsServer past.now heard.now here.now what.now comings.now request error) }
+    ensures { IfOk result (plain.TellsServer conf.now past.now heard.now here.now what.now comings.now request error) }
 {
-    find(alloc, past, heard, here, what, comings, request, error)
+    find(conf, past, heard, here, what, comings, request, error)
 }

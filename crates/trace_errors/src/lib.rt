@@ -25,7 +25,7 @@ mod noted;
 mod openings;
 
 pub use arrivals::{Arrivals, is_excused, is_unkept, matches};
-pub use direct::direct_cause;
+pub use direct::{direct_cause, is_asked_here};
 pub use earlier::Earlier;
 pub use failing::Failing;
 pub use failures::server_cause;

@@ -15,6 +15,7 @@ use std::alloc::Global;
 use trace_causes::failure;
 use trace_exchanges::Coming;
 use trace_promptness::{Heards, are_tries_up, is_stream_silent};
+use trace_questions::TraceConf;
 use trace_tables::{Books, Newest, Sent, add};
 
 /// The errors, by request.
@@ -67,44 +68,44 @@ fn closed_place(out: &Out) -> Option<u64>
 
 /// An error of each request that was sent where a fault is told.
 fn note_failures(
+    conf: &TraceConf,
     noted: &mut Noted,
-    alloc: Global,
     past: &Books,
     what: &What,
     sends: &Newest<Sent>,
 ) -> Result<(), NoMemory>
-    ensures { OnOk result (noted.new ≡ plain.note_all (λ x. x.request) (λ x. failure past.now x.request what.now) sends.now noted.old) }
+    ensures { OnOk result (noted.new ≡ plain.note_all (λ x. x.request) (λ x. failure conf.now past.now x.request what.now) sends.now noted.old) }
 {
     for sent in sends {
-        let error = failure(alloc, past, what, sent.request)?;
-        note(noted, alloc, sent.request, error)?;
+        let error = failure(conf, past, what, sent.request)?;
+        note(noted, conf.alloc(), sent.request, error)?;
     }
     Ok(())
 }
 
 fn note_failed(
+    conf: &TraceConf,
     noted: &mut Noted,
-    alloc: Global,
     past: &Books,
     what: &What,
     place: Option<u64>,
 ) -> Result<(), NoMemory>
-    ensures { OnOk result (noted.new ≡ plain.note_failed past.now what.now place noted.old) }
+    ensures { OnOk result (noted.new ≡ plain.note_failed conf.now past.now what.now place noted.old) }
 {
     let Some(place) = place else {
         return Ok(());
     };
     match past.sends.sent.get(place) {
         None => Ok(()),
-        Some(sends) => note_failures(noted, alloc, past, what, sends),
+        Some(sends) => note_failures(conf, noted, past, what, sends),
     }
 }
 
 /// The error of a request whose tries are up.
-fn lost(past: &Books, here: &Books, request: u64) -> Option<Error>
-    ensures { result ≡ plain.lost past.now here.now request }
+fn lost(conf: &TraceConf, past: &Books, here: &Books, request: u64) -> Option<Error>
+    ensures { result ≡ plain.lost conf.now past.now here.now request }
 {
-    if are_tries_up(past, here, request, here.requests.clock) {
+    if are_tries_up(conf, past, here, request, here.requests.clock) {
         Some(Error::Dgram(QueryError::Timeout))
     } else {
         None
@@ -112,50 +113,51 @@ fn lost(past: &Books, here: &Books, request: u64) -> Option<Error>
 }
 
 fn note_losses(
+    conf: &TraceConf,
     noted: &mut Noted,
-    alloc: Global,
     past: &Books,
     here: &Books,
     sends: &Newest<Sent>,
 ) -> Result<(), NoMemory>
-    ensures { OnOk result (noted.new ≡ plain.note_all (λ x. x.request) (λ x. plain.lost past.now here.now x.request) sends.now noted.old) }
+    ensures { OnOk result (noted.new ≡ plain.note_all (λ x. x.request) (λ x. plain.lost conf.now past.now here.now x.request) sends.now noted.old) }
 {
     for sent in sends {
-        note(noted, alloc, sent.request, lost(past, here, sent.request))?;
+        let error = lost(conf, past, here, sent.request);
+        note(noted, conf.alloc(), sent.request, error)?;
     }
     Ok(())
 }
 
 /// An error of each request that was sent at a place that ends, and whose tries are up.
 fn note_lost(
+    conf: &TraceConf,
     noted: &mut Noted,
-    alloc: Global,
     past: &Books,
     here: &Books,
     place: Option<u64>,
 ) -> Result<(), NoMemory>
-    ensures { OnOk result (noted.new ≡ plain.note_lost past.now here.now place noted.old) }
+    ensures { OnOk result (noted.new ≡ plain.note_lost conf.now past.now here.now place noted.old) }
 {
     let Some(place) = place else {
         return Ok(());
     };
     match here.sends.sent.get(place) {
         None => Ok(()),
-        Some(sends) => note_losses(noted, alloc, past, here, sends),
+        Some(sends) => note_losses(conf, noted, past, here, sends),
     }
 }
 
 fn note_closed(
+    conf: &TraceConf,
     noted: &mut Noted,
-    alloc: Global,
     past: &Books,
     here: &Books,
     outs: &[Out],
 ) -> Result<(), NoMemory>
-    ensures { OnOk result (noted.new ≡ plain.note_closed past.now here.now outs.now noted.old) }
+    ensures { OnOk result (noted.new ≡ plain.note_closed conf.now past.now here.now outs.now noted.old) }
 {
     for out in outs {
-        note_lost(noted, alloc, past, here, closed_place(out))?;
+        note_lost(conf, noted, past, here, closed_place(out))?;
     }
     Ok(())
 }
@@ -171,12 +173,18 @@ fn wrong_of(coming: &Coming) -> Option<Error>
 }
 
 /// The error of a request that a message comes for by stream, after some server left it without one for long.
-fn silent_of(past: &Books, here: &Books, heard: &Heards, coming: &Coming) -> Option<Error>
-    ensures { result ≡ plain.silent_of past.now here.now heard.now coming.now }
+fn silent_of(
+    conf: &TraceConf,
+    past: &Books,
+    here: &Books,
+    heard: &Heards,
+    coming: &Coming,
+) -> Option<Error>
+    ensures { result ≡ plain.silent_of conf.now past.now here.now heard.now coming.now }
 {
     let moment = here.requests.clock;
     if matches!(coming.via, Via::Stream)
-        && is_stream_silent(&past.requests, heard, coming.request, moment)
+        && is_stream_silent(conf, &past.requests, heard, coming.request, moment)
     {
         Some(Error::StreamReadTimeout)
     } else {
@@ -194,40 +202,40 @@ fn note_wrong(noted: &mut Noted, alloc: Global, comings: &[Coming]) -> Result<()
 }
 
 fn note_silent(
+    conf: &TraceConf,
     noted: &mut Noted,
-    alloc: Global,
     past: &Books,
     here: &Books,
     heard: &Heards,
     comings: &[Coming],
 ) -> Result<(), NoMemory>
-    ensures { OnOk result (noted.new ≡ plain.note_all (λ x. x.request) (plain.silent_of past.now here.now heard.now) comings.now noted.old) }
+    ensures { OnOk result (noted.new ≡ plain.note_all (λ x. x.request) (plain.silent_of conf.now past.now here.now heard.now) comings.now noted.old) }
 {
     for coming in comings {
-        let error = silent_of(past, here, heard, coming);
-        note(noted, alloc, coming.request, error)?;
+        let error = silent_of(conf, past, here, heard, coming);
+        note(noted, conf.alloc(), coming.request, error)?;
     }
     Ok(())
 }
 
 /// A row is done: `past` and `heard` are what was known before it, `here` is what is known behind it, and `comings` all that came.
 pub fn note_row(
+    conf: &TraceConf,
     noted: &mut Noted,
-    alloc: Global,
     past: &Books,
     heard: &Heards,
     here: &Books,
     row: &Row,
     comings: &[Coming],
 ) -> Result<(), NoMemory>
-    ensures { OnOk result (noted.new ≡ plain.after_row past.now here.now heard.now row.now comings.now noted.old) }
+    ensures { OnOk result (noted.new ≡ plain.after_row conf.now past.now here.now heard.now row.now comings.now noted.old) }
 {
     let what = &row.event.what;
-    note_failed(noted, alloc, past, what, failed_place(what))?;
-    note_lost(noted, alloc, past, here, unopened_place(what))?;
-    note_closed(noted, alloc, past, here, row.outs.as_slice())?;
-    note_wrong(noted, alloc, comings)?;
-    note_silent(noted, alloc, past, here, heard, comings)
+    note_failed(conf, noted, past, what, failed_place(what))?;
+    note_lost(conf, noted, past, here, unopened_place(what))?;
+    note_closed(conf, noted, past, here, row.outs.as_slice())?;
+    note_wrong(noted, conf.alloc(), comings)?;
+    note_silent(conf, noted, past, here, heard, comings)
 }
 
 fn is_among(errors: &Newest<Error>, wanted: Failing) -> bool

@@ -23,6 +23,8 @@ use Rattle.message_matching.specs.Matching.{carries_by}
 use Rattle.trace_exchanges.specs.declared.coming.Coming.{Coming}
 use Rattle.trace_exchanges.specs.Open.{is_for, octets_of}
 use Rattle.trace_exchanges.specs.Coming.{is_wanted, comes_on, comes_for, before, found_in, on_write, on_writes, in_frames}
+use Rattle.right_trace.specs.Time.{read_timeout}
+use Rattle.right_trace.specs.Trace.{Conf}
 
 same_number : (a b : ℕ) → (a == b) ≡ true → a ≡ b
 same_number a b e = grind (arith, nat_tests)
@@ -97,67 +99,67 @@ found_back f z y (x ∷ ys) (inr i) e = go (f x) (found_back f z y ys i e)
 
 -- an exchange on which a message comes
 
-pub record IsOn (want : Option ℕ) (past : Books) (x : Place) (p k id : ℕ) (o m : Octets) (z : Coming) : Type 0 where
+pub record IsOn (c : Conf) (want : Option ℕ) (past : Books) (x : Place) (p k id : ℕ) (o m : Octets) (z : Coming) : Type 0 where
   pub wanted : is_wanted want k ≡ true
   pub waits : replied_seen k past.requests ≡ false
   pub asking_of : Asking
   pub asked : entry_at k past.requests.askings ≡ Some asking_of
-  pub carries : carries_by x.via o asking_of.request id ≡ true
+  pub carries : carries_by c.transports.dgram_udp_payload_size x.via o asking_of.request id ≡ true
   pub is : z ≡ record { request = k; via = x.via; server = x.server; place = p; id = id; message = m; agrees = is_answer id asking_of.request.base m }
 
-module _ (want : Option ℕ) (past : Books) (x : Place) (p k id : ℕ) (o m : Octets) (z : Coming) where
-  pub comes_so : comes_for want past x p k id o m ≡ Some z → IsOn want past x p k id o m z
+module _ (c : Conf) (want : Option ℕ) (past : Books) (x : Place) (p k id : ℕ) (o m : Octets) (z : Coming) where
+  pub comes_so : comes_for c want past x p k id o m ≡ Some z → IsOn c want past x p k id o m z
   comes_so e = go (is_wanted want k) refl (replied_seen k past.requests) refl (entry_at k past.requests.askings) refl e
     where
-      on : is_wanted want k ≡ true → replied_seen k past.requests ≡ false → (a : Asking) → entry_at k past.requests.askings ≡ Some a → (b : Bool) → carries_by x.via o a.request id ≡ b
-          → (if b then Some (record { request = k; via = x.via; server = x.server; place = p; id = id; message = m; agrees = is_answer id a.request.base m }) else None) ≡ Some z → IsOn want past x p k id o m z
+      on : is_wanted want k ≡ true → replied_seen k past.requests ≡ false → (a : Asking) → entry_at k past.requests.askings ≡ Some a → (b : Bool) → carries_by c.transports.dgram_udp_payload_size x.via o a.request id ≡ b
+          → (if b then Some (record { request = k; via = x.via; server = x.server; place = p; id = id; message = m; agrees = is_answer id a.request.base m }) else None) ≡ Some z → IsOn c want past x p k id o m z
       on w r a l true i e = record { wanted = w; waits = r; asking_of = a; asked = l; carries = i; is = (let s : z ≡ record { request = k; via = x.via; server = x.server; place = p; id = id; message = m; agrees = is_answer id a.request.base m } = cc in s) }
       on w r a l false i e = absurd (cc)
 
-      go : (w : Bool) → is_wanted want k ≡ w → (r : Bool) → replied_seen k past.requests ≡ r → (a : Option Asking) → entry_at k past.requests.askings ≡ a → (if w && not r then comes_on x p k id o m a else None) ≡ Some z → IsOn want past x p k id o m z
+      go : (w : Bool) → is_wanted want k ≡ w → (r : Bool) → replied_seen k past.requests ≡ r → (a : Option Asking) → entry_at k past.requests.askings ≡ a → (if w && not r then comes_on c x p k id o m a else None) ≡ Some z → IsOn c want past x p k id o m z
       go true i false j None l e = absurd (cc)
-      go true i false j (Some a) l e = on i j a l (carries_by x.via o a.request id) refl e
+      go true i false j (Some a) l e = on i j a l (carries_by c.transports.dgram_udp_payload_size x.via o a.request id) refl e
       go true i true j a l e = absurd (cc)
       go false i r j a l e = absurd (cc)
 
-  pub so_comes : IsOn want past x p k id o m z → comes_for want past x p k id o m ≡ Some z
+  pub so_comes : IsOn c want past x p k id o m z → comes_for c want past x p k id o m ≡ Some z
   so_comes s =
-      ap₂ (λ w r. if w && not r then comes_on x p k id o m (entry_at k past.requests.askings) else None) s.wanted s.waits
-      ∙ (ap (comes_on x p k id o m) s.asked
+      ap₂ (λ w r. if w && not r then comes_on c x p k id o m (entry_at k past.requests.askings) else None) s.wanted s.waits
+      ∙ (ap (comes_on c x p k id o m) s.asked
       ∙ (ap (λ b. if b then Some (record { request = k; via = x.via; server = x.server; place = p; id = id; message = m; agrees = is_answer id s.asking_of.request.base m }) else None) s.carries ∙ ap Some (sym s.is)))
 
 -- sends
 
-pub record SentFor (k id n : ℕ) (o : Octets) (xs : List Sent) : Type 0 where
+pub record SentFor (c : Conf) (k id n : ℕ) (o : Octets) (xs : List Sent) : Type 0 where
   pub send : Sent
   pub there : IsIn send xs
   pub is_request : send.request ≡ k
   pub is_id : send.id ≡ id
   pub is_octets : send.octets ≡ o
-  pub young : nat_lt n (send.moment + 5000000) ≡ true
+  pub young : nat_lt n (send.moment + read_timeout c) ≡ true
 
-pub sent_so : (k id n : ℕ) (o : Octets) (xs : List Sent) → IsAmong o (octets_of k id n xs) → SentFor k id n o xs
-sent_so k id n o [] i = absurd i
-sent_so k id n o (x ∷ xs) i = go (sent_so k id n o xs) (x.request == k) refl (x.id == id) refl (nat_lt n (x.moment + 5000000)) refl i
+pub sent_so : (c : Conf) (k id n : ℕ) (o : Octets) (xs : List Sent) → IsAmong o (octets_of c k id n xs) → SentFor c k id n o xs
+sent_so c k id n o [] i = absurd i
+sent_so c k id n o (x ∷ xs) i = go (sent_so c k id n o xs) (x.request == k) refl (x.id == id) refl (nat_lt n (x.moment + read_timeout c)) refl i
   where
-    behind : SentFor k id n o xs → SentFor k id n o (x ∷ xs)
+    behind : SentFor c k id n o xs → SentFor c k id n o (x ∷ xs)
     behind r = record { send = r.send; there = inr r.there; is_request = r.is_request; is_id = r.is_id; is_octets = r.is_octets; young = r.young }
 
-    go : (IsAmong o (octets_of k id n xs) → SentFor k id n o xs) → (a : Bool) → (x.request == k) ≡ a → (b : Bool) → (x.id == id) ≡ b → (d : Bool) → nat_lt n (x.moment + 5000000) ≡ d → IsAmong o (if (a && b) && d then x.octets ∷ octets_of k id n xs else octets_of k id n xs)
-        → SentFor k id n o (x ∷ xs)
+    go : (IsAmong o (octets_of c k id n xs) → SentFor c k id n o xs) → (a : Bool) → (x.request == k) ≡ a → (b : Bool) → (x.id == id) ≡ b → (d : Bool) → nat_lt n (x.moment + read_timeout c) ≡ d → IsAmong o (if (a && b) && d then x.octets ∷ octets_of c k id n xs else octets_of c k id n xs)
+        → SentFor c k id n o (x ∷ xs)
     go rest true i true j true l (inl s) = record { send = x; there = inl refl; is_request = same_number x.request k i; is_id = same_number x.id id j; is_octets = s; young = l }
     go rest true i true j true l (inr q) = behind (rest q)
     go rest true i true j false l q = behind (rest q)
     go rest true i false j d l q = behind (rest q)
     go rest false i b j d l q = behind (rest q)
 
-pub so_sent : (n : ℕ) (y : Sent) (xs : List Sent) → IsIn y xs → nat_lt n (y.moment + 5000000) ≡ true → IsAmong y.octets (octets_of y.request y.id n xs)
-so_sent n y [] i e = absurd i
-so_sent n y (x ∷ xs) (inl s) e = subst (λ (x : Sent). IsAmong y.octets (if is_for y.request y.id n x then x.octets ∷ octets_of y.request y.id n xs else octets_of y.request y.id n xs)) (sym s)
-    (subst (λ b. IsAmong y.octets (if b then y.octets ∷ octets_of y.request y.id n xs else octets_of y.request y.id n xs)) (sym (ap₂ (λ a b. (a && b) && nat_lt n (y.moment + 5000000)) (own y.request) (own y.id) ∙ e)) (inl refl))
-so_sent n y (x ∷ xs) (inr i) e = go (is_for y.request y.id n x) (so_sent n y xs i e)
+pub so_sent : (c : Conf) (n : ℕ) (y : Sent) (xs : List Sent) → IsIn y xs → nat_lt n (y.moment + read_timeout c) ≡ true → IsAmong y.octets (octets_of c y.request y.id n xs)
+so_sent c n y [] i e = absurd i
+so_sent c n y (x ∷ xs) (inl s) e = subst (λ (x : Sent). IsAmong y.octets (if is_for c y.request y.id n x then x.octets ∷ octets_of c y.request y.id n xs else octets_of c y.request y.id n xs)) (sym s)
+    (subst (λ b. IsAmong y.octets (if b then y.octets ∷ octets_of c y.request y.id n xs else octets_of c y.request y.id n xs)) (sym (ap₂ (λ a b. (a && b) && nat_lt n (y.moment + read_timeout c)) (own y.request) (own y.id) ∙ e)) (inl refl))
+so_sent c n y (x ∷ xs) (inr i) e = go (is_for c y.request y.id n x) (so_sent c n y xs i e)
   where
-    go : (b : Bool) → IsAmong y.octets (octets_of y.request y.id n xs) → IsAmong y.octets (if b then x.octets ∷ octets_of y.request y.id n xs else octets_of y.request y.id n xs)
+    go : (b : Bool) → IsAmong y.octets (octets_of c y.request y.id n xs) → IsAmong y.octets (if b then x.octets ∷ octets_of c y.request y.id n xs else octets_of c y.request y.id n xs)
     go true q = inr q
     go false q = q
 
@@ -193,14 +195,14 @@ so_written w (x ∷ ws) (inr i) = go (x.request == w.request) (so_written w ws i
 
 -- frames
 
-pub record InFrames (want : Option ℕ) (past : Books) (here : Ledger) (x : Place) (p : ℕ) (seen : List (ℕ × Unit {0})) (ms : List Octets) (z : Coming) : Type 0 where
+pub record InFrames (c : Conf) (want : Option ℕ) (past : Books) (here : Ledger) (x : Place) (p : ℕ) (seen : List (ℕ × Unit {0})) (ms : List Octets) (z : Coming) : Type 0 where
   pub id : ℕ
   pub message : Octets
   pub first : first_with id ms ≡ Some message
   pub fresh : entry_at id seen ≡ None
   pub write : Written
   pub there : IsIn write (waiting_seen p id here.waiting)
-  pub found : on_write want past here.books x p id message write ≡ Some z
+  pub found : on_write c want past here.books x p id message write ≡ Some z
 
 bad_is : (m : Octets) → is_bad m ≡ nat_lt (length m) 12
 unfolding is_bad
@@ -229,8 +231,8 @@ not_seen a id seen e = go (a == id) refl (sym (at_puts a tt id seen) ∙ e)
 still_unseen : (a id : ℕ) (seen : List (ℕ × Unit {0})) → (a == id) ≡ false → entry_at id seen ≡ None → entry_at id (puts a tt seen) ≡ None
 still_unseen a id seen i e = at_puts a tt id seen ∙ (ap (λ b. if b then Some tt else entry_at id seen) i ∙ e)
 
-module _ (want : Option ℕ) (past : Books) (here : Ledger) (x : Place) (p : ℕ) (z : Coming) where
-  pub frames_so : (seen : List (ℕ × Unit {0})) (ms : List Octets) → IsIn z (in_frames want past here x p seen ms) → InFrames want past here x p seen ms z
+module _ (c : Conf) (want : Option ℕ) (past : Books) (here : Ledger) (x : Place) (p : ℕ) (z : Coming) where
+  pub frames_so : (seen : List (ℕ × Unit {0})) (ms : List Octets) → IsIn z (in_frames c want past here x p seen ms) → InFrames c want past here x p seen ms z
   frames_so seen [] i = absurd i
   frames_so seen (m ∷ ms) i = go (λ s. frames_so s ms) (nat_lt (length m) 12) refl (is_some (entry_at (id_of m) seen)) refl i
     where
@@ -241,46 +243,46 @@ module _ (want : Option ℕ) (past : Books) (here : Ledger) (x : Place) (p : ℕ
           go false e = refl
           go true e = absurd (let y : true ≡ false = sym s ∙ (ap (λ n. is_some (entry_at n seen)) (same_number (id_of m) id e) ∙ ap is_some n) in cc)
 
-      now : nat_lt (length m) 12 ≡ false → is_some (entry_at (id_of m) seen) ≡ false → IsIn z (on_writes want past here.books x p (id_of m) m (waiting_seen p (id_of m) here.waiting)) → InFrames want past here x p seen (m ∷ ms) z
+      now : nat_lt (length m) 12 ≡ false → is_some (entry_at (id_of m) seen) ≡ false → IsIn z (on_writes c want past here.books x p (id_of m) m (waiting_seen p (id_of m) here.waiting)) → InFrames c want past here x p seen (m ∷ ms) z
       now long s i =
-          let r = found_so (on_write want past here.books x p (id_of m) m) z (waiting_seen p (id_of m) here.waiting) i in
+          let r = found_so (on_write c want past here.books x p (id_of m) m) z (waiting_seen p (id_of m) here.waiting) i in
           record { id = id_of m; message = m; first = first_is (id_of m) m ms long ∙ ap (λ b. if b then Some m else first_with (id_of m) ms) (own (id_of m)); fresh = none_is (entry_at (id_of m) seen) s; write = r.item; there = r.there; found = r.found }
 
-      later : nat_lt (length m) 12 ≡ false → InFrames want past here x p (puts (id_of m) tt seen) ms z → InFrames want past here x p seen (m ∷ ms) z
+      later : nat_lt (length m) 12 ≡ false → InFrames c want past here x p (puts (id_of m) tt seen) ms z → InFrames c want past here x p seen (m ∷ ms) z
       later long r =
           let n = not_seen (id_of m) r.id seen r.fresh in
           record { id = r.id; message = r.message; first = first_is r.id m ms long ∙ (ap (λ b. if b then Some m else first_with r.id ms) n.0 ∙ r.first); fresh = n.1; write = r.write; there = r.there; found = r.found }
 
-      both : ((s : List (ℕ × Unit {0})) → IsIn z (in_frames want past here x p s ms) → InFrames want past here x p s ms z) → nat_lt (length m) 12 ≡ false → is_some (entry_at (id_of m) seen) ≡ false
-          → IsIn z (on_writes want past here.books x p (id_of m) m (waiting_seen p (id_of m) here.waiting)) ⊎ IsIn z (in_frames want past here x p (puts (id_of m) tt seen) ms) → InFrames want past here x p seen (m ∷ ms) z
+      both : ((s : List (ℕ × Unit {0})) → IsIn z (in_frames c want past here x p s ms) → InFrames c want past here x p s ms z) → nat_lt (length m) 12 ≡ false → is_some (entry_at (id_of m) seen) ≡ false
+          → IsIn z (on_writes c want past here.books x p (id_of m) m (waiting_seen p (id_of m) here.waiting)) ⊎ IsIn z (in_frames c want past here x p (puts (id_of m) tt seen) ms) → InFrames c want past here x p seen (m ∷ ms) z
       both rest long s (inl i) = now long s i
       both rest long s (inr i) = later long (rest (puts (id_of m) tt seen) i)
 
-      go : ((s : List (ℕ × Unit {0})) → IsIn z (in_frames want past here x p s ms) → InFrames want past here x p s ms z) → (b : Bool) → nat_lt (length m) 12 ≡ b → (s : Bool) → is_some (entry_at (id_of m) seen) ≡ s
-          → IsIn z (if b then [] else (if s then in_frames want past here x p seen ms else on_writes want past here.books x p (id_of m) m (waiting_seen p (id_of m) here.waiting) ++ in_frames want past here x p (puts (id_of m) tt seen) ms))
-          → InFrames want past here x p seen (m ∷ ms) z
+      go : ((s : List (ℕ × Unit {0})) → IsIn z (in_frames c want past here x p s ms) → InFrames c want past here x p s ms z) → (b : Bool) → nat_lt (length m) 12 ≡ b → (s : Bool) → is_some (entry_at (id_of m) seen) ≡ s
+          → IsIn z (if b then [] else (if s then in_frames c want past here x p seen ms else on_writes c want past here.books x p (id_of m) m (waiting_seen p (id_of m) here.waiting) ++ in_frames c want past here x p (puts (id_of m) tt seen) ms))
+          → InFrames c want past here x p seen (m ∷ ms) z
       go rest true long s j i = absurd i
       go rest false long true j i =
           let r = rest seen i in
           record { id = r.id; message = r.message; first = first_is r.id m ms long ∙ (ap (λ b. if b then Some m else first_with r.id ms) (other r.id j r.fresh) ∙ r.first); fresh = r.fresh; write = r.write; there = r.there; found = r.found }
-      go rest false long false j i = both rest long j (in_append z (on_writes want past here.books x p (id_of m) m (waiting_seen p (id_of m) here.waiting)) (in_frames want past here x p (puts (id_of m) tt seen) ms) i)
+      go rest false long false j i = both rest long j (in_append z (on_writes c want past here.books x p (id_of m) m (waiting_seen p (id_of m) here.waiting)) (in_frames c want past here x p (puts (id_of m) tt seen) ms) i)
 
-  pub so_frames : (seen : List (ℕ × Unit {0})) (ms : List Octets) → InFrames want past here x p seen ms z → IsIn z (in_frames want past here x p seen ms)
+  pub so_frames : (seen : List (ℕ × Unit {0})) (ms : List Octets) → InFrames c want past here x p seen ms z → IsIn z (in_frames c want past here x p seen ms)
   so_frames seen [] r = absurd (let y : None ≡ Some r.message = r.first in cc)
   so_frames seen (m ∷ ms) r = go (λ s. so_frames s ms) (nat_lt (length m) 12) refl (id_of m == r.id) refl (is_some (entry_at (id_of m) seen)) refl
     where
-      go : ((s : List (ℕ × Unit {0})) → InFrames want past here x p s ms z → IsIn z (in_frames want past here x p s ms)) → (b : Bool) → nat_lt (length m) 12 ≡ b → (d : Bool) → (id_of m == r.id) ≡ d → (s : Bool) → is_some (entry_at (id_of m) seen) ≡ s
-          → IsIn z (if b then [] else (if s then in_frames want past here x p seen ms else on_writes want past here.books x p (id_of m) m (waiting_seen p (id_of m) here.waiting) ++ in_frames want past here x p (puts (id_of m) tt seen) ms))
+      go : ((s : List (ℕ × Unit {0})) → InFrames c want past here x p s ms z → IsIn z (in_frames c want past here x p s ms)) → (b : Bool) → nat_lt (length m) 12 ≡ b → (d : Bool) → (id_of m == r.id) ≡ d → (s : Bool) → is_some (entry_at (id_of m) seen) ≡ s
+          → IsIn z (if b then [] else (if s then in_frames c want past here x p seen ms else on_writes c want past here.books x p (id_of m) m (waiting_seen p (id_of m) here.waiting) ++ in_frames c want past here x p (puts (id_of m) tt seen) ms))
       go rest true bad d j s k = absurd (let y : None ≡ Some r.message = sym (ap (λ b. if b then None else (if id_in m == r.id then Some m else first_with r.id ms)) (bad_is m ∙ bad)) ∙ r.first in cc)
       go rest false long true j true k = absurd (let y : true ≡ false = sym k ∙ (ap (λ n. is_some (entry_at n seen)) (same_number (id_of m) r.id j) ∙ ap is_some r.fresh) in cc)
       go rest false long true j false k =
           let same : m ≡ r.message = (let y : Some m ≡ Some r.message = sym (first_is r.id m ms long ∙ ap (λ b. if b then Some m else first_with r.id ms) j) ∙ r.first in cc) in
           let i = same_number (id_of m) r.id j in
-          in_first z (on_writes want past here.books x p (id_of m) m (waiting_seen p (id_of m) here.waiting)) (in_frames want past here x p (puts (id_of m) tt seen) ms)
-          (found_back (on_write want past here.books x p (id_of m) m) z r.write (waiting_seen p (id_of m) here.waiting)
+          in_first z (on_writes c want past here.books x p (id_of m) m (waiting_seen p (id_of m) here.waiting)) (in_frames c want past here x p (puts (id_of m) tt seen) ms)
+          (found_back (on_write c want past here.books x p (id_of m) m) z r.write (waiting_seen p (id_of m) here.waiting)
           (subst (λ n. IsIn r.write (waiting_seen p n here.waiting)) (sym i) r.there)
-          (ap₂ (λ n o. on_write want past here.books x p n o r.write) i same ∙ r.found))
+          (ap₂ (λ n o. on_write c want past here.books x p n o r.write) i same ∙ r.found))
       go rest false long false j true k = rest seen (record { id = r.id; message = r.message; first = sym (first_is r.id m ms long ∙ ap (λ b. if b then Some m else first_with r.id ms) j) ∙ r.first; fresh = r.fresh; write = r.write; there = r.there; found = r.found })
       go rest false long false j false k =
-          in_second z (on_writes want past here.books x p (id_of m) m (waiting_seen p (id_of m) here.waiting)) (in_frames want past here x p (puts (id_of m) tt seen) ms)
+          in_second z (on_writes c want past here.books x p (id_of m) m (waiting_seen p (id_of m) here.waiting)) (in_frames c want past here x p (puts (id_of m) tt seen) ms)
           (rest (puts (id_of m) tt seen) (record { id = r.id; message = r.message; first = sym (first_is r.id m ms long ∙ ap (λ b. if b then Some m else first_with r.id ms) j) ∙ r.first; fresh = still_unseen (id_of m) r.id seen j r.fresh; write = r.write; there = r.there; found = r.found }))

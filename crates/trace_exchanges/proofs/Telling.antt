@@ -3,20 +3,18 @@ use Rattle.std.proofs.Common.{◌≡◌, ℕ, ◌+◌, ◌<◌, ◌==◌, ◌&&�
 use Rattle.std.proofs.lemmas.Bool.Decides.{nat_tests}
 use Rattle.number_table.specs.Entries.{entry_at}
 use Rattle.client_request.specs.Request.{Request}
-use Rattle.client_request.specs.declared.event.What.{What}
-use Rattle.client_request.specs.declared.event.What.TheVariants.{Ask, Opened, OpenFailed, SendFailed, ShortSend, Datagram, RecvFailed, Wrote, WriteFailed, Bytes, ReadFailed, Ended, Tick}
 use Rattle.client_request.specs.declared.event.Via.{Via}
 use Rattle.client_request.specs.declared.event.Via.TheVariants.{Dgram, Stream}
 use Rattle.dns_base.specs.Answering.{is_answer}
 use Rattle.right_trace.specs.Trace.{History, Conf, Came, Put}
-use Rattle.right_trace.specs.Time.{now, newest, row_before, stream_timeout}
+use Rattle.right_trace.specs.Time.{now, newest, row_before, stream_timeout, read_timeout, recv_size}
 use Rattle.right_trace.specs.Messages.{Octets, answers, id_in}
 use Rattle.right_trace.specs.Requests.{Asking, start}
 use Rattle.right_trace.specs.Places.{Site, site, stand, Alive, is_alive, is_of_kind}
 use Rattle.right_trace.specs.Parts.{IsIn}
-use Rattle.right_trace.specs.Frames.{fed, reading, is_bad, came, came_here, first_with}
+use Rattle.right_trace.specs.Frames.{is_bad, came, came_here, received, first_with}
 use Rattle.right_trace.specs.Writes.{waiting_with}
-use Rattle.right_trace.specs.Exchanges.{Stands, IsAmong, Comes, first_of, waited_for, is_before, unanswered, octets_for}
+use Rattle.right_trace.specs.Exchanges.{Stands, IsAmong, Comes, first_datagram, first_of, waited_for, is_before, unanswered, octets_for}
 use Rattle.trace_tables.specs.declared.books.Books.{Books}
 use Rattle.trace_tables.specs.declared.places.Place.{Place}
 use Rattle.trace_tables.specs.declared.sends.Sent.{Sent}
@@ -56,37 +54,22 @@ answer_is : (r : Request) (id : ℕ) (m : Octets) → is_answer id r.base m ≡ 
 unfolding answers
 answer_is r id m = refl
 
--- a datagram has a whole header
-long_datagram : (p : ℕ) (w : What) (h : History) (m : Octets) (ms : List Octets) → is_of_kind Stream (site p h) ≡ false → came p w h ≡ m ∷ ms → nat_lt (length m) 12 ≡ false
-long_datagram p (Datagram q o) h m ms non e = go ((q == p) && (is_alive (stand p h) && (is_of_kind Dgram (site p h) && nat_le 12 (length (take 2000 o))))) refl e
-  where
-    not_short : (n : ℕ) → nat_le 12 n ≡ true → nat_lt n 12 ≡ false
-    not_short n e = grind (arith, nat_tests)
+-- what is read of datagrams has a whole header
+not_short : (n : ℕ) → nat_le 12 n ≡ true → nat_lt n 12 ≡ false
+not_short n e = grind (arith, nat_tests)
 
-    go : (b : Bool) → ((q == p) && (is_alive (stand p h) && (is_of_kind Dgram (site p h) && nat_le 12 (length (take 2000 o))))) ≡ b → (if b then take 2000 o ∷ [] else []) ≡ m ∷ ms → nat_lt (length m) 12 ≡ false
-    go true i e =
-        let l = both (is_of_kind Dgram (site p h)) (nat_le 12 (length (take 2000 o))) (both (is_alive (stand p h)) _ (both (q == p) _ i).1).1 in
-        let same : take 2000 o ≡ m = cc in
-        subst (λ m. nat_lt (length m) 12 ≡ false) same (not_short (length (take 2000 o)) l.1)
-    go false i e = absurd (cc)
-long_datagram p (Bytes q o) h m ms non e = absurd (none (fed (reading p h) o).frames (q == p) (is_alive (stand p h)) (is_of_kind Stream (site p h)) non e)
+long_read : (n : ℕ) (os : List Octets) (m : Octets) (rest : List Octets) → received n os ≡ m ∷ rest → nat_lt (length m) 12 ≡ false
+long_read n [] m rest e = absurd (cc)
+long_read n (o ∷ os) m rest e = go (nat_le 12 (length (take n o))) refl (long_read n os m rest) e
   where
-    none : (fs : List Octets) (a b d : Bool) → d ≡ false → (if a && (b && d) then fs else []) ≡ m ∷ ms → ⊥
-    none fs true true true f e = cc
-    none fs true true false f e = cc
-    none fs true false d f e = cc
-    none fs false b d f e = cc
-long_datagram p (Ask q) h m ms non e = absurd (cc)
-long_datagram p (Opened q) h m ms non e = absurd (cc)
-long_datagram p (OpenFailed q f) h m ms non e = absurd (cc)
-long_datagram p (SendFailed q f) h m ms non e = absurd (cc)
-long_datagram p (ShortSend q) h m ms non e = absurd (cc)
-long_datagram p (RecvFailed q f) h m ms non e = absurd (cc)
-long_datagram p (Wrote q n) h m ms non e = absurd (cc)
-long_datagram p (WriteFailed q f) h m ms non e = absurd (cc)
-long_datagram p (ReadFailed q f) h m ms non e = absurd (cc)
-long_datagram p (Ended q) h m ms non e = absurd (cc)
-long_datagram p Tick h m ms non e = absurd (cc)
+    go : (b : Bool) → nat_le 12 (length (take n o)) ≡ b → (received n os ≡ m ∷ rest → nat_lt (length m) 12 ≡ false) → (if b then take n o ∷ received n os else received n os) ≡ m ∷ rest → nat_lt (length m) 12 ≡ false
+    go true i more e = (let same : take n o ≡ m = cc in subst (λ m. nat_lt (length m) 12 ≡ false) same (not_short (length (take n o)) i))
+    go false i more e = more e
+
+-- nothing is read where nothing came
+some_came : (n : ℕ) (os : List Octets) (m : Octets) (rest : List Octets) → received n os ≡ m ∷ rest → (o : Octets) × IsIn o os
+some_came n [] m rest e = absurd (cc)
+some_came n (o ∷ os) m rest e = (o, inl refl)
 
 alive_is : (x : Seen) → is_alive (stand_of x) ≡ true → stand_of x ≡ Alive
 alive_is seen.Opening e = absurd (cc)
@@ -102,10 +85,10 @@ less_seen a b e = grind (arith, nat_tests)
 no_stream : (o : Option Site) (s : ℕ) → o ≡ Some (record { via = Dgram; server = s }) → is_of_kind Stream o ≡ false
 no_stream o s e = ap (is_of_kind Stream) e
 
-young_is : (n : ℕ) (o : Option ℕ) → is_young n o ≡ is_before n o
+young_is : (c : Conf) (n : ℕ) (o : Option ℕ) → is_young c n o ≡ is_before c n o
 unfolding stream_timeout
-young_is n None = refl
-young_is n (Some t) = refl
+young_is c n None = refl
+young_is c n (Some t) = refl
 
 abbrev request_or : Asking → Option Asking → Asking
 request_or a None = a
@@ -118,7 +101,7 @@ abbrev site_or : Site → Option Site → Site
 site_or x None = x
 site_or x (Some y) = y
 
-module _ (c : Conf) (want : Option ℕ) (bp : Books) (op : Open) (l : Ledger) (past h : History) (before : row_before h ≡ past) (kp : books.Known past bp) (ko : open_sends.Known past op) (kh : ledger.Known h l) where
+module _ (c : Conf) (want : Option ℕ) (bp : Books) (op : Open) (l : Ledger) (past h : History) (before : row_before h ≡ past) (kp : books.Known past bp) (ko : open_sends.Known c past op) (kh : ledger.Known h l) where
   frames_here : (p : ℕ) → frames_of p l.frames.brought ≡ came p (newest h) past
   frames_here p = kh.frames.here p ∙ (came_now p h ∙ ap (came p (newest h)) before)
 
@@ -141,54 +124,54 @@ module _ (c : Conf) (want : Option ℕ) (bp : Books) (op : Open) (l : Ledger) (p
     stands k a e r = record { asked = (a.moment, sym (kp.requests.askings k) ∙ e); waiting = sym (kp.requests.replies k) ∙ r; alive = alive; at = sited; known = is_served }
 
     -- on an exchange of this kind
-    coming_on : (v : Via) → x.via ≡ v → (k id : ℕ) (o m : Octets) → IsOn want bp x p k id o m z → ((a : Asking) → entry_at k bp.requests.askings ≡ Some a → IsAmong o (waited_for v a.request x.server p k id (now h) [] past h)) → first_of v id ms ≡ Some m → IsComing c past h z
+    coming_on : (v : Via) → x.via ≡ v → (k id : ℕ) (o m : Octets) → IsOn c want bp x p k id o m z → ((a : Asking) → entry_at k bp.requests.askings ≡ Some a → IsAmong o (waited_for c v a.request x.server p k id (now h) [] past h)) → first_of c v id ms ≡ Some m → IsComing c past h z
     coming_on v kind k id o m on sent first = subst (IsComing c past h) (sym on.is) (record {
       asked_as = on.asking_of.request;
       comes = record {
         is_open = record {
           stands = stands k on.asking_of on.asked on.waits;
           octets = o;
-          sent = subst (λ v. IsAmong o (waited_for v on.asking_of.request x.server p k id (now h) [] past h)) (sym kind) (sent on.asking_of on.asked);
-          carries = carries_so x.via o on.asking_of.request id on.carries;
+          sent = subst (λ v. IsAmong o (waited_for c v on.asking_of.request x.server p k id (now h) [] past h)) (sym kind) (sent on.asking_of on.asked);
+          carries = carries_so c x.via o on.asking_of.request id on.carries;
         };
-        first = ap (first_of x.via id) came_there ∙ (ap (λ v. first_of v id ms) kind ∙ first);
+        first = ap (first_of c x.via id) came_there ∙ (ap (λ v. first_of c v id ms) kind ∙ first);
       };
       agreeing = answer_is on.asking_of.request id m;
     })
 
-    of_datagrams : x.via ≡ Dgram → IsIn z (in_datagrams want bp op l x p ms) → IsComing c past h z
-    of_datagrams kind i = go ms refl i
+    of_datagrams : x.via ≡ Dgram → IsIn z (in_datagrams c want bp op l x p (received (recv_size c) ms)) → IsComing c past h z
+    of_datagrams kind i = go (received (recv_size c) ms) refl i
       where
         dgram : site p past ≡ Some (record { via = Dgram; server = x.server })
         dgram = sited ∙ ap (λ v. Some (record { via = v; server = x.server })) kind
 
-        on_one : (m : Octets) (rest : List Octets) → ms ≡ m ∷ rest → (y : Sent) → IsIn y (listed p op) → (b : Bool) → nat_lt l.books.requests.clock (y.moment + 5000000) ≡ b → (if b then comes_for want bp x p y.request y.id y.octets m else None) ≡ Some z → IsComing c past h z
+        on_one : (m : Octets) (rest : List Octets) → received (recv_size c) ms ≡ m ∷ rest → (y : Sent) → IsIn y (listed p op) → (b : Bool) → nat_lt l.books.requests.clock (y.moment + read_timeout c) ≡ b → (if b then comes_for c want bp x p y.request y.id y.octets m else None) ≡ Some z → IsComing c past h z
         on_one m rest s y there false young e = absurd (cc)
-        on_one m rest s y there true young e = coming_on Dgram kind y.request y.id y.octets m (comes_so want bp x p y.request y.id y.octets m z e)
+        on_one m rest s y there true young e = coming_on Dgram kind y.request y.id y.octets m (comes_so c want bp x p y.request y.id y.octets m z e)
             (λ a q. subst (IsAmong y.octets) (ko.waits y.request p y.id (now h) a (no_stream (site p past) x.server dgram) (sym (kp.requests.askings y.request) ∙ q))
-            (so_sent (now h) y (reverse (listed p op)) (reverse_in y (listed p op) there) (ap (λ n. nat_lt n (y.moment + 5000000)) (sym time) ∙ young)))
-            (ap (first_of Dgram y.id) s)
+            (so_sent c (now h) y (reverse (listed p op)) (reverse_in y (listed p op) there) (ap (λ n. nat_lt n (y.moment + read_timeout c)) (sym time) ∙ young)))
+            (ap first_datagram s)
 
-        go : (os : List Octets) → ms ≡ os → IsIn z (in_datagrams want bp op l x p os) → IsComing c past h z
+        go : (os : List Octets) → received (recv_size c) ms ≡ os → IsIn z (in_datagrams c want bp op l x p os) → IsComing c past h z
         go [] s i = absurd i
         go (m ∷ rest) s i = long (nat_lt (length m) 12) i
           where
-            long : (b : Bool) → IsIn z (if b then [] else on_sends want bp x p l.books.requests.clock m (listed p op)) → IsComing c past h z
+            long : (b : Bool) → IsIn z (if b then [] else on_sends c want bp x p l.books.requests.clock m (listed p op)) → IsComing c past h z
             long true i = absurd i
-            long false i = let r = found_so (on_send want bp x p l.books.requests.clock m) z (listed p op) i in on_one m rest s r.item r.there (nat_lt l.books.requests.clock (r.item.moment + 5000000)) refl r.found
+            long false i = let r = found_so (on_send c want bp x p l.books.requests.clock m) z (listed p op) i in on_one m rest s r.item r.there (nat_lt l.books.requests.clock (r.item.moment + read_timeout c)) refl r.found
 
-    of_frames : x.via ≡ Stream → IsIn z (in_frames want bp l x p [] ms) → IsComing c past h z
-    of_frames kind i = go (frames_so want bp l x p z [] ms i)
+    of_frames : x.via ≡ Stream → IsIn z (in_frames c want bp l x p [] ms) → IsComing c past h z
+    of_frames kind i = go (frames_so c want bp l x p z [] ms i)
       where
-        go : InFrames want bp l x p [] ms z → IsComing c past h z
-        go r = by (is_young l.books.requests.clock (start_seen r.write.request x.server Stream l.books.requests)) refl r.found
+        go : InFrames c want bp l x p [] ms z → IsComing c past h z
+        go r = by (is_young c l.books.requests.clock (start_seen r.write.request x.server Stream l.books.requests)) refl r.found
           where
-            begun : is_young l.books.requests.clock (start_seen r.write.request x.server Stream l.books.requests) ≡ is_before (now h) (start r.write.request x.server Stream h)
-            begun = ap₂ is_young time (kh.books.requests.starts r.write.request x.server Stream) ∙ young_is (now h) (start r.write.request x.server Stream h)
+            begun : is_young c l.books.requests.clock (start_seen r.write.request x.server Stream l.books.requests) ≡ is_before c (now h) (start r.write.request x.server Stream h)
+            begun = ap₂ (is_young c) time (kh.books.requests.starts r.write.request x.server Stream) ∙ young_is c (now h) (start r.write.request x.server Stream h)
 
-            by : (b : Bool) → is_young l.books.requests.clock (start_seen r.write.request x.server Stream l.books.requests) ≡ b → (if b then comes_for want bp x p r.write.request r.id r.write.octets r.message else None) ≡ Some z → IsComing c past h z
+            by : (b : Bool) → is_young c l.books.requests.clock (start_seen r.write.request x.server Stream l.books.requests) ≡ b → (if b then comes_for c want bp x p r.write.request r.id r.write.octets r.message else None) ≡ Some z → IsComing c past h z
             by false y e = absurd (cc)
-            by true y e = coming_on Stream kind r.write.request r.id r.write.octets r.message (comes_so want bp x p r.write.request r.id r.write.octets r.message z e)
+            by true y e = coming_on Stream kind r.write.request r.id r.write.octets r.message (comes_so c want bp x p r.write.request r.id r.write.octets r.message z e)
                 (λ a q. subst (λ b. IsAmong r.write.octets (if b then octets_for r.write.request (waiting_with [] p r.id h) else [])) (sym (sym begun ∙ y))
                 (subst (λ ws. IsAmong r.write.octets (octets_for r.write.request ws)) (kh.waiting.waits p r.id) (so_written r.write (waiting_seen p r.id l.waiting) r.there)))
                 r.first
@@ -203,7 +186,7 @@ module _ (c : Conf) (want : Option ℕ) (bp : Books) (op : Open) (l : Ledger) (p
           there : came b.place (newest h) past ≡ b.frames
           there = sym (frames_here b.place) ∙ (ap (frames_of b.place) e ∙ ap (λ d. if d then b.frames else []) (own b.place))
 
-          kind : (x : Place) → entry_at b.place bp.places ≡ Some x → is_known_place c x ≡ true → (v : Via) → x.via ≡ v → IsIn z (by_kind v want bp op l x b.place b.frames) → IsComing c past h z
+          kind : (x : Place) → entry_at b.place bp.places ≡ Some x → is_known_place c x ≡ true → (v : Via) → x.via ≡ v → IsIn z (by_kind c v want bp op l x b.place b.frames) → IsComing c past h z
           kind x j k Dgram s i = of_datagrams b.place b.frames x z j k there s i
           kind x j k Stream s i = of_frames b.place b.frames x z j k there s i
 
@@ -211,7 +194,7 @@ module _ (c : Conf) (want : Option ℕ) (bp : Books) (op : Open) (l : Ledger) (p
           at None j i = absurd i
           at (Some x) j i = on (is_known_place c x) refl i
             where
-              on : (d : Bool) → is_known_place c x ≡ d → IsIn z (if d then by_kind x.via want bp op l x b.place b.frames else []) → IsComing c past h z
+              on : (d : Bool) → is_known_place c x ≡ d → IsIn z (if d then by_kind c x.via want bp op l x b.place b.frames else []) → IsComing c past h z
               on true k i = kind x j k x.via refl i
               on false k i = absurd i
 
@@ -248,12 +231,12 @@ module _ (c : Conf) (want : Option ℕ) (bp : Books) (op : Open) (l : Ledger) (p
     unfolding x
     known = less_seen s (length c.servers) comes.is_open.stands.known
 
-    on : IsOn want bp x p k id comes.is_open.octets m z
+    on : IsOn c want bp x p k id comes.is_open.octets m z
     unfolding x z answers
-    on = record { wanted = wanted; waits = kp.requests.replies k ∙ comes.is_open.stands.waiting; asking_of = record { request = r; moment = comes.is_open.stands.asked.0 }; asked = asked; carries = so_carries v comes.is_open.octets r id comes.is_open.carries; is = refl }
+    on = record { wanted = wanted; waits = kp.requests.replies k ∙ comes.is_open.stands.waiting; asking_of = record { request = r; moment = comes.is_open.stands.asked.0 }; asked = asked; carries = so_carries c v comes.is_open.octets r id comes.is_open.carries; is = refl }
 
     -- something came, and there
-    brought_there : (b : Option Brought) → l.frames.brought ≡ b → (ms : List Octets) → came p (newest h) past ≡ ms → (n : Octets) → IsIn n ms → IsIn z (by_kind v want bp op l x p ms) → IsIn z (brought_in c want bp op l b)
+    brought_there : (b : Option Brought) → l.frames.brought ≡ b → (ms : List Octets) → came p (newest h) past ≡ ms → (n : Octets) → IsIn n ms → IsIn z (by_kind c v want bp op l x p ms) → IsIn z (brought_in c want bp op l b)
     unfolding x
     brought_there None e ms i n there found = absurd (subst (IsIn n) (sym i ∙ (sym (frames_here p) ∙ ap (frames_of p) e)) there)
     brought_there (Some b) e ms i n there found = go (b.place == p) refl
@@ -268,31 +251,33 @@ module _ (c : Conf) (want : Option ℕ) (bp : Books) (op : Open) (l : Ledger) (p
             let w : b.frames ≡ ms = sym (sym i ∙ (frames ∙ ap (λ d. if d then b.frames else []) j)) in
             subst (λ q. IsIn z (at_place c want bp op l q b.frames (entry_at q bp.places))) (sym q)
             (subst (λ o. IsIn z (at_place c want bp op l p b.frames o)) (sym at)
-            (subst (λ d. IsIn z (if d then by_kind v want bp op l x p b.frames else [])) (sym known)
-            (subst (λ ms. IsIn z (by_kind v want bp op l x p ms)) (sym w) found)))
+            (subst (λ d. IsIn z (if d then by_kind c v want bp op l x p b.frames else [])) (sym known)
+            (subst (λ ms. IsIn z (by_kind c v want bp op l x p ms)) (sym w) found)))
 
-    list_of : (ms : List Octets) → first_of Dgram id ms ≡ Some m → (rest : List Octets) × (ms ≡ m ∷ rest)
+    list_of : (ms : List Octets) → first_datagram ms ≡ Some m → (rest : List Octets) × (ms ≡ m ∷ rest)
     list_of [] e = absurd (cc)
     list_of (a ∷ rest) e = (rest, let s : a ≡ m = cc in ap (λ a. a ∷ rest) s)
 
     by_datagram : v ≡ Dgram → IsIn z (coming c want bp op l)
     unfolding x
     by_datagram kind =
-        let first : first_of Dgram id (came p (newest h) past) ≡ Some m = ap (λ v. first_of v id (came p (newest h) past)) (sym kind) ∙ comes.first in
-        let ms = list_of (came p (newest h) past) first in
+        let first : first_of c Dgram id (came p (newest h) past) ≡ Some m = ap (λ v. first_of c v id (came p (newest h) past)) (sym kind) ∙ comes.first in
+        let ms = list_of (received (recv_size c) (came p (newest h) past)) first in
         let dgram : site p past ≡ Some (record { via = Dgram; server = s }) = comes.is_open.stands.at ∙ ap (λ v. Some (record { via = v; server = s })) kind in
         let non = no_stream (site p past) s dgram in
-        let sent : IsAmong comes.is_open.octets (unanswered r p k id (now h) past) = subst (λ v. IsAmong comes.is_open.octets (waited_for v r s p k id (now h) [] past h)) kind comes.is_open.sent in
-        let y = sent_so k id (now h) comes.is_open.octets (reverse (listed p op)) (subst (IsAmong comes.is_open.octets) (sym (ko.waits k p id (now h) (record { request = r; moment = comes.is_open.stands.asked.0 }) non comes.is_open.stands.asked.1)) sent) in
-        let found : on_send want bp x p l.books.requests.clock m y.send ≡ Some z =
-        ap (λ b. if b then comes_for want bp x p y.send.request y.send.id y.send.octets m else None) (ap (λ n. nat_lt n (y.send.moment + 5000000)) time ∙ y.young)
-        ∙ (ap₂ (λ j i. comes_for want bp x p j i y.send.octets m) y.is_request y.is_id
-        ∙ (ap (λ o. comes_for want bp x p k id o m) y.is_octets ∙ so_comes want bp x p k id comes.is_open.octets m z on)) in
-        let there = found_back (on_send want bp x p l.books.requests.clock m) z y.send (listed p op) (in_reverse y.send (listed p op) y.there) found in
-        let long = long_datagram p (newest h) past m ms.0 non ms.1 in
-        brought_there l.frames.brought refl (m ∷ ms.0) ms.1 m (inl refl)
-        (subst (λ v. IsIn z (by_kind v want bp op l x p (m ∷ ms.0))) (sym kind)
-        (subst (λ b. IsIn z (if b then [] else on_sends want bp x p l.books.requests.clock m (listed p op))) (sym long) there))
+        let sent : IsAmong comes.is_open.octets (unanswered c r p k id (now h) past) = subst (λ v. IsAmong comes.is_open.octets (waited_for c v r s p k id (now h) [] past h)) kind comes.is_open.sent in
+        let y = sent_so c k id (now h) comes.is_open.octets (reverse (listed p op)) (subst (IsAmong comes.is_open.octets) (sym (ko.waits k p id (now h) (record { request = r; moment = comes.is_open.stands.asked.0 }) non comes.is_open.stands.asked.1)) sent) in
+        let found : on_send c want bp x p l.books.requests.clock m y.send ≡ Some z =
+        ap (λ b. if b then comes_for c want bp x p y.send.request y.send.id y.send.octets m else None) (ap (λ n. nat_lt n (y.send.moment + read_timeout c)) time ∙ y.young)
+        ∙ (ap₂ (λ j i. comes_for c want bp x p j i y.send.octets m) y.is_request y.is_id
+        ∙ (ap (λ o. comes_for c want bp x p k id o m) y.is_octets ∙ so_comes c want bp x p k id comes.is_open.octets m z on)) in
+        let there = found_back (on_send c want bp x p l.books.requests.clock m) z y.send (listed p op) (in_reverse y.send (listed p op) y.there) found in
+        let long = long_read (recv_size c) (came p (newest h) past) m ms.0 ms.1 in
+        let some = some_came (recv_size c) (came p (newest h) past) m ms.0 ms.1 in
+        brought_there l.frames.brought refl (came p (newest h) past) refl some.0 some.1
+        (subst (λ v. IsIn z (by_kind c v want bp op l x p (came p (newest h) past))) (sym kind)
+        (subst (λ os. IsIn z (in_datagrams c want bp op l x p os)) (sym ms.1)
+        (subst (λ b. IsIn z (if b then [] else on_sends c want bp x p l.books.requests.clock m (listed p op))) (sym long) there)))
 
     first_in : (ms : List Octets) → first_with id ms ≡ Some m → IsIn m ms
     first_in [] e = absurd (cc)
@@ -306,18 +291,18 @@ module _ (c : Conf) (want : Option ℕ) (bp : Books) (op : Open) (l : Ledger) (p
     by_frame : v ≡ Stream → IsIn z (coming c want bp op l)
     unfolding x
     by_frame kind =
-        let first : first_with id (came p (newest h) past) ≡ Some m = ap (λ v. first_of v id (came p (newest h) past)) (sym kind) ∙ comes.first in
-        let sent = subst (λ v. IsAmong comes.is_open.octets (waited_for v r s p k id (now h) [] past h)) kind comes.is_open.sent in
+        let first : first_with id (came p (newest h) past) ≡ Some m = ap (λ v. first_of c v id (came p (newest h) past)) (sym kind) ∙ comes.first in
+        let sent = subst (λ v. IsAmong comes.is_open.octets (waited_for c v r s p k id (now h) [] past h)) kind comes.is_open.sent in
         brought_there l.frames.brought refl (came p (newest h) past) refl m (first_in (came p (newest h) past) first)
-        (subst (λ v. IsIn z (by_kind v want bp op l x p (came p (newest h) past))) (sym kind) (so_frames want bp l x p z [] (came p (newest h) past) (go (is_before (now h) (start k s Stream h)) refl first sent)))
+        (subst (λ v. IsIn z (by_kind c v want bp op l x p (came p (newest h) past))) (sym kind) (so_frames c want bp l x p z [] (came p (newest h) past) (go (is_before c (now h) (start k s Stream h)) refl first sent)))
       where
-        go : (b : Bool) → is_before (now h) (start k s Stream h) ≡ b → first_with id (came p (newest h) past) ≡ Some m → IsAmong comes.is_open.octets (if b then octets_for k (waiting_with [] p id h) else []) → InFrames want bp l x p [] (came p (newest h) past) z
+        go : (b : Bool) → is_before c (now h) (start k s Stream h) ≡ b → first_with id (came p (newest h) past) ≡ Some m → IsAmong comes.is_open.octets (if b then octets_for k (waiting_with [] p id h) else []) → InFrames c want bp l x p [] (came p (newest h) past) z
         go false e first i = absurd i
         go true e first i =
             let w = written_so k comes.is_open.octets (waiting_seen p id l.waiting) (subst (λ ws. IsAmong comes.is_open.octets (octets_for k ws)) (sym (kh.waiting.waits p id)) i) in
-            let young : is_young l.books.requests.clock (start_seen w.write.request s Stream l.books.requests) ≡ true =
-            ap (λ j. is_young l.books.requests.clock (start_seen j s Stream l.books.requests)) w.is_request
-            ∙ (ap₂ is_young time (kh.books.requests.starts k s Stream) ∙ (young_is (now h) (start k s Stream h) ∙ e)) in
+            let young : is_young c l.books.requests.clock (start_seen w.write.request s Stream l.books.requests) ≡ true =
+            ap (λ j. is_young c l.books.requests.clock (start_seen j s Stream l.books.requests)) w.is_request
+            ∙ (ap₂ (is_young c) time (kh.books.requests.starts k s Stream) ∙ (young_is c (now h) (start k s Stream h) ∙ e)) in
             record {
               id = id;
               message = m;
@@ -325,8 +310,8 @@ module _ (c : Conf) (want : Option ℕ) (bp : Books) (op : Open) (l : Ledger) (p
               fresh = refl;
               write = w.write;
               there = w.there;
-              found = ap (λ b. if b then comes_for want bp x p w.write.request id w.write.octets m else None) young
-                  ∙ (ap₂ (λ j o. comes_for want bp x p j id o m) w.is_request w.is_octets ∙ so_comes want bp x p k id comes.is_open.octets m z on);
+              found = ap (λ b. if b then comes_for c want bp x p w.write.request id w.write.octets m else None) young
+                  ∙ (ap₂ (λ j o. comes_for c want bp x p j id o m) w.is_request w.is_octets ∙ so_comes c want bp x p k id comes.is_open.octets m z on);
             }
 
     back : IsIn z (coming c want bp op l)

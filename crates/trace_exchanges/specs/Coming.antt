@@ -7,7 +7,7 @@ use Rattle.client_request.specs.declared.event.Via.TheVariants.{Dgram, Stream}
 use Rattle.dns_base.specs.Answering.{is_answer}
 use Rattle.dns_base.specs.Header.{id_of}
 use Rattle.right_trace.specs.Trace.{History, Conf}
-use Rattle.right_trace.specs.Time.{newest, row_before}
+use Rattle.right_trace.specs.Time.{newest, row_before, read_timeout, stream_timeout, recv_size}
 use Rattle.right_trace.specs.Messages.{Octets, answers}
 use Rattle.right_trace.specs.Requests.{Asking}
 use Rattle.right_trace.specs.Places.{is_alive}
@@ -27,6 +27,7 @@ use Rattle.trace_frames.specs.Ledger as ledger
 use Rattle.trace_frames.specs.Waiting.{waiting_seen}
 use Rattle.message_matching.specs.Matching.{carries_by}
 use Rattle.trace_exchanges.specs.declared.coming.Coming.{Coming}
+use Rattle.right_trace.specs.Frames.{received}
 use Rattle.trace_exchanges.specs.Open.{Open}
 use Rattle.trace_exchanges.specs.Open as open_sends
 
@@ -40,61 +41,61 @@ abbrev pub is_known_place : Conf → Place → Bool
 is_known_place c x = is_alive (stand_of x.stand) && nat_lt x.server (length c.servers)
 
 -- octets that were sent for a request that was asked carry it, and a message comes on that
-abbrev pub comes_on : Place → (p k id : ℕ) → (sent message : Octets) → Option Asking → Option Coming
-comes_on x p k id o m None = None
-comes_on x p k id o m (Some a) = if carries_by x.via o a.request id
+abbrev pub comes_on : (c : Conf) → Place → (p k id : ℕ) → (sent message : Octets) → Option Asking → Option Coming
+comes_on c x p k id o m None = None
+comes_on c x p k id o m (Some a) = if carries_by c.transports.dgram_udp_payload_size x.via o a.request id
     then Some (record { request = k; via = x.via; server = x.server; place = p; id = id; message = m; agrees = is_answer id a.request.base m })
     else None
 
 -- the same where the request waited before the row, and is wanted
-abbrev pub comes_for : Option ℕ → (past : Books) → Place → (p k id : ℕ) → (sent message : Octets) → Option Coming
-comes_for want past x p k id o m = if is_wanted want k && not (replied_seen k past.requests) then comes_on x p k id o m (entry_at k past.requests.askings) else None
+abbrev pub comes_for : (c : Conf) → Option ℕ → (past : Books) → Place → (p k id : ℕ) → (sent message : Octets) → Option Coming
+comes_for c want past x p k id o m = if is_wanted want k && not (replied_seen k past.requests) then comes_on c x p k id o m (entry_at k past.requests.askings) else None
 
 abbrev pub before : Option Coming → List Coming → List Coming
 before None xs = xs
 before (Some x) xs = x ∷ xs
 
-abbrev pub on_send : Option ℕ → (past : Books) → Place → (p now : ℕ) → Octets → Sent → Option Coming
-on_send want past x p n m y = if nat_lt n (y.moment + 5000000) then comes_for want past x p y.request y.id y.octets m else None
+abbrev pub on_send : (c : Conf) → Option ℕ → (past : Books) → Place → (p now : ℕ) → Octets → Sent → Option Coming
+on_send c want past x p n m y = if nat_lt n (y.moment + read_timeout c) then comes_for c want past x p y.request y.id y.octets m else None
 
 -- what is found of each of these
 abbrev pub found_in : {A : Type 0} → (A → Option Coming) → List A → List Coming
 found_in f [] = []
 found_in f (y ∷ ys) = before (f y) (found_in f ys)
 
-abbrev pub on_sends : Option ℕ → (past : Books) → Place → (p now : ℕ) → Octets → List Sent → List Coming
-on_sends want past x p n m ys = found_in (on_send want past x p n m) ys
+abbrev pub on_sends : (c : Conf) → Option ℕ → (past : Books) → Place → (p now : ℕ) → Octets → List Sent → List Coming
+on_sends c want past x p n m ys = found_in (on_send c want past x p n m) ys
 
--- 30 s are not over since a start
-abbrev pub is_young : (now : ℕ) → Option ℕ → Bool
-is_young n None = false
-is_young n (Some t) = nat_lt n (t + 30000000)
+-- the time of a request by stream is not over since a start
+abbrev pub is_young : (c : Conf) (now : ℕ) → Option ℕ → Bool
+is_young c n None = false
+is_young c n (Some t) = nat_lt n (t + stream_timeout c)
 
-abbrev pub on_write : Option ℕ → (past here : Books) → Place → (p id : ℕ) → Octets → Written → Option Coming
-on_write want past here x p id m w = if is_young here.requests.clock (start_seen w.request x.server Stream here.requests) then comes_for want past x p w.request id w.octets m else None
+abbrev pub on_write : (c : Conf) → Option ℕ → (past here : Books) → Place → (p id : ℕ) → Octets → Written → Option Coming
+on_write c want past here x p id m w = if is_young c here.requests.clock (start_seen w.request x.server Stream here.requests) then comes_for c want past x p w.request id w.octets m else None
 
-abbrev pub on_writes : Option ℕ → (past here : Books) → Place → (p id : ℕ) → Octets → List Written → List Coming
-on_writes want past here x p id m ws = found_in (on_write want past here x p id m) ws
+abbrev pub on_writes : (c : Conf) → Option ℕ → (past here : Books) → Place → (p id : ℕ) → Octets → List Written → List Coming
+on_writes c want past here x p id m ws = found_in (on_write c want past here x p id m) ws
 
 -- frames up to a bad one, each with an id that none before it has
-abbrev pub in_frames : Option ℕ → (past : Books) → (here : Ledger) → Place → (p : ℕ) → (seen : List (ℕ × Unit {0})) → List Octets → List Coming
-in_frames want past here x p seen [] = []
-in_frames want past here x p seen (m ∷ ms) =
+abbrev pub in_frames : (c : Conf) → Option ℕ → (past : Books) → (here : Ledger) → Place → (p : ℕ) → (seen : List (ℕ × Unit {0})) → List Octets → List Coming
+in_frames c want past here x p seen [] = []
+in_frames c want past here x p seen (m ∷ ms) =
     if nat_lt (length m) 12 then []
-    else (if is_some (entry_at (id_of m) seen) then in_frames want past here x p seen ms
-    else on_writes want past here.books x p (id_of m) m (waiting_seen p (id_of m) here.waiting) ++ in_frames want past here x p (puts (id_of m) tt seen) ms)
+    else (if is_some (entry_at (id_of m) seen) then in_frames c want past here x p seen ms
+    else on_writes c want past here.books x p (id_of m) m (waiting_seen p (id_of m) here.waiting) ++ in_frames c want past here x p (puts (id_of m) tt seen) ms)
 
-abbrev pub in_datagrams : Option ℕ → (past : Books) → Open → (here : Ledger) → Place → (p : ℕ) → List Octets → List Coming
-in_datagrams want past sent here x p [] = []
-in_datagrams want past sent here x p (m ∷ ms) = if nat_lt (length m) 12 then [] else on_sends want past x p here.books.requests.clock m (listed p sent)
+abbrev pub in_datagrams : (c : Conf) → Option ℕ → (past : Books) → Open → (here : Ledger) → Place → (p : ℕ) → List Octets → List Coming
+in_datagrams c want past sent here x p [] = []
+in_datagrams c want past sent here x p (m ∷ ms) = if nat_lt (length m) 12 then [] else on_sends c want past x p here.books.requests.clock m (listed p sent)
 
-abbrev pub by_kind : Via → Option ℕ → (past : Books) → Open → (here : Ledger) → Place → (p : ℕ) → List Octets → List Coming
-by_kind Dgram want past sent here x p ms = in_datagrams want past sent here x p ms
-by_kind Stream want past sent here x p ms = in_frames want past here x p [] ms
+abbrev pub by_kind : (c : Conf) → Via → Option ℕ → (past : Books) → Open → (here : Ledger) → Place → (p : ℕ) → List Octets → List Coming
+by_kind c Dgram want past sent here x p ms = in_datagrams c want past sent here x p (received (recv_size c) ms)
+by_kind c Stream want past sent here x p ms = in_frames c want past here x p [] ms
 
 abbrev pub at_place : Conf → Option ℕ → (past : Books) → Open → (here : Ledger) → (p : ℕ) → List Octets → Option Place → List Coming
 at_place c want past sent here p ms None = []
-at_place c want past sent here p ms (Some x) = if is_known_place c x then by_kind x.via want past sent here x p ms else []
+at_place c want past sent here p ms (Some x) = if is_known_place c x then by_kind c x.via want past sent here x p ms else []
 
 abbrev pub brought_in : Conf → Option ℕ → (past : Books) → Open → (here : Ledger) → Option Brought → List Coming
 brought_in c want past sent here None = []
@@ -118,4 +119,4 @@ pub record AllComing (c : Conf) (want : Option ℕ) (past h : History) (xs : Lis
 
 -- of every two histories that the tables know, where the first is what was before the row of the second
 abbrev pub TellsComing : Conf → Option ℕ → (past : Books) → Open → (here : Ledger) → List Coming → Type 0
-TellsComing c want past sent here xs = (x h : History) → row_before h ≡ x → books.Known x past → open_sends.Known x sent → ledger.Known h here → AllComing c want x h xs
+TellsComing c want past sent here xs = (x h : History) → row_before h ≡ x → books.Known x past → open_sends.Known c x sent → ledger.Known h here → AllComing c want x h xs

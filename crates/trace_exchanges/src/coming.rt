@@ -11,7 +11,7 @@ use dns_base::{Message, NoMemory, Octets, Seq};
 use message_matching::{carries, is_answer_to};
 use number_table::NumberTable;
 use std::alloc::Global;
-use trace_frames::{Ledger, Written};
+use trace_frames::{Ledger, Written, received};
 use trace_questions::TraceConf;
 use trace_tables::{Books, Newest, Place, Sent, Stand};
 
@@ -43,6 +43,7 @@ impl Drop for Coming {
 
 /// Where a message came, and for whom messages are looked for: one request, or all.
 struct Arrival<'a> {
+    conf: &'a TraceConf,
     wanted: Option<u64>,
     number: u64,
     place: Place,
@@ -53,6 +54,7 @@ struct Arrival<'a> {
 impl Drop for Arrival<'_> {
     fn drop(self) {
         let Arrival {
+            conf: _,
             wanted: _,
             number: _,
             place: _,
@@ -93,12 +95,20 @@ impl<'a> Arrival<'a> {
         octets: &Octets,
         message: &Message,
     ) -> Result<Option<Coming>, NoMemory>
-        ensures { IfOk result (λ x. x ≡ plain.comes_on self.now.place self.now.number request id octets.now message.now (entry_at request self.now.past.now.requests.askings)) }
+        ensures { IfOk result (λ x. x ≡ plain.comes_on self.now.conf.now self.now.place self.now.number request id octets.now message.now (entry_at request self.now.past.now.requests.askings)) }
     {
         let Some(asked) = self.past.requests.askings.get(request) else {
             return Ok(None);
         };
-        if !carries(alloc, self.place.via, octets, &asked.request, id)? {
+        let payload_size = self.conf.udp_payload_size();
+        if !carries(
+            alloc,
+            payload_size,
+            self.place.via,
+            octets,
+            &asked.request,
+            id,
+        )? {
             return Ok(None);
         }
         let agrees = is_answer_to(&asked.request, id, message);
@@ -122,7 +132,7 @@ impl<'a> Arrival<'a> {
         octets: &Octets,
         message: &Message,
     ) -> Result<Option<Coming>, NoMemory>
-        ensures { IfOk result (λ x. x ≡ plain.comes_for self.now.wanted self.now.past.now self.now.place self.now.number request id octets.now message.now) }
+        ensures { IfOk result (λ x. x ≡ plain.comes_for self.now.conf.now self.now.wanted self.now.past.now self.now.place self.now.number request id octets.now message.now) }
     {
         if is_wanted(self.wanted, request) && !self.past.requests.is_replied(request) {
             self.comes_on(alloc, request, id, octets, message)
@@ -138,10 +148,10 @@ impl<'a> Arrival<'a> {
         message: &Message,
         send: &Sent,
     ) -> Result<Option<Coming>, NoMemory>
-        ensures { IfOk result (λ x. x ≡ plain.on_send self.now.wanted self.now.past.now self.now.place self.now.number self.now.here.now.books.requests.clock message.now send.now) }
+        ensures { IfOk result (λ x. x ≡ plain.on_send self.now.conf.now self.now.wanted self.now.past.now self.now.place self.now.number self.now.here.now.books.requests.clock message.now send.now) }
     {
         let now = u128::from(self.here.books.requests.clock);
-        if now < u128::from(send.moment) + 5_000_000 {
+        if now < u128::from(send.moment) + self.conf.read_timeout().as_micros() {
             self.comes_for(alloc, send.request, send.id, &send.octets, message)
         } else {
             Ok(None)
@@ -156,7 +166,7 @@ impl<'a> Arrival<'a> {
         sends: &[Sent],
         found: &mut Seq<Coming>,
     ) -> Result<(), NoMemory>
-        ensures { OnOk result (found.new ≡ found.old ++ plain.on_sends self.now.wanted self.now.past.now self.now.place self.now.number self.now.here.now.books.requests.clock message.now sends.now) }
+        ensures { OnOk result (found.new ≡ found.old ++ plain.on_sends self.now.conf.now self.now.wanted self.now.past.now self.now.place self.now.number self.now.here.now.books.requests.clock message.now sends.now) }
     {
         for send in sends {
             if let Some(coming) = self.on_send(alloc, message, send)? {
@@ -176,11 +186,11 @@ impl<'a> Arrival<'a> {
         message: &Message,
         written: &Written,
     ) -> Result<Option<Coming>, NoMemory>
-        ensures { IfOk result (λ x. x ≡ plain.on_write self.now.wanted self.now.past.now self.now.here.now.books self.now.place self.now.number id message.now written.now) }
+        ensures { IfOk result (λ x. x ≡ plain.on_write self.now.conf.now self.now.wanted self.now.past.now self.now.here.now.books self.now.place self.now.number id message.now written.now) }
     {
         let requests = &self.here.books.requests;
         let begun = requests.start(written.request, self.place.server, Via::Stream);
-        if is_young(requests.clock, begun) {
+        if is_young(self.conf, requests.clock, begun) {
             self.comes_for(alloc, written.request, id, &written.octets, message)
         } else {
             Ok(None)
@@ -196,7 +206,7 @@ impl<'a> Arrival<'a> {
         writes: &Newest<Written>,
         found: &mut Seq<Coming>,
     ) -> Result<(), NoMemory>
-        ensures { OnOk result (found.new ≡ found.old ++ plain.on_writes self.now.wanted self.now.past.now self.now.here.now.books self.now.place self.now.number id message.now writes.now) }
+        ensures { OnOk result (found.new ≡ found.old ++ plain.on_writes self.now.conf.now self.now.wanted self.now.past.now self.now.here.now.books self.now.place self.now.number id message.now writes.now) }
     {
         for written in writes {
             if let Some(coming) = self.on_write(alloc, id, message, written)? {
@@ -214,7 +224,7 @@ impl<'a> Arrival<'a> {
         message: &Message,
         found: &mut Seq<Coming>,
     ) -> Result<(), NoMemory>
-        ensures { let s = self.now in OnOk result (found.new ≡ found.old ++ plain.on_writes s.wanted s.past.now s.here.now.books s.place s.number id message.now (waiting_seen s.number id s.here.now.waiting)) }
+        ensures { let s = self.now in OnOk result (found.new ≡ found.old ++ plain.on_writes self.now.conf.now s.wanted s.past.now s.here.now.books s.place s.number id message.now (waiting_seen s.number id s.here.now.waiting)) }
     {
         let Some(at) = self.here.waiting.get(self.number) else {
             return Ok(());
@@ -232,7 +242,7 @@ impl<'a> Arrival<'a> {
         frames: &[Octets],
         found: &mut Seq<Coming>,
     ) -> Result<(), NoMemory>
-        ensures { OnOk result (found.new ≡ found.old ++ plain.in_frames self.now.wanted self.now.past.now self.now.here.now self.now.place self.now.number [] frames.now) }
+        ensures { OnOk result (found.new ≡ found.old ++ plain.in_frames self.now.conf.now self.now.wanted self.now.past.now self.now.here.now self.now.place self.now.number [] frames.now) }
     {
         let mut seen = NumberTable::new(alloc);
         for frame in frames {
@@ -258,7 +268,7 @@ impl<'a> Arrival<'a> {
         messages: &[Octets],
         found: &mut Seq<Coming>,
     ) -> Result<(), NoMemory>
-        ensures { OnOk result (found.new ≡ found.old ++ plain.in_datagrams self.now.wanted self.now.past.now sent.now self.now.here.now self.now.place self.now.number messages.now) }
+        ensures { OnOk result (found.new ≡ found.old ++ plain.in_datagrams self.now.conf.now self.now.wanted self.now.past.now sent.now self.now.here.now self.now.place self.now.number messages.now) }
     {
         let Some((first, _)) = messages.split_first() else {
             return Ok(());
@@ -273,13 +283,13 @@ impl<'a> Arrival<'a> {
     }
 }
 
-/// Whether 30 seconds are not over since a start.
-fn is_young(now: u64, begun: Option<u64>) -> bool
-    ensures { result ≡ plain.is_young now begun }
+/// Whether the time of a request by stream is not over since a start.
+fn is_young(conf: &TraceConf, now: u64, begun: Option<u64>) -> bool
+    ensures { result ≡ plain.is_young conf.now now begun }
 {
     match begun {
         None => false,
-        Some(begun) => u128::from(now) < u128::from(begun) + 30_000_000,
+        Some(begun) => u128::from(now) < u128::from(begun) + conf.stream_timeout().as_micros(),
     }
 }
 
@@ -290,7 +300,8 @@ fn is_known_place(conf: &TraceConf, place: &Place) -> bool
     matches!(place.stand, Stand::Alive) && conf.has_server(place.server)
 }
 
-fn find(
+/// The messages that come in a row for one request, or for all, as the walk over what its event brought finds them.
+pub fn all_coming(
     alloc: Global,
     conf: &TraceConf,
     wanted: Option<u64>,
@@ -311,6 +322,7 @@ fn find(
         return Ok(found);
     }
     let arrival = Arrival {
+        conf,
         wanted,
         number: brought.place,
         place: *place,
@@ -318,7 +330,10 @@ fn find(
         here,
     };
     match place.via {
-        Via::Dgram => arrival.in_datagrams(alloc, sent, brought.frames.as_slice(), &mut found)?,
+        Via::Dgram => {
+            let read = received(alloc, conf.recv_size(), brought.frames.as_slice())?;
+            arrival.in_datagrams(alloc, sent, read.as_slice(), &mut found)?
+        }
         Via::Stream => arrival.in_frames(alloc, brought.frames.as_slice(), &mut found)?,
     }
     Ok(found)
@@ -336,5 +351,5 @@ pub fn find_coming(
 ) -> Result<Seq<Coming>, NoMemory>
     ensures { IfOk result (plain.TellsComing conf.now wanted past.now sent.now here.now) }
 {
-    find(alloc, conf, wanted, past, sent, here)
+    all_coming(alloc, conf, wanted, past, sent, here)
 }

@@ -1,5 +1,6 @@
 //! What is kept is what the definitions say.
 
+ghost use Rattle.right_trace.specs.Trace.{Conf};
 ghost use Rattle.trace_exchanges.specs.Asked.{RightRowsAsk};
 ghost use Rattle.trace_exchanges.specs.Open.{GoesOn};
 
@@ -11,5 +12,5 @@ pub fn right_rows_ask()
 /// What was sent by datagrams and not answered is what the definitions of a right trace say, before the first row and over each
 /// event and out.
 pub fn open_sends_go_on()
-    ensures { GoesOn }
+    ensures { (c : Conf) → GoesOn c }
 {}

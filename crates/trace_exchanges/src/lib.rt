@@ -20,7 +20,7 @@
 //! - **Two tables count behind rows that are right alone**: what was sent by datagrams and not answered, and which servers
 //!   got invalid requests. Both ask what a request is when it is sent or handed on; the definitions ask it later, and the
 //!   two agree where nobody is sent or handed on who was not asked, which each row that is right owes. All other tables
-//!   count for every trace. `sends` is counted to seven, since no definition asks for more than six.
+//!   count for every trace. `sends` is counted to one more than the tries that are set, since no definition asks for more.
 //! - **Messages that come in a row are a list**, made once for the end of a row, or for one request where it is asked in
 //!   mid-row. Of frames the first of each id counts.
 #![tactic(auto)]
@@ -29,6 +29,6 @@ mod coming;
 mod laws;
 mod open;
 
-pub use coming::{Coming, find_coming};
+pub use coming::{Coming, all_coming, find_coming};
 pub use laws::{open_sends_go_on, right_rows_ask};
 pub use open::{Open, meet_open, put_open};

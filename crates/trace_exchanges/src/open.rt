@@ -9,7 +9,8 @@ use dns_base::{Message, NoMemory, Octets, Seq};
 use message_matching::is_answer_to;
 use number_table::NumberTable;
 use std::alloc::Global;
-use trace_frames::Brought;
+use trace_frames::{Brought, received};
+use trace_questions::TraceConf;
 use trace_tables::{Asked, Sent};
 
 /// By place, the oldest first.
@@ -74,12 +75,12 @@ fn put_sends(sent: &mut Open, place: u64, sends: Seq<Sent>) -> Result<(), NoMemo
 
 /// An event came, and what it brought is taken, of requests that were asked by then.
 pub fn meet_open(
+    conf: &TraceConf,
     sent: &mut Open,
-    alloc: Global,
     brought: &Option<Brought>,
     askings: &NumberTable<Asked>,
 ) -> Result<(), NoMemory>
-    ensures { OnOk result (sent.new ≡ plain.met brought.now askings.now sent.old) }
+    ensures { OnOk result (sent.new ≡ plain.met conf.now brought.now askings.now sent.old) }
 {
     let Some(brought) = brought else {
         return Ok(());
@@ -87,7 +88,8 @@ pub fn meet_open(
     let Some(sends) = sent.remove(brought.place) else {
         return Ok(());
     };
-    let left = left_by(alloc, sends, askings, brought.frames.as_slice())?;
+    let read = received(conf.alloc(), conf.recv_size(), brought.frames.as_slice())?;
+    let left = left_by(conf.alloc(), sends, askings, read.as_slice())?;
     put_sends(sent, brought.place, left)
 }
 

@@ -32,7 +32,7 @@ use Rattle.trace_firsts.specs.declared.firsts.News.{News}
 use Rattle.trace_firsts.specs.Firsts.{Firsts, counted, news_of, all_news, after_row, ByRow, FirstRow, HasCome, Known, GoesOn}
 use Rattle.trace_firsts.proofs.Listing.{clash, not_false, counts_so, so_counts, IsNew, added_so, still_listed, new_listed, news_so, so_news}
 
-uncut_is : (v : Via) (m : Octets) → is_uncut v m ≡ is_whole v m
+pub uncut_is : (v : Via) (m : Octets) → is_uncut v m ≡ is_whole v m
 unfolding truncated
 uncut_is Dgram m = refl
 uncut_is Stream m = refl
@@ -42,11 +42,11 @@ stream_is None = refl
 stream_is (Some x) = refl
 
 -- a message that comes and matches came for its request
-record CameAt (c : Conf) (k : ℕ) (m : Octets) (past h : History) (p : ℕ) : Type 0 where
-  for : CameFor c k m past (newest h) h
-  place : for.place ≡ p
+pub record CameAt (c : Conf) (k : ℕ) (m : Octets) (past h : History) (p : ℕ) : Type 0 where
+  pub for : CameFor c k m past (newest h) h
+  pub place : for.place ≡ p
 
-coming_came : (c : Conf) (past h : History) (z : Coming) → IsComing c past h z → matches z ≡ true → CameAt c z.request z.message past h z.place
+pub coming_came : (c : Conf) (past h : History) (z : Coming) → IsComing c past h z → matches z ≡ true → CameAt c z.request z.message past h z.place
 coming_came c past h z is e =
     let q = both z.agrees (is_uncut z.via z.message) e in
     record {
@@ -54,32 +54,32 @@ coming_came c past h z is e =
       place = refl;
     }
 
-module _ (c : Conf) (past : History) (row : Row) (l l' : Ledger) (t : Timers) (o : Here) (xs : List Coming) (f : Firsts) (kl : ledger.Known past l) (kl' : ledger.Known (after row past) l') (kt : timers.Known past t) (ko : here_outs.Known l.books.places (after row past) o) (cs : AllComing c None past (after row past) xs) (kf : Known c past f) where
+module _ (c : Conf) (past : History) (row : Row) (l l' : Ledger) (t : Timers) (o : Here) (xs : List Coming) (f : Firsts) (kl : ledger.Known past l) (kl' : ledger.Known (after row past) l') (kt : timers.Known c past t) (ko : here_outs.Known l.books.places (after row past) o) (cs : AllComing c None past (after row past) xs) (kf : Known c past f) where
   abbrev end : History
   end = after row past
 
   excused : Bool
-  excused = excused_in l'.frames.brought l'.books.requests.clock l t l' o
+  excused = excused_in c l'.frames.brought l'.books.requests.clock l t l' o
 
   -- of the place of a message
-  excused_at : (p id : ℕ) (v : Via) (m : Octets) → first_of v id (came p (newest end) past) ≡ Some m → excused ≡ (is_passed_over p l'.books.requests.clock l t o && is_of_kind Stream (site p end))
+  excused_at : (p id : ℕ) (v : Via) (m : Octets) → first_of c v id (came p (newest end) past) ≡ Some m → excused ≡ (is_passed_over c p l'.books.requests.clock l t o && is_of_kind Stream (site p end))
   unfolding excused
   excused_at p id v m first =
-      let b = brought_to l' end p id v m past kl' (before_row row past) first in
-      ap (λ b. excused_in b l'.books.requests.clock l t l' o) b.1
-      ∙ (ap (λ p. is_passed_over p l'.books.requests.clock l t o && is_stream (entry_at p l'.books.places)) b.2
-      ∙ ap (λ b. is_passed_over p l'.books.requests.clock l t o && b) (stream_is (entry_at p l'.books.places) ∙ ap (is_of_kind Stream) (kl'.books.places.sites p)))
+      let b = brought_to c l' end p id v m past kl' (before_row row past) first in
+      ap (λ b. excused_in c b l'.books.requests.clock l t l' o) b.1
+      ∙ (ap (λ p. is_passed_over c p l'.books.requests.clock l t o && is_stream (entry_at p l'.books.places)) b.2
+      ∙ ap (λ b. is_passed_over c p l'.books.requests.clock l t o && b) (stream_is (entry_at p l'.books.places) ∙ ap (is_of_kind Stream) (kl'.books.places.sites p)))
 
-  excused_so : (p id : ℕ) (v : Via) (m : Octets) → first_of v id (came p (newest end) past) ≡ Some m → excused ≡ true → IsExcused p past (newest end) end
+  excused_so : (p id : ℕ) (v : Via) (m : Octets) → first_of c v id (came p (newest end) past) ≡ Some m → excused ≡ true → IsExcused c p past (newest end) end
   unfolding IsExcused
   excused_so p id v m first e =
-      let q = both (is_passed_over p l'.books.requests.clock l t o) _ (sym (excused_at p id v m first) ∙ e) in
+      let q = both (is_passed_over c p l'.books.requests.clock l t o) _ (sym (excused_at p id v m first) ∙ e) in
       let r = passed_so c past row l l' t o kl kl' kt ko p q.0 in
       (r.0, r.1, q.1)
 
-  so_excused : (p id : ℕ) (v : Via) (m : Octets) → first_of v id (came p (newest end) past) ≡ Some m → IsExcused p past (newest end) end → excused ≡ true
+  so_excused : (p id : ℕ) (v : Via) (m : Octets) → first_of c v id (came p (newest end) past) ≡ Some m → IsExcused c p past (newest end) end → excused ≡ true
   unfolding IsExcused
-  so_excused p id v m first e = excused_at p id v m first ∙ all (is_passed_over p l'.books.requests.clock l t o) _ (so_passed c past row l l' t o kl kl' kt ko p e.0 e.1) e.2
+  so_excused p id v m first e = excused_at p id v m first ∙ all (is_passed_over c p l'.books.requests.clock l t o) _ (so_passed c past row l l' t o kl kl' kt ko p e.0 e.1) e.2
 
   -- ---- by the end of the row
 
@@ -102,7 +102,7 @@ module _ (c : Conf) (past : History) (row : Row) (l l' : Ledger) (t : Timers) (o
   new_counts z i e fails = at_end (λ past. SomeCame c z.request past (newest end) end) (record {
     message = z.message;
     came = (coming_came c past end z (cs.so z i) e).for;
-    counts = λ x. clash excused (so_excused z.place z.id z.via z.message ((cs.so z i).comes.first) (subst (λ p. IsExcused p past (newest end) end) (coming_came c past end z (cs.so z i) e).place x)) fails;
+    counts = λ x. clash excused (so_excused z.place z.id z.via z.message ((cs.so z i).comes.first) (subst (λ p. IsExcused c p past (newest end) end) (coming_came c past end z (cs.so z i) e).place x)) fails;
   })
 
   none_before : (k : ℕ) → counted k f ≡ false → EarlierRow (OfRow (SomeCame c k)) end → ⊥

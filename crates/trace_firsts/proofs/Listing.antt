@@ -31,10 +31,10 @@ pub second_true : (a b : Bool) → b ≡ true → (a || b) ≡ true
 second_true true b e = refl
 second_true false b e = e
 
-same_number : (a b : ℕ) → (a == b) ≡ true → a ≡ b
+pub same_number : (a b : ℕ) → (a == b) ≡ true → a ≡ b
 same_number a b e = grind (arith, nat_tests)
 
-own : (a : ℕ) → (a == a) ≡ true
+pub own : (a : ℕ) → (a == a) ≡ true
 own a = grind (arith, nat_tests)
 
 -- ---- what a list has

@@ -11,21 +11,21 @@ use Rattle.trace_firsts.specs.Firsts.{Firsts, counted, some_first, ByRow, FirstR
 use Rattle.trace_firsts.proofs.Listing.{clash, not_false, either, first_true, second_true, counts_so, so_counts, is_so, so_is, first_so, so_first}
 
 -- rows before the newest are those that are done before it
-earlier_so : (P : History → Type 0) (h : History) → (P [] → ⊥) → EarlierRow P h → ByRow P (row_before h)
+pub earlier_so : (P : History → Type 0) (h : History) → (P [] → ⊥) → EarlierRow P h → ByRow P (row_before h)
 earlier_so P [] fails e = absurd e
 earlier_so P (Came e ∷ h) fails b = b
 earlier_so P (Put o ∷ h) fails e = earlier_so P h fails e
 
-so_earlier : (P : History → Type 0) (h : History) → (P [] → ⊥) → ByRow P (row_before h) → EarlierRow P h
+pub so_earlier : (P : History → Type 0) (h : History) → (P [] → ⊥) → ByRow P (row_before h) → EarlierRow P h
 so_earlier P [] fails (inl p) = fails p
 so_earlier P [] fails (inr e) = e
 so_earlier P (Came e ∷ h) fails b = b
 so_earlier P (Put o ∷ h) fails b = so_earlier P h fails b
 
-none_at_first : (c : Conf) (k : ℕ) (m : Octets) → OfRow (CameFor c k m) [] → ⊥
+pub none_at_first : (c : Conf) (k : ℕ) (m : Octets) → OfRow (CameFor c k m) [] → ⊥
 none_at_first c k m w = absurd (let z = w.matches.comes.is_open.stands.asked.1 in cc)
 
-none_some : (c : Conf) (k : ℕ) → OfRow (SomeCame c k) [] → ⊥
+pub none_some : (c : Conf) (k : ℕ) → OfRow (SomeCame c k) [] → ⊥
 none_some c k w = none_at_first c k w.message w.came
 
 pub tells_earlier : (c : Conf) (k : ℕ) (m : Octets) (f : Firsts) (b : Bool) → b ≡ earlier_seen k m f → TellsEarlier c k m f b

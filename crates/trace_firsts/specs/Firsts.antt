@@ -81,9 +81,9 @@ pub record Known (c : Conf) (h : History) (t : Firsts) : Type 0 where
 -- it is known before the first row, and goes on over rows: `l` is the ledger before the row, and `l'` that behind it
 pub record GoesOn : Type 0 where
   pub begins : (c : Conf) → Known c [] []
-  pub row : (c : Conf) (past : History) (row : Row) (l l' : Ledger) (t : Timers) (o : Here) (xs : List Coming) (f : Firsts) → ledger.Known past l → ledger.Known (after row past) l' → timers.Known past t
+  pub row : (c : Conf) (past : History) (row : Row) (l l' : Ledger) (t : Timers) (o : Here) (xs : List Coming) (f : Firsts) → ledger.Known past l → ledger.Known (after row past) l' → timers.Known c past t
       → here_outs.Known l.books.places (after row past) o → AllComing c None past (after row past) xs → Known c past f
-      → Known c (after row past) (after_row (excused_in l'.frames.brought l'.books.requests.clock l t l' o) xs f)
+      → Known c (after row past) (after_row (excused_in c l'.frames.brought l'.books.requests.clock l t l' o) xs f)
 
 -- a message came for a request in a row before this one
 abbrev pub earlier_seen : (k : ℕ) → Octets → Firsts → Bool

@@ -14,6 +14,7 @@ use trace_due::Timers;
 use trace_exchanges::Coming;
 use trace_frames::{Here, Ledger};
 use trace_promptness::is_passed_over;
+use trace_questions::TraceConf;
 use trace_tables::{Newest, Place, add};
 
 /// A message that came for a request and matches it.
@@ -65,7 +66,7 @@ fn some_counts(arrived: &Newest<Arrived>) -> bool
 }
 
 /// Whether a message came for a request that was not to be passed over.
-fn is_counted(firsts: &Firsts, request: u64) -> bool
+pub(crate) fn is_counted(firsts: &Firsts, request: u64) -> bool
     ensures { result ≡ plain.counted request firsts.now }
 {
     match firsts.get(request) {
@@ -99,7 +100,7 @@ fn some_first(message: &Message, arrived: &Newest<Arrived>) -> bool
 }
 
 /// Whether a message answers its request and, if it is a datagram, has TC clear.
-fn matches(coming: &Coming) -> bool
+pub(crate) fn matches(coming: &Coming) -> bool
     ensures { result ≡ matches coming.now }
 {
     coming.agrees
@@ -120,14 +121,20 @@ fn is_stream(places: &NumberTable<Place>, place: u64) -> bool
 }
 
 /// Whether what came in the row may be passed over.
-fn is_excused(past: &Ledger, timers: &Timers, ledger: &Ledger, here: &Here) -> bool
-    ensures { result ≡ excused_in ledger.now.frames.brought ledger.now.books.requests.clock past.now timers.now ledger.now here.now }
+fn is_excused(
+    conf: &TraceConf,
+    past: &Ledger,
+    timers: &Timers,
+    ledger: &Ledger,
+    here: &Here,
+) -> bool
+    ensures { result ≡ excused_in conf.now ledger.now.frames.brought ledger.now.books.requests.clock past.now timers.now ledger.now here.now }
 {
     match &ledger.frames.brought {
         None => false,
         Some(brought) => {
             let moment = ledger.books.requests.clock;
-            is_passed_over(past, timers, here, brought.place, moment)
+            is_passed_over(conf, past, timers, here, brought.place, moment)
                 && is_stream(&ledger.books.places, brought.place)
         }
     }
@@ -188,19 +195,19 @@ fn add_all(firsts: &mut Firsts, alloc: Global, news: &[News]) -> Result<(), NoMe
 /// A row is done, in which these messages came: `past` and `timers` are what was known before it, `ledger` what is known behind
 /// it, and `here` what its outs made of places.
 pub fn note_arrivals(
+    conf: &TraceConf,
     firsts: &mut Firsts,
-    alloc: Global,
     past: &Ledger,
     timers: &Timers,
     ledger: &Ledger,
     here: &Here,
     comings: &[Coming],
 ) -> Result<(), NoMemory>
-    ensures { OnOk result (firsts.new ≡ plain.after_row (excused_in ledger.now.frames.brought ledger.now.books.requests.clock past.now timers.now ledger.now here.now) comings.now firsts.old) }
+    ensures { OnOk result (firsts.new ≡ plain.after_row (excused_in conf.now ledger.now.frames.brought ledger.now.books.requests.clock past.now timers.now ledger.now here.now) comings.now firsts.old) }
 {
-    let counts = !is_excused(past, timers, ledger, here);
-    let news = all_news(alloc, firsts, counts, comings)?;
-    add_all(firsts, alloc, news.as_slice())
+    let counts = !is_excused(conf, past, timers, ledger, here);
+    let news = all_news(conf.alloc(), firsts, counts, comings)?;
+    add_all(firsts, conf.alloc(), news.as_slice())
 }
 
 fn find_earlier(firsts: &Firsts, request: u64, message: &Message) -> bool

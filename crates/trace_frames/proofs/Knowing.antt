@@ -32,26 +32,24 @@ module _ (h : History) (places : List (ℕ × Place)) (t : Frames) (at : PlacesK
   same_place p q e = grind (arith, nat_tests)
 
   -- a datagram
-  datagram_here : (q p : ℕ) (o : Octets) → frames_of p (datagram_at q (take 2000 o) (is_open Dgram (entry_at q places)) t).brought ≡ came p (Datagram q o) h
-  datagram_here q p o = ap (λ b. frames_of p (datagram_at q (take 2000 o) b t).brought) (open_is Dgram q) ∙ go (q == p) refl
+  datagram_here : (q p : ℕ) (o : Octets) → frames_of p (datagram_at q o (is_open Dgram (entry_at q places)) t).brought ≡ came p (Datagram q o) h
+  datagram_here q p o = ap (λ b. frames_of p (datagram_at q o b t).brought) (open_is Dgram q) ∙ go (q == p) refl
     where
-      here : (x y z : Bool) → frames_of q (if (x && y) && z then Some (record { place = q; frames = take 2000 o ∷ [] }) else None) ≡ (if x && (y && z) then take 2000 o ∷ [] else [])
-      here true true true = ap (λ b. if b then take 2000 o ∷ [] else []) (own q)
+      here : (x : Bool) → frames_of q (if x then Some (record { place = q; frames = o ∷ [] }) else None) ≡ (if x then o ∷ [] else [])
+      here true = ap (λ b. if b then o ∷ [] else []) (own q)
         where
           own : (n : ℕ) → (n == n) ≡ true
           own n = grind (arith, nat_tests)
-      here true true false = refl
-      here true false z = refl
-      here false y z = refl
+      here false = refl
 
-      go : (b : Bool) → (q == p) ≡ b → frames_of p (if (is_alive (stand q h) && is_of_kind Dgram (site q h)) && nat_le 12 (length (take 2000 o)) then Some (record { place = q; frames = take 2000 o ∷ [] }) else None)
-          ≡ (if b && (is_alive (stand p h) && (is_of_kind Dgram (site p h) && nat_le 12 (length (take 2000 o)))) then take 2000 o ∷ [] else [])
-      go true e = subst (λ p. frames_of p (if (is_alive (stand q h) && is_of_kind Dgram (site q h)) && nat_le 12 (length (take 2000 o)) then Some (record { place = q; frames = take 2000 o ∷ [] }) else None)
-          ≡ (if is_alive (stand p h) && (is_of_kind Dgram (site p h) && nat_le 12 (length (take 2000 o))) then take 2000 o ∷ [] else [])) (same_place p q e) (here (is_alive (stand q h)) (is_of_kind Dgram (site q h)) (nat_le 12 (length (take 2000 o))))
-      go false e = other ((is_alive (stand q h) && is_of_kind Dgram (site q h)) && nat_le 12 (length (take 2000 o)))
+      go : (b : Bool) → (q == p) ≡ b → frames_of p (if is_alive (stand q h) && is_of_kind Dgram (site q h) then Some (record { place = q; frames = o ∷ [] }) else None)
+          ≡ (if b && (is_alive (stand p h) && is_of_kind Dgram (site p h)) then o ∷ [] else [])
+      go true e = subst (λ p. frames_of p (if is_alive (stand q h) && is_of_kind Dgram (site q h) then Some (record { place = q; frames = o ∷ [] }) else None)
+          ≡ (if is_alive (stand p h) && is_of_kind Dgram (site p h) then o ∷ [] else [])) (same_place p q e) (here (is_alive (stand q h) && is_of_kind Dgram (site q h)))
+      go false e = other (is_alive (stand q h) && is_of_kind Dgram (site q h))
         where
-          other : (c : Bool) → frames_of p (if c then Some (record { place = q; frames = take 2000 o ∷ [] }) else None) ≡ []
-          other true = ap (λ b. if b then take 2000 o ∷ [] else []) e
+          other : (c : Bool) → frames_of p (if c then Some (record { place = q; frames = o ∷ [] }) else None) ≡ []
+          other true = ap (λ b. if b then o ∷ [] else []) e
           other false = refl
 
   -- octets of a stream

@@ -1,5 +1,5 @@
 -- What a forward pass keeps of frames.
-use Rattle.std.specs.Prelude.{◌≡◌, ℕ, ◌==◌, ◌&&◌, nat_le, Bool, true, false, if◌then◌else◌, length, take, List, [], ◌∷◌, Option, Some, None}
+use Rattle.std.specs.Prelude.{◌≡◌, ℕ, ◌==◌, ◌&&◌, Bool, true, false, if◌then◌else◌, List, [], ◌∷◌, Option, Some, None}
 use Rattle.number_table.specs.Entries.{puts, frees, entry_at}
 use Rattle.client_request.specs.declared.event.What.{What}
 use Rattle.client_request.specs.declared.event.What.TheVariants.{Datagram, Bytes}
@@ -32,9 +32,9 @@ reading_or_none (Some x) = x
 abbrev pub brings : (p : ℕ) → List Octets → Option Brought
 brings p ms = Some (record { place = p; frames = ms })
 
--- a datagram that is long enough came
+-- a datagram came
 abbrev pub datagram_at : (p : ℕ) → Octets → Bool → Frames → Frames
-datagram_at p cut here t = record t { brought = if here && nat_le 12 (length cut) then brings p (cut ∷ []) else None }
+datagram_at p o here t = record t { brought = if here then brings p (o ∷ []) else None }
 
 abbrev pub fed_at : (p : ℕ) → Fed → Frames → Frames
 fed_at p d t = record { readings = puts p d.left (frees p t.readings); brought = brings p d.frames }
@@ -46,7 +46,7 @@ bytes_at p o false t = record t { brought = None }
 
 -- what an event makes of it, over the places as they were
 abbrev pub met : What → List (ℕ × Place) → Frames → Frames
-met (Datagram p o) places t = datagram_at p (take 2000 o) (is_open Dgram (entry_at p places)) t
+met (Datagram p o) places t = datagram_at p o (is_open Dgram (entry_at p places)) t
 met (Bytes p o) places t = bytes_at p o (is_open Stream (entry_at p places)) t
 met _ places t = record t { brought = None }
 

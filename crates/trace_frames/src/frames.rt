@@ -1,6 +1,7 @@
 //! What came at places: the frames of the newest row, and what is read of the next ones.
 
 ghost use Rattle.std.specs.Prelude.{◌≡◌, ◌∷◌, [], IfOk, OnOk, option_copied, take};
+ghost use Rattle.right_trace.specs.Frames.{received};
 ghost use Rattle.trace_frames.specs.Frames as plain;
 
 use crate::framing::Framing;
@@ -52,16 +53,30 @@ fn is_open(place: Option<&Place>, via: Via) -> bool
     }
 }
 
-/// The octets of a datagram that are read: 2000 at most.
+/// The octets of a datagram that are read, so many at most.
 #[tactic(auto, using(crate::proofs::Feeding::take_short))]
-fn cut(octets: &Octets) -> Result<Octets, NoMemory>
-    ensures { IfOk result (λ o. o ≡ take 2000 octets.now) }
+fn cut(most: usize, octets: &Octets) -> Result<Octets, NoMemory>
+    ensures { IfOk result (λ o. o ≡ take most octets.now) }
 {
-    if octets.as_slice().len() > 2000 {
-        return octets.truncated(2000);
+    if octets.as_slice().len() > most {
+        return octets.truncated(most);
     }
     let whole = octets.try_clone()?;
     Ok(whole)
+}
+
+/// What is read of datagrams, so many octets of each at most, where a header is left.
+pub fn received(alloc: Global, most: usize, datagrams: &[Octets]) -> Result<Seq<Octets>, NoMemory>
+    ensures { IfOk result (λ read. read ≡ received most datagrams.now) }
+{
+    let mut read = Seq::new(alloc);
+    for octets in datagrams {
+        let cut = cut(most, octets)?;
+        if cut.as_slice().len() >= 12 {
+            read.push(cut)?;
+        }
+    }
+    Ok(read)
 }
 
 /// The one of these.
@@ -92,12 +107,11 @@ impl Frames {
         octets: &Octets,
         is_open: bool,
     ) -> Result<(), NoMemory>
-        ensures { OnOk result (self.new ≡ plain.datagram_at place (take 2000 octets.now) is_open self.old) }
+        ensures { OnOk result (self.new ≡ plain.datagram_at place octets.now is_open self.old) }
     {
         self.brought = None;
-        let cut = cut(octets)?;
-        if is_open && cut.as_slice().len() >= 12 {
-            let frames = one(alloc, cut)?;
+        if is_open {
+            let frames = one(alloc, octets.try_clone()?)?;
             self.brought = Some(Brought { place, frames });
         }
         Ok(())

@@ -18,7 +18,7 @@ mod laws;
 mod ledger;
 mod waiting;
 
-pub use frames::{Brought, Frames};
+pub use frames::{Brought, Frames, received};
 pub use framing::{Framing, Stage};
 pub use here::Here;
 pub use laws::{frames_go_on, here_goes_on, ledger_goes_on, waiting_goes_on};

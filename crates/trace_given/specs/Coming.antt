@@ -25,4 +25,4 @@ some_brings k m (x ∷ xs) = brings k m x || some_brings k m xs
 
 -- the answer, of every two histories that the tables know, where the first is what was before the row of the second
 abbrev pub TellsCame : Conf → (k : ℕ) → Octets → (past : Books) → Open → (here : Ledger) → Bool → Type 0
-TellsCame c k m past sent here b = (x h : History) → row_before h ≡ x → books.Known x past → open_sends.Known x sent → ledger.Known h here → Tells (CameFor c k m x (newest h) h) b
+TellsCame c k m past sent here b = (x h : History) → row_before h ≡ x → books.Known x past → open_sends.Known c x sent → ledger.Known h here → Tells (CameFor c k m x (newest h) h) b

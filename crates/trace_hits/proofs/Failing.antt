@@ -1,247 +1,193 @@
--- When requests first fail, as one pass over the rows finds it.
-use Rattle.std.proofs.Common.{◌≡◌, ℕ, suc, ◌+◌, ◌<◌, ◌≤◌, ◌==◌, ◌||◌, max, Bool, true, false, inl, inr, Option, Some, None, List, [], ◌∷◌, refl, sym, ap, ap₂, ◌∙◌, subst, arith}
-use Rattle.std.specs.Prelude.{if◌then◌else◌, is_some, Ok, Err}
-use Rattle.std.proofs.lemmas.Bool.{or_right}
-use Rattle.number_table.specs.Entries.{puts, entry_at}
+-- Whether a reply lets its request fail, as it is found, is what the definitions say.
+use Rattle.std.proofs.Common.{◌≡◌, ℕ, ◌==◌, ◌&&◌, ◌||◌, ◌⊎◌, inl, inr, not, Bool, true, false, Option, Some, None, List, [], ◌∷◌, refl, sym, ap, ◌∙◌, subst}
+use Rattle.std.specs.Prelude.{if◌then◌else◌, is_some, Result, Ok, Err}
+use Rattle.std.specs.List.{list_any}
 use Rattle.client_request.specs.declared.error.Error.{Error}
+use Rattle.client_request.specs.declared.error.Error.TheVariants as errors
 use Rattle.client_request.specs.declared.event.What.{What}
 use Rattle.client_request.specs.declared.event.Out.{Out}
 use Rattle.client_request.specs.declared.event.Out.TheVariants.{Start, OpenDgram, OpenStream, Send, Write, Resume, Close, Stale, Reply}
-use Rattle.client_request.specs.declared.event.Row.{Row}
-use Rattle.right_trace.specs.Trace.{History, Conf, Came, Put, put_all, after}
-use Rattle.right_trace.specs.Time.{now}
+use Rattle.client_settings.specs.Settings.{CacheSettings}
+use Rattle.right_trace.specs.Trace.{History, Conf, Put}
+use Rattle.right_trace.specs.Time.{newest, row_before}
+use Rattle.right_trace.specs.Messages.{Octets}
 use Rattle.right_trace.specs.Settings.{Settings}
-use Rattle.right_trace.specs.Requests.{asks, is_ask, is_reply}
-use Rattle.right_trace.specs.Errors.{is_failure}
-use Rattle.right_trace.specs.Right.{Among, OutsRight, RowRight}
-use Rattle.right_trace.specs.StaleServed.{NeverFails}
-use Rattle.right_trace.proofs.Asked.{asking_below}
-use Rattle.trace_tables.proofs.Tables.{at_puts}
-use Rattle.trace_hits.specs.declared.failures.Failures.{Failures}
+use Rattle.right_trace.specs.Requests.{Asking, asks, is_ask, is_asked_here}
+use Rattle.right_trace.specs.Parts.{IsIn}
+use Rattle.right_trace.specs.Keys.{is_cacheable}
+use Rattle.right_trace.specs.Views.{is_failing_message}
+use Rattle.right_trace.specs.Errors.{is_failure, CameWithoutValidity}
+use Rattle.right_trace.specs.StaleServed.{CameUnread, FailsBy, NoneFails}
+use Rattle.cache_rules.specs.Validity.{cached_by}
+use Rattle.trace_tables.specs.Requests.{marked_seen}
+use Rattle.trace_questions.specs.Outs.{Tells}
+use Rattle.trace_questions.proofs.Deciding.{both, all, not_true}
+use Rattle.trace_exchanges.specs.declared.coming.Coming.{Coming}
+use Rattle.trace_exchanges.specs.Coming.{coming, AllComing}
+use Rattle.trace_exchanges.proofs.Telling.{tells_coming}
+use Rattle.trace_promptness.specs.Prompt.{matches}
+use Rattle.trace_errors.specs.Arrivals.{lacks_validity, is_unkept}
+use Rattle.trace_errors.specs.Direct.{asked_here}
+use Rattle.trace_errors.proofs.Arriving.{unkept_so, so_unkept}
+use Rattle.trace_errors.proofs.Directing.{asked_is}
+use Rattle.trace_pass.specs.declared.pass.Pass.{Pass}
+use Rattle.trace_pass.specs.Pass as pass
+use Rattle.trace_pass.proofs.Taking as passes
+use Rattle.trace_hits.specs.Known.{HasCache}
 use Rattle.trace_hits.specs.Point.{is_number}
-use Rattle.trace_hits.specs.Failures.{nothing, failing, noted, noted_of, has_put, have_put, after_row, after_rows, fails_in, first_failure}
-use Rattle.trace_hits.specs.Serving.{KnowFailures}
-use Rattle.trace_hits.proofs.Behind.{same_number, own_number, clash, reply_first}
+use Rattle.trace_hits.specs.Failing.{is_unread, came_unread, message_fails, is_unreadable, error_fails, fails_by}
+use Rattle.trace_hits.specs.Failures.{failing, fails_in}
+use Rattle.trace_hits.proofs.Behind.{same_number, own_number, clash}
+use Rattle.trace_hits.proofs.Keeping.{same_validity, not_or}
 
--- ---- the table
+either : (a b : Bool) → (a || b) ≡ true → (a ≡ true) ⊎ (b ≡ true)
+either true b e = inl refl
+either false b e = inr e
 
-abbrev or_first : Option ℕ → Option ℕ → Option ℕ
-or_first (Some n) o = Some n
-or_first None o = o
+first_true : (a b : Bool) → a ≡ true → (a || b) ≡ true
+first_true a b e = ap (λ a. a || b) e
 
-or_none : (o : Option ℕ) → or_first o None ≡ o
-or_none (Some n) = refl
-or_none None = refl
+second_true : (a b : Bool) → b ≡ true → (a || b) ≡ true
+second_true true b e = refl
+second_true false b e = e
 
--- an out
-module _ (k : ℕ) (t : Failures) where
-  abbrev at : Failures → Option ℕ
-  at t = entry_at k t.moments
+-- it is false, unless
+of_none : (b : Bool) → (b ≡ true → ⊥) → b ≡ false
+of_none true none = absurd (none refl)
+of_none false none = refl
 
-  note_at : (j : ℕ) → at (noted j t) ≡ or_first (at t) (if j == k then Some t.clock else None)
-  note_at j = go (j == k) refl (entry_at j t.moments) refl (at t) refl
+-- one of these passes
+any_so : {A : Type 0} (g : A → Bool) (xs : List A) → list_any g xs ≡ true → (z : A) × IsIn z xs × (g z ≡ true)
+any_so g [] e = absurd (cc)
+any_so g (x ∷ xs) e = go (either (g x) (list_any g xs) e) (any_so g xs)
+  where
+    go : (g x ≡ true) ⊎ (list_any g xs ≡ true) → (list_any g xs ≡ true → (z : A) × IsIn z xs × (g z ≡ true)) → (z : A) × IsIn z (x ∷ xs) × (g z ≡ true)
+    go (inl e) rest = (x, inl refl, e)
+    go (inr e) rest = let r = rest e in (r.0, inr r.1, r.2)
+
+so_any : {A : Type 0} (g : A → Bool) (z : A) (xs : List A) → IsIn z xs → g z ≡ true → list_any g xs ≡ true
+so_any g z [] i e = absurd i
+so_any g z (x ∷ xs) (inl is) e = first_true (g x) (list_any g xs) (ap g is ∙ e)
+so_any g z (x ∷ xs) (inr i) e = second_true (g x) (list_any g xs) (so_any g z xs i e)
+
+unreadable_is : (e : Error) → is_unreadable e ≡ true → e ≡ errors.MessageParseError
+unreadable_is errors.MessageParseError e = refl
+unreadable_is _ e = absurd (cc)
+
+-- settings with the cache say the same of validity
+module _ (cache : CacheSettings) (s : Settings) (has : HasCache cache s) where
+  lacks_same : (m : Octets) (o : Option Asking) → lacks_validity (cached_by cache) m o ≡ lacks_validity s m o
+  lacks_same m None = refl
+  lacks_same m (Some a) = ap (λ o. is_cacheable a.request && not (is_some o)) (same_validity cache s m has)
+
+  unkept_same : (askings : List (ℕ × Asking)) (x : Coming) → is_unkept (cached_by cache) askings x ≡ is_unkept s askings x
+  unkept_same askings x = ap (λ b. matches x && b) (lacks_same x.message _)
+
+-- at a point of a row
+module _ (c : Conf) (cache : CacheSettings) (s : Settings) (has : HasCache cache s) (past h : History) (p q : Pass) (kp : pass.Known c past p) (kq : pass.Known c h q) (before : row_before h ≡ past) (w : What) (is : newest h ≡ w) (k : ℕ) where
+  xs : List Coming
+  xs = coming c (Some k) p.ledger.books p.sends q.ledger
+
+  cs : AllComing c (Some k) past h xs
+  unfolding xs
+  cs = tells_coming c (Some k) p.ledger.books p.sends q.ledger (coming c (Some k) p.ledger.books p.sends q.ledger) refl past h before kp.ledger.books kp.sends kq.ledger
+
+  abbrev askings : List (ℕ × Asking)
+  askings = p.ledger.books.requests.askings
+
+  asked : asked_here k w p.ledger.books ≡ is_asked_here k h
+  asked = ap (λ n. is_ask w && (n == k)) (kp.ledger.books.requests.count ∙ ap asks (sym before)) ∙ (ap (λ w. is_ask w && (asks (row_before h) == k)) (sym is) ∙ sym (asked_is k h))
+
+  unread_so : came_unread c (cached_by cache) p q k ≡ true → CameUnread c s k past w h
+  unfolding xs
+  unread_so e =
+      let z = any_so (is_unread (cached_by cache) k askings) xs e in
+      let a = both (z.0.request == k) _ z.2 in
+      let b = both (not (is_failing_message z.0.message)) _ a.1 in
+      let came = unkept_so c (Some k) past h xs cs s k askings kp.ledger.books.requests.askings z.0 z.1 (same_number z.0.request k a.0) (sym (unkept_same cache s has askings z.0) ∙ b.1) in
+      (z.0.message, not_true (is_failing_message z.0.message) b.0, subst (λ w. CameWithoutValidity c s k z.0.message past w h) is came)
+
+  so_unread : CameUnread c s k past w h → came_unread c (cached_by cache) p q k ≡ true
+  unfolding xs
+  so_unread u =
+      let z = so_unkept c (Some k) past h xs cs s k askings kp.ledger.books.requests.askings (own_number k) u.0 (subst (λ w. CameWithoutValidity c s k u.0 past w h) (sym is) u.2) in
+      so_any (is_unread (cached_by cache) k askings) z.0 xs z.1
+      (all (z.0.request == k) _ (ap (λ j. j == k) z.2 ∙ own_number k)
+      (all (not (is_failing_message z.0.message)) _ (ap (λ m. not (is_failing_message m)) z.3 ∙ ap not u.1) (unkept_same cache s has askings z.0 ∙ z.4)))
+
+  message_so : (m : Octets) → message_fails p q w k m ≡ true → FailsBy c s k past w h (Ok m)
+  message_so m e =
+      let a = both (is_failing_message m) _ e in
+      let b = both (not (marked_seen k q.ledger.books.requests)) _ a.1 in
+      (a.0, sym (kq.ledger.books.requests.marks k) ∙ not_true (marked_seen k q.ledger.books.requests) b.0, sym asked ∙ not_true (asked_here k w p.ledger.books) b.1)
+
+  so_message : (m : Octets) → FailsBy c s k past w h (Ok m) → message_fails p q w k m ≡ true
+  so_message m f = all (is_failing_message m) _ f.0
+      (all (not (marked_seen k q.ledger.books.requests)) _ (ap not (kq.ledger.books.requests.marks k ∙ f.1)) (ap not (asked ∙ f.2)))
+
+  error_so : (e : Error) → error_fails c (cached_by cache) p q w k e ≡ true → FailsBy c s k past w h (Err e)
+  error_so e t = go (either (is_failure e) _ t)
     where
-      written : at (record t { moments = puts j t.clock t.moments }) ≡ (if j == k then Some t.clock else at t)
-      written = at_puts j t.clock k t.moments
+      go : (is_failure e ≡ true) ⊎ ((is_unreadable e && (not (asked_here k w p.ledger.books) && not (came_unread c (cached_by cache) p q k))) ≡ true) → FailsBy c s k past w h (Err e)
+      go (inl i) = inl i
+      go (inr i) =
+          let a = both (is_unreadable e) _ i in
+          let b = both (not (asked_here k w p.ledger.books)) _ a.1 in
+          inr (unreadable_is e a.0, sym asked ∙ not_true (asked_here k w p.ledger.books) b.0, λ u. clash (came_unread c (cached_by cache) p q k) (so_unread u) (not_true (came_unread c (cached_by cache) p q k) b.1))
 
-      go : (b : Bool) → (j == k) ≡ b → (p : Option ℕ) → entry_at j t.moments ≡ p → (o : Option ℕ) → at t ≡ o → at (if is_some p then t else record t { moments = puts j t.clock t.moments }) ≡ or_first o (if b then Some t.clock else None)
-      go true i (Some n) e (Some m) f = f
-      go true i (Some n) e None f = absurd (let z : Some n ≡ None = sym e ∙ (ap (λ j. entry_at j t.moments) (same_number j k i) ∙ f) in cc)
-      go true i None e (Some m) f = absurd (let z : None ≡ Some m = sym e ∙ (ap (λ j. entry_at j t.moments) (same_number j k i) ∙ f) in cc)
-      go true i None e None f = written ∙ ap (λ b. if b then Some t.clock else at t) i
-      go false i (Some n) e o f = f ∙ sym (or_none o)
-      go false i None e o f = written ∙ (ap (λ b. if b then Some t.clock else at t) i ∙ (f ∙ sym (or_none o)))
+  so_error : (e : Error) → FailsBy c s k past w h (Err e) → error_fails c (cached_by cache) p q w k e ≡ true
+  so_error e (inl i) = first_true (is_failure e) _ i
+  so_error e (inr f) = second_true (is_failure e) _
+      (all (is_unreadable e) _ (ap is_unreadable f.0)
+      (all (not (asked_here k w p.ledger.books)) _ (ap not (asked ∙ f.1))
+      (ap not (of_none (came_unread c (cached_by cache) p q k) (λ u. f.2 (unread_so u))))))
 
-  put_at : (o : Out) → at (has_put o t) ≡ or_first (at t) (if is_number k (failing o) then Some t.clock else None)
-  put_at o = go (failing o)
+  -- a reply lets the request fail
+  pub fails_tells : (x : Result Octets Error) → Tells (FailsBy c s k past w h x) (fails_by c (cached_by cache) p q w k x)
+  fails_tells (Ok m) = (message_so m, so_message m)
+  fails_tells (Err e) = (error_so e, so_error e)
+
+-- outs of a row
+module _ (c : Conf) (cache : CacheSettings) (s : Settings) (has : HasCache cache s) (past : History) (p : Pass) (kp : pass.Known c past p) (w : What) (k : ℕ) where
+  abbrev fails : Pass → Out → Bool
+  fails q o = is_number k (failing c (cached_by cache) p q w o)
+
+  known_out : (h : History) (q : Pass) (o : Out) → pass.Known c h q → newest h ≡ w → pass.Known c (Put o ∷ h) (pass.has_put w o q)
+  known_out h q o kq is = subst (λ w. pass.Known c (Put o ∷ h) (pass.has_put w o q)) is ((passes.goes_on c).out h o q kq)
+
+  -- it fails by an out
+  fails_here : (h : History) (q : Pass) (kq : pass.Known c h q) → row_before h ≡ past → newest h ≡ w → (o : Out) → fails q o ≡ true → (x : Result Octets Error) × (o ≡ Reply k x) × FailsBy c s k past w h x
+  fails_here h q kq before is (Reply j x) e = go (fails_by c (cached_by cache) p q w j x) refl e
     where
-      go : (p : Option ℕ) → at (noted_of p t) ≡ or_first (at t) (if is_number k p then Some t.clock else None)
-      go None = sym (or_none (at t))
-      go (Some j) = note_at j
+      go : (b : Bool) → fails_by c (cached_by cache) p q w j x ≡ b → is_number k (if b then Some j else None) ≡ true → (y : Result Octets Error) × (Reply j x ≡ Reply k y) × FailsBy c s k past w h y
+      go true i n =
+          let same = same_number j k n in
+          (x, ap (λ j. Reply j x) same, (fails_tells c cache s has past h p q kp kq before w is k x).0 (subst (λ j. fails_by c (cached_by cache) p q w j x ≡ true) same i))
+      go false i n = absurd (cc)
+  fails_here h q kq before is (Start j t u) e = absurd (cc)
+  fails_here h q kq before is (OpenDgram r t) e = absurd (cc)
+  fails_here h q kq before is (OpenStream r t) e = absurd (cc)
+  fails_here h q kq before is (Send r j i o) e = absurd (cc)
+  fails_here h q kq before is (Write r j i o) e = absurd (cc)
+  fails_here h q kq before is (Resume r o) e = absurd (cc)
+  fails_here h q kq before is (Close r) e = absurd (cc)
+  fails_here h q kq before is (Stale j) e = absurd (cc)
 
-note_clock : (j : ℕ) (t : Failures) → (noted j t).clock ≡ t.clock
-note_clock j t = go (is_some (entry_at j t.moments))
-  where
-    go : (b : Bool) → (let u : Failures = (if b then t else record t { moments = puts j t.clock t.moments }) in u.clock) ≡ t.clock
-    go true = refl
-    go false = refl
+  so_fails : (h : History) (q : Pass) (kq : pass.Known c h q) → row_before h ≡ past → newest h ≡ w → (o : Out) (x : Result Octets Error) → o ≡ Reply k x → FailsBy c s k past w h x → fails q o ≡ true
+  so_fails h q kq before is o x i f =
+      ap (fails q) i
+      ∙ (ap (λ b. is_number k (if b then Some k else None)) ((fails_tells c cache s has past h p q kp kq before w is k x).1 f) ∙ own_number k)
 
-put_clock : (o : Out) (t : Failures) → (has_put o t).clock ≡ t.clock
-put_clock o t = go (failing o)
-  where
-    go : (p : Option ℕ) → (noted_of p t).clock ≡ t.clock
-    go None = refl
-    go (Some j) = note_clock j t
+  pub some_fails : (os : List Out) (h : History) (q : Pass) → pass.Known c h q → row_before h ≡ past → newest h ≡ w → fails_in c (cached_by cache) p q w k os ≡ true → NoneFails c s k past w h os → ⊥
+  some_fails [] h q kq before is e none = absurd (cc)
+  some_fails (o ∷ os) h q kq before is e none = go (some_fails os (Put o ∷ h) (pass.has_put w o q) (known_out h q o kq is) before is) (fails q o) refl e
+    where
+      go : (fails_in c (cached_by cache) p (pass.has_put w o q) w k os ≡ true → NoneFails c s k past w (Put o ∷ h) os → ⊥) → (b : Bool) → fails q o ≡ b → (b || fails_in c (cached_by cache) p (pass.has_put w o q) w k os) ≡ true → ⊥
+      go rest true i n = let f = fails_here h q kq before is o i in none.0 f.0 f.1 f.2
+      go rest false i n = rest n none.1
 
-puts_clock : (os : List Out) (t : Failures) → (have_put os t).clock ≡ t.clock
-puts_clock [] t = refl
-puts_clock (o ∷ os) t = puts_clock os (has_put o t) ∙ put_clock o t
-
-puts_at : (k : ℕ) (os : List Out) (t : Failures) → entry_at k (have_put os t).moments ≡ or_first (entry_at k t.moments) (if fails_in k os then Some t.clock else None)
-puts_at k [] t = sym (or_none (entry_at k t.moments))
-puts_at k (o ∷ os) t =
-    puts_at k os (has_put o t)
-    ∙ (ap₂ (λ p n. or_first p (if fails_in k os then Some n else None)) (put_at k t o) (put_clock o t)
-    ∙ go (entry_at k t.moments) (is_number k (failing o)) (fails_in k os))
-  where
-    go : (p : Option ℕ) (a b : Bool) → or_first (or_first p (if a then Some t.clock else None)) (if b then Some t.clock else None) ≡ or_first p (if a || b then Some t.clock else None)
-    go (Some n) a b = refl
-    go None true b = refl
-    go None false b = refl
-
-now_all : (os : List Out) (h : History) → now (put_all os h) ≡ now h
-now_all [] h = refl
-now_all (o ∷ os) h = now_all os (Put o ∷ h)
-
--- a row begins
-abbrev begun : Row → Failures → Failures
-begun row t = record t { clock = max row.event.moment.0 t.clock }
-
--- all rows
-rows_at : (k : ℕ) (rows : List Row) (past : History) (t : Failures) → t.clock ≡ now past → entry_at k (after_rows rows t).moments ≡ or_first (entry_at k t.moments) (first_failure k past rows)
-rows_at k [] past t is = sym (or_none (entry_at k t.moments))
-rows_at k (row ∷ rows) past t is =
-    rows_at k rows (after row past) (after_row row t) (puts_clock row.outs (begun row t) ∙ (clock ∙ sym (now_all row.outs (Came row.event ∷ past))))
-    ∙ (ap (λ p. or_first p (first_failure k (after row past) rows)) (puts_at k row.outs (begun row t) ∙ ap (λ n. or_first (entry_at k t.moments) (if fails_in k row.outs then Some n else None)) clock)
-    ∙ go (entry_at k t.moments) (fails_in k row.outs))
-  where
-    clock : max row.event.moment.0 t.clock ≡ now (Came row.event ∷ past)
-    clock = ap (max row.event.moment.0) is
-
-    go : (p : Option ℕ) (b : Bool) → or_first (or_first p (if b then Some (now (Came row.event ∷ past)) else None)) (first_failure k (after row past) rows) ≡ or_first p (if b then Some (now (Came row.event ∷ past)) else first_failure k (after row past) rows)
-    go (Some n) b = refl
-    go None true = refl
-    go None false = refl
-
-pub all_known : (rows : List Row) → KnowFailures (after_rows rows nothing) [] rows
-all_known rows k n e = sym (rows_at k rows [] nothing refl)
-
--- ---- rows that go by
-
--- who fails has a reply
-fails_reply : (k : ℕ) (o : Out) → is_number k (failing o) ≡ true → is_reply k o ≡ true
-fails_reply k (Reply j (Ok m)) e = absurd (cc)
-fails_reply k (Reply j (Err d)) e = go (is_failure d) e
-  where
-    go : (b : Bool) → is_number k (if b then Some j else None) ≡ true → (j == k) ≡ true
-    go true e = e
-    go false e = absurd (cc)
-fails_reply k (Start j t u) e = absurd (cc)
-fails_reply k (OpenDgram p t) e = absurd (cc)
-fails_reply k (OpenStream p t) e = absurd (cc)
-fails_reply k (Send p j i o) e = absurd (cc)
-fails_reply k (Write p j i o) e = absurd (cc)
-fails_reply k (Resume p o) e = absurd (cc)
-fails_reply k (Close p) e = absurd (cc)
-fails_reply k (Stale j) e = absurd (cc)
-
-none_fails : (c : Conf) (s : Settings) (past : History) (w : What) (end : History) (k n : ℕ) (os : List Out) (h : History) → OutsRight c s past w end h os → asks h + n ≡ k → fails_in k os ≡ false
-none_fails c s past w end k n [] h right e = refl
-none_fails c s past w end k n (o ∷ os) h right e = both (is_number k (failing o)) refl (none_fails c s past w end k n os (Put o ∷ h) right.1 e)
-  where
-    past_all : (a l : ℕ) → a + n ≡ k → k < a → ⊥
-    past_all a l e lt = omega arith
-
-    both : (b : Bool) → is_number k (failing o) ≡ b → fails_in k os ≡ false → (b || fails_in k os) ≡ false
-    both true i rest = let f = reply_first c s past w h end o right.0 k (fails_reply k o i) in absurd (past_all (asks h) 0 e (asking_below k (f.asked.0) h (f.asked.1)))
-    both false i rest = rest
-
-asks_all : (os : List Out) (h : History) → asks (put_all os h) ≡ asks h
-asks_all [] h = refl
-asks_all (o ∷ os) h = asks_all os (Put o ∷ h)
-
-abbrev more : Bool → ℕ → ℕ
-more true n = suc n
-more false n = n
-
-pub failures_go_on : (c : Conf) (s : Settings) (f : Failures) (x : History) (row : Row) (rows : List Row) → RowRight c s x row → KnowFailures f x (row ∷ rows) → KnowFailures f (after row x) rows
-failures_go_on c s f x row rows right known k n e =
-    let at : asks (Came row.event ∷ x) + n ≡ k = ap (λ m. m + n) (sym (asks_all row.outs (Came row.event ∷ x))) ∙ e in
-    let none = none_fails c s x row.event.what (after row x) k n row.outs (Came row.event ∷ x) right.outs at in
-    let all = known k (more (is_ask row.event.what) n) (grown (is_ask row.event.what) (asks x) at) in
-    sym (ap (λ b. if b then Some (now (Came row.event ∷ x)) else first_failure k (after row x) rows) none) ∙ all
-  where
-    grown : (b : Bool) (a : ℕ) → (if b then suc a else a) + n ≡ k → a + more b n ≡ k
-    grown true a e = omega arith
-    grown false a e = e
-
--- ---- what never fails
-
--- a failing reply
-pub record Fails (k : ℕ) (os : List Out) : Type 0 where
-  pub error : Error
-  pub failure : is_failure error ≡ true
-  pub among : Among (Reply k (Err error)) os
-
-fails_here : (k : ℕ) (o : Out) → is_number k (failing o) ≡ true → (e : Error) × (is_failure e ≡ true) × (o ≡ Reply k (Err e))
-fails_here k (Reply j (Ok m)) e = absurd (cc)
-fails_here k (Reply j (Err d)) e = go (is_failure d) refl e
-  where
-    go : (b : Bool) → is_failure d ≡ b → is_number k (if b then Some j else None) ≡ true → (e : Error) × (is_failure e ≡ true) × (Reply j (Err d) ≡ Reply k (Err e))
-    go true i e = (d, i, ap (λ j. Reply j (Err d)) (same_number j k e))
-    go false i e = absurd (cc)
-fails_here k (Start j t u) e = absurd (cc)
-fails_here k (OpenDgram p t) e = absurd (cc)
-fails_here k (OpenStream p t) e = absurd (cc)
-fails_here k (Send p j i o) e = absurd (cc)
-fails_here k (Write p j i o) e = absurd (cc)
-fails_here k (Resume p o) e = absurd (cc)
-fails_here k (Close p) e = absurd (cc)
-fails_here k (Stale j) e = absurd (cc)
-
-fails_so : (k : ℕ) (os : List Out) → fails_in k os ≡ true → Fails k os
-fails_so k [] e = absurd (cc)
-fails_so k (o ∷ os) e = go (fails_so k os) (is_number k (failing o)) refl e
-  where
-    go : (fails_in k os ≡ true → Fails k os) → (b : Bool) → is_number k (failing o) ≡ b → (b || fails_in k os) ≡ true → Fails k (o ∷ os)
-    go rest true i e = let f = fails_here k o i in record { error = f.0; failure = f.1; among = inl f.2 }
-    go rest false i e = let f = rest e in record { error = f.error; failure = f.failure; among = inr f.among }
-
-so_fails : (k : ℕ) (d : Error) (os : List Out) → is_failure d ≡ true → Among (Reply k (Err d)) os → fails_in k os ≡ true
-so_fails k d [] i a = absurd a
-so_fails k d (o ∷ os) i (inl e) =
-    ap (λ o. is_number k (failing o) || fails_in k os) e
-    ∙ (ap (λ b. is_number k (if b then Some k else None) || fails_in k os) i ∙ ap (λ b. b || fails_in k os) (own_number k))
-so_fails k d (o ∷ os) i (inr a) = or_right (is_number k (failing o)) (fails_in k os) (so_fails k d os i a)
-
--- behind a moment nothing is asked any more
-past_limit : (k limit : ℕ) (past : History) (rows : List Row) → limit < now past → NeverFails k limit past rows
-past_limit k limit past [] lt = tt
-past_limit k limit past (row ∷ rows) lt = ((λ le d i a. over row.event.moment.0 (now past) lt le), past_limit k limit (after row past) rows (subst (λ n. limit < n) (sym (now_all row.outs (Came row.event ∷ past))) (later row.event.moment.0 (now past) lt)))
-  where
-    over : (a n : ℕ) → limit < n → max a n ≤ limit → ⊥
-    over a n lt le = omega arith
-
-    later : (a n : ℕ) → limit < n → limit < max a n
-    later a n lt = omega arith
-
-pub fails_then : (k limit n : ℕ) (past : History) (rows : List Row) → first_failure k past rows ≡ Some n → n ≤ limit → NeverFails k limit past rows → ⊥
-fails_then k limit n past [] e le never = absurd (cc)
-fails_then k limit n past (row ∷ rows) e le never = go (λ e. fails_then k limit n (after row past) rows e le never.1) (fails_in k row.outs) refl e
-  where
-    go : (first_failure k (after row past) rows ≡ Some n → ⊥) → (b : Bool) → fails_in k row.outs ≡ b → (if b then Some (now (Came row.event ∷ past)) else first_failure k (after row past) rows) ≡ Some n → ⊥
-    go rest true i e =
-        let f = fails_so k row.outs i in
-        let same : now (Came row.event ∷ past) ≡ n = cc in
-        never.0 (subst (λ m. m ≤ limit) (sym same) le) f.error f.failure f.among
-    go rest false i e = rest e
-
--- it does not, or later
-abbrev pub IsLater : (limit : ℕ) → Option ℕ → Type 0
-IsLater limit None = Unit {0}
-IsLater limit (Some n) = limit < n
-
-pub never_then : (k limit : ℕ) (past : History) (rows : List Row) → IsLater limit (first_failure k past rows) → NeverFails k limit past rows
-never_then k limit past [] later = tt
-never_then k limit past (row ∷ rows) later = go (never_then k limit (after row past) rows) (fails_in k row.outs) refl later
-  where
-    not_both : (n : ℕ) → limit < n → n ≤ limit → ⊥
-    not_both n lt le = omega arith
-
-    go : (IsLater limit (first_failure k (after row past) rows) → NeverFails k limit (after row past) rows) → (b : Bool) → fails_in k row.outs ≡ b
-        → IsLater limit (if b then Some (now (Came row.event ∷ past)) else first_failure k (after row past) rows) → NeverFails k limit past (row ∷ rows)
-    go rest true i lt = (
-      (λ le d f a. not_both (now (Came row.event ∷ past)) lt le),
-      past_limit k limit (after row past) rows (subst (λ n. limit < n) (sym (now_all row.outs (Came row.event ∷ past))) lt),
-    )
-    go rest false i later = ((λ le d f a. clash (fails_in k row.outs) (so_fails k d row.outs f a) i), rest later)
+  pub none_fails : (os : List Out) (h : History) (q : Pass) → pass.Known c h q → row_before h ≡ past → newest h ≡ w → fails_in c (cached_by cache) p q w k os ≡ false → NoneFails c s k past w h os
+  none_fails [] h q kq before is e = tt
+  none_fails (o ∷ os) h q kq before is e =
+      let n = not_or (fails q o) (fails_in c (cached_by cache) p (pass.has_put w o q) w k os) e in
+      ((λ x i f. clash (fails q o) (so_fails h q kq before is o x i f) n.0), none_fails os (Put o ∷ h) (pass.has_put w o q) (known_out h q o kq is) before is n.1)

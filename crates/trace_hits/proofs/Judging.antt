@@ -28,6 +28,7 @@ use Rattle.right_trace.specs.Right.{Among, RowRight}
 use Rattle.right_trace.specs.Hit.{asks_since, replies_since, other_replies, AllAreViews, IsHit, Views, Hits}
 use Rattle.right_trace.specs.StaleServed.{ServesStale}
 use Rattle.right_trace.proofs.Valid.{valid_is_known}
+use Rattle.cache_rules.specs.Validity.{cached_by}
 use Rattle.cache_rules.proofs.Saying.{what_is_known}
 use Rattle.trace_tables.specs.Requests as requests
 use Rattle.trace_questions.proofs.Deciding.{both, all, not_true}
@@ -48,7 +49,7 @@ use Rattle.trace_hits.specs.Failures.{first_failure}
 use Rattle.trace_hits.specs.Serving.{must_serve, fails_in_time, is_unserved, is_unserved_by, KnowFailures}
 use Rattle.trace_hits.proofs.Among.{others_are, reply_among, among_reply, marked_among, among_marked, none_handed, some_handed, not_handed, handed_none}
 use Rattle.trace_hits.proofs.Behind.{clash, ever_replied, next_unasked, next_unreplied}
-use Rattle.trace_hits.proofs.Failing.{IsLater, fails_then, never_then}
+use Rattle.trace_hits.proofs.Never.{IsLater, fails_then, never_then}
 use Rattle.trace_hits.proofs.Keeping.{same_asking, is_read}
 use Rattle.trace_hits.proofs.Points as points
 use Rattle.trace_hits.proofs.Sparing.{Stands, AreSpared, all_views, are_spared}
@@ -335,12 +336,12 @@ module _ (c : Conf) (s : Settings) (x : History) (row : Row) (r : Request) (old 
 
     -- ---- what has expired
 
-    module _ (has : HasCache cache s) (rows : List Row) (f : Failures) (knows : KnowFailures f x (row ∷ rows)) where
+    module _ (has : HasCache cache s) (rows : List Row) (f : Failures) (knows : KnowFailures cache f c s x (row ∷ rows)) where
       abbrev failed : Option ℕ
       failed = entry_at number f.moments
 
-      failed_is : first_failure (asks x) x (row ∷ rows) ≡ failed
-      failed_is = knows (asks x) 0 (itself (asks x)) ∙ ap (λ k. entry_at k f.moments) (sym number_is)
+      failed_is : first_failure c (cached_by cache) (asks x) knows.passed (row ∷ rows) ≡ failed
+      failed_is = knows.failures (asks x) 0 (itself (asks x)) ∙ ap (λ k. entry_at k f.moments) (sym number_is)
         where
           itself : (n : ℕ) → n + 0 ≡ n
           itself n = omega arith
@@ -376,7 +377,7 @@ module _ (c : Conf) (s : Settings) (x : History) (row : Row) (r : Request) (old 
           let owed = between v.1 in
           let late = fails_by (e.moment + e.validity + s.stale_for) failed limit_is a.1 in
           let never = serves q.asked_as.request r e.request q.asked_as.moment e.moment e.validity e.message known.0 what q.asked q.got q.validity q.above known.1 (tells_is ∙ t.0) q.cacheable asks_it.cacheable same_key (expires age e.moment 0 (now here) e.validity age_is (lt_of e.validity age v.0)) owed.views owed.few in
-          fails_then (asks x) (e.moment + e.validity + s.stale_for) late.0 x (row ∷ rows) (failed_is ∙ late.1) late.2 never
+          fails_then c cache s has (asks x) (e.moment + e.validity + s.stale_for) late.0 x knows.passed (row ∷ rows) behind knows.known knows.right (failed_is ∙ late.1) late.2 never
 
       is_served : is_unserved_by cache f p e its.key row.outs number ≡ false → ServesStale c s (room_of cache) x row rows
       is_served fails first r' j t moment n m y what' asked got valid above is_known tells cacheable second key expired views few =
@@ -389,7 +390,7 @@ module _ (c : Conf) (s : Settings) (x : History) (row : Row) (r : Request) (old 
           (all (nat_lt e.validity age) _ (of_lt e.validity age (expired_is age e.moment (now here) e.validity n age_is (subst (λ t. t + n < now here) (sym at.2) expired) n_is))
           (all (is_few cache p e number row.outs) _ (few_is first j t moment n m asked got valid above cacheable key' views few) (spare_is first j t moment n m asked got valid above cacheable key' views few))) in
           let ends : e.moment + e.validity + cache.stale_for ≡ moment + n + s.stale_for = limit_is ∙ ap₂ (λ t n. t + n + s.stale_for) at.2 n_is in
-          never_then (asks x) (moment + n + s.stale_for) x (row ∷ rows) (subst (IsLater (moment + n + s.stale_for)) (sym failed_is) (later_by (moment + n + s.stale_for) failed ends (then_so (must_serve cache p e its.key number row.outs) (fails_in_time cache e failed) false fails holds)))
+          never_then c cache s has (asks x) (moment + n + s.stale_for) x knows.passed (row ∷ rows) behind knows.known knows.right (subst (IsLater (moment + n + s.stale_for)) (sym failed_is) (later_by (moment + n + s.stale_for) failed ends (then_so (must_serve cache p e its.key number row.outs) (fails_in_time cache e failed) false fails holds)))
 
       pub answer_stale : (b : Bool) → b ≡ is_unserved cache f p e its.key row.outs → IsAnswer (ServesStale c s (room_of cache) x row rows) b
       answer_stale b is_b = record { missed = λ holds. is_unserved_so (sym is_b ∙ holds); held = λ fails. is_served (sym is_b ∙ fails) }

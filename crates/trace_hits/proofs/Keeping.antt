@@ -46,7 +46,7 @@ use Rattle.trace_hits.proofs.Points as points
 pub same_asking : (o : Option Asking) (a b : Asking) → o ≡ Some a → o ≡ Some b → a ≡ b
 same_asking o a b p q = let z : Some a ≡ Some b = sym p ∙ q in cc
 
-not_or : (a b : Bool) → (a || b) ≡ false → (a ≡ false) × (b ≡ false)
+pub not_or : (a b : Bool) → (a || b) ≡ false → (a ≡ false) × (b ≡ false)
 not_or true b e = absurd (cc)
 not_or false b e = (refl, e)
 

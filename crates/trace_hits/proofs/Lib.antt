@@ -6,6 +6,8 @@ pub mod Keeping
 pub mod Among
 pub mod Sparing
 pub mod Failing
+pub mod Tabling
+pub mod Never
 pub mod Judging
 pub mod Stepping
 pub mod Telling

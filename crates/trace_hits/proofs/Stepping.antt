@@ -43,12 +43,12 @@ left_at : {A : Type 0} (n : ℕ) (x : A) (xs : List A) → n < length xs → x �
 left_at n x xs h e = let same : suc n ≡ n + 1 = omega arith in subst (λ m. drop n xs ≡ x ∷ drop m xs) same (next_at n x xs h e)
 
 -- a row goes by
-pub steps : (P : Owed) (E : Left) (cache : CacheSettings) (row : Row) (old mid new : Course) (b : Bool) → ((c : Conf) (s : Settings) (x : History) (rows : List Row) → RowRight c s x row → E x (row ∷ rows) → E (after row x) rows)
+pub steps : (P : Owed) (E : Left) (cache : CacheSettings) (row : Row) (old mid new : Course) (b : Bool) → ((c : Conf) (s : Settings) (x : History) (rows : List Row) → BehindRight x → RowRight c s x row → E c s x (row ∷ rows) → E c s (after row x) rows)
     → mid ≡ met row.event old → TellsAt P E cache mid row b → PutsAll cache row.outs mid new → Steps P E cache row old new b
 steps P E cache row old mid new b on is told puts c s x rows has behind known left right = record {
   behind = behind_row c s x row right behind;
   known = known_outs c s cache has x row.event.what (after row x) row.outs (Came row.event ∷ x) mid new refl refl right.outs puts (subst (Known c s (Came row.event ∷ x)) (sym is) (known_event c s row.event x old behind known));
-  left = on c s x rows right left;
+  left = on c s x rows behind right left;
   answer = told c s x rows old has behind known left is right;
 }
 
@@ -87,19 +87,19 @@ module _ (P : Owed) (E : Left) (cache : CacheSettings) where
     pub x : History
     pub so_far : BehindRight x
     pub known : Known c s x t
-    pub left : E x rest
+    pub left : E c s x rest
     pub right : RightAfter c s x rest
     pub said : (o : Option ℕ) → IsFirst P o c s x rest → IsFirst P (behind n o) c s [] rows
 
   abbrev pub Amid : (rows rest : List Row) → (n : ℕ) → Course → Type 0
-  Amid rows rest n t = (c : Conf) (s : Settings) → HasCache cache s → RightAfter c s [] rows → IsAmid c s rows rest n t
+  Amid rows rest n t = (c : Conf) (s : Settings) → HasCache cache s → RightAfter c s [] rows → E c s [] rows → IsAmid c s rows rest n t
 
   -- the answer
   abbrev pub TellsFirst : List Row → Option ℕ → Type 0
-  TellsFirst rows o = (c : Conf) (s : Settings) → HasCache cache s → RightAfter c s [] rows → IsFirst P o c s [] rows
+  TellsFirst rows o = (c : Conf) (s : Settings) → HasCache cache s → RightAfter c s [] rows → E c s [] rows → IsFirst P o c s [] rows
 
-  pub begins : (rows : List Row) (t : Course) → E [] rows → t.point ≡ point.nothing → t.replies ≡ [] → Amid rows rows 0 t
-  begins rows t left at none c s has right = record {
+  pub begins : (rows : List Row) (t : Course) → t.point ≡ point.nothing → t.replies ≡ [] → Amid rows rows 0 t
+  begins rows t at none c s has right left = record {
     x = [];
     so_far = behind_nothing;
     known = known_nothing c s t at none;
@@ -116,8 +116,8 @@ module _ (P : Owed) (E : Left) (cache : CacheSettings) where
       next m = omega arith
 
   goes_on : (rows rest : List Row) (n : ℕ) (row : Row) (old new : Course) (b : Bool) → b ≡ false → Steps P E cache row old new b → Amid rows (row ∷ rest) n old → Amid rows rest (n + 1) new
-  goes_on rows rest n row old new b e step a c s has right =
-      let i = a c s has right in
+  goes_on rows rest n row old new b e step a c s has right left =
+      let i = a c s has right left in
       let d = step c s i.x rest has i.so_far i.known i.left i.right.0 in
       let kept = d.answer.held e in
       record {
@@ -130,8 +130,8 @@ module _ (P : Owed) (E : Left) (cache : CacheSettings) where
       }
 
   stops : (rows rest : List Row) (n : ℕ) (row : Row) (old new : Course) (b : Bool) → b ≡ true → Steps P E cache row old new b → Amid rows (row ∷ rest) n old → TellsFirst rows (Some n)
-  stops rows rest n row old new b e step a c s has right =
-      let i = a c s has right in
+  stops rows rest n row old new b e step a c s has right left =
+      let i = a c s has right left in
       let d = step c s i.x rest has i.so_far i.known i.left i.right.0 in
       subst (λ m. IsFirst P (Some m) c s [] rows) (same n) (i.said (Some zero) (d.answer.missed e))
     where
@@ -139,7 +139,7 @@ module _ (P : Owed) (E : Left) (cache : CacheSettings) where
       same n = omega arith
 
   ends : (rows : List Row) (n : ℕ) (t : Course) → Amid rows [] n t → TellsFirst rows None
-  ends rows n t a c s has right = let i = a c s has right in i.said None tt
+  ends rows n t a c s has right left = let i = a c s has right left in i.said None tt
 
   -- the same by places
   pub goes_on_at : (rows : List Row) (n : ℕ) (row : Row) (old new : Course) (b : Bool) → n < length rows → row ≡ get_or rows n row → b ≡ false → Steps P E cache row old new b → Amid rows (drop n rows) n old → Amid rows (drop (n + 1) rows) (n + 1) new
@@ -158,16 +158,16 @@ all_hit cache c s x [] k = tt
 all_hit cache c s x (row ∷ rows) k = (k.0, all_hit cache c s (after row x) rows k.1)
 
 pub told_hit : (cache : CacheSettings) (rows : List Row) (o : Option ℕ) → TellsFirst (Hit cache) Whatever cache rows o → TellsMissedHit cache rows o
-told_hit cache rows None t c s has right = all_hit cache c s [] rows (t c s has right)
-told_hit cache rows (Some n) t c s has right = t c s has right
+told_hit cache rows None t c s has right = all_hit cache c s [] rows (t c s has right tt)
+told_hit cache rows (Some n) t c s has right = t c s has right tt
 
 all_serve : (cache : CacheSettings) (c : Conf) (s : Settings) (x : History) (rows : List Row) → AllKeep (Serve cache) c s x rows → AllServeStale c s (room_of cache) x rows
 all_serve cache c s x [] k = tt
 all_serve cache c s x (row ∷ rows) k = (k.0, all_serve cache c s (after row x) rows k.1)
 
-pub told_stale : (cache : CacheSettings) (f : Failures) (rows : List Row) (o : Option ℕ) → TellsFirst (Serve cache) (KnowFailures f) cache rows o → TellsMissedStale cache rows o
-told_stale cache f rows None t c s has right = all_serve cache c s [] rows (t c s has right)
-told_stale cache f rows (Some n) t c s has right = t c s has right
+pub told_stale : (c : Conf) (cache : CacheSettings) (f : Failures) (rows : List Row) (o : Option ℕ) → ((s : Settings) → RightAfter c s [] rows → KnowFailures cache f c s [] rows) → TellsFirst (Serve cache) (KnowFailures cache f) cache rows o → TellsMissedStale c cache rows o
+told_stale c cache f rows None known t s has right = all_serve cache c s [] rows (t c s has right (known s right))
+told_stale c cache f rows (Some n) known t s has right = t c s has right (known s right)
 
 -- outs are put up to a point
 abbrev pub Puts : CacheSettings → (outs rest : List Out) → (start now : Course) → Type 0

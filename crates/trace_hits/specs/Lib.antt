@@ -9,6 +9,7 @@ pub mod Known
 pub mod Rows
 pub mod Row
 pub mod Hits
+pub mod Failing
 pub mod Failures
 pub mod Serving
 pub mod Stale

@@ -57,7 +57,7 @@ abbrev pub Hit : CacheSettings → Owed
 Hit cache c s x row rows = Hits c s composed (room_of cache) x row
 
 abbrev pub Whatever : Left
-Whatever x rows = Unit {0}
+Whatever c s x rows = Unit {0}
 
 -- the answer, of each row that asks this and has these outs
 abbrev pub TellsMissed : CacheSettings → Course → Request → List Out → Bool → Type 0

@@ -26,19 +26,19 @@ pub record IsAnswer (P : Type 0) (b : Bool) : Type 0 where
 
 -- what is known of the rows that are left
 abbrev pub Left : Type 1
-Left = (past : History) → List Row → Type 0
+Left = Conf → Settings → (past : History) → List Row → Type 0
 
 -- The answer of a row whose event has come, behind each history that is known and where the row is right.
 abbrev pub TellsAt : Owed → Left → CacheSettings → Course → Row → Bool → Type 0
 TellsAt P E cache t row b =
-    (c : Conf) (s : Settings) (x : History) (rows : List Row) (old : Course) → HasCache cache s → BehindRight x → Known c s x old → E x (row ∷ rows) → t ≡ met row.event old → RowRight c s x row → IsAnswer (P c s x row rows) b
+    (c : Conf) (s : Settings) (x : History) (rows : List Row) (old : Course) → HasCache cache s → BehindRight x → Known c s x old → E c s x (row ∷ rows) → t ≡ met row.event old → RowRight c s x row → IsAnswer (P c s x row rows) b
 
 -- a row goes by, and it is told whether it keeps what it owes
 pub record IsStep (P : Owed) (E : Left) (c : Conf) (s : Settings) (x : History) (row : Row) (rows : List Row) (new : Course) (b : Bool) : Type 0 where
   pub behind : BehindRight (after row x)
   pub known : Known c s (after row x) new
-  pub left : E (after row x) rows
+  pub left : E c s (after row x) rows
   pub answer : IsAnswer (P c s x row rows) b
 
 abbrev pub Steps : Owed → Left → CacheSettings → Row → (old new : Course) → Bool → Type 0
-Steps P E cache row old new b = (c : Conf) (s : Settings) (x : History) (rows : List Row) → HasCache cache s → BehindRight x → Known c s x old → E x (row ∷ rows) → RowRight c s x row → IsStep P E c s x row rows new b
+Steps P E cache row old new b = (c : Conf) (s : Settings) (x : History) (rows : List Row) → HasCache cache s → BehindRight x → Known c s x old → E c s x (row ∷ rows) → RowRight c s x row → IsStep P E c s x row rows new b

@@ -7,11 +7,16 @@ use Rattle.client_request.specs.declared.event.Out.{Out}
 use Rattle.client_request.specs.declared.event.What.TheVariants.{Ask}
 use Rattle.client_request.specs.declared.event.Row.{Row}
 use Rattle.client_settings.specs.Settings.{CacheSettings}
-use Rattle.right_trace.specs.Trace.{History}
+use Rattle.right_trace.specs.Trace.{History, Conf}
+use Rattle.right_trace.specs.Settings.{Settings}
 use Rattle.right_trace.specs.Requests.{asks}
 use Rattle.right_trace.specs.Keys.{Key}
 use Rattle.right_trace.specs.Views.{tells_of_name}
 use Rattle.right_trace.specs.StaleServed.{ServesStale}
+use Rattle.right_trace.specs.Right.{RightAfter}
+use Rattle.cache_rules.specs.Validity.{cached_by}
+use Rattle.trace_pass.specs.declared.pass.Pass.{Pass}
+use Rattle.trace_pass.specs.Pass as pass
 use Rattle.trace_hits.specs.declared.course.Course.{Course}
 use Rattle.trace_hits.specs.declared.failures.Failures.{Failures}
 use Rattle.trace_hits.specs.declared.kept.Kept.{Kept}
@@ -40,13 +45,16 @@ is_unserved c f p e its os = is_unserved_by c f p e its os (p.requests.asked - 1
 abbrev pub Serve : CacheSettings → Owed
 Serve cache c s x row rows = ServesStale c s (room_of cache) x row rows
 
--- it is known when requests first fail that are asked from here on
-abbrev pub KnowFailures : Failures → (x : History) → List Row → Type 0
-KnowFailures f x rows = (k n : ℕ) → asks x + n ≡ k → first_failure k x rows ≡ entry_at k f.moments
+-- These rows are right, and it is known when requests first fail in them that are asked from here on.
+pub record KnowFailures (cache : CacheSettings) (f : Failures) (c : Conf) (s : Settings) (x : History) (rows : List Row) : Type 0 where
+  pub passed : Pass
+  pub known : pass.Known c x passed
+  pub right : RightAfter c s x rows
+  pub failures : (k n : ℕ) → asks x + n ≡ k → first_failure c (cached_by cache) k passed rows ≡ entry_at k f.moments
 
 -- the answer, of each row that asks this and has these outs
 abbrev pub TellsUnserved : CacheSettings → Failures → Course → Request → List Out → Bool → Type 0
-TellsUnserved cache f t r os b = (row : Row) → row.event.what ≡ Ask r → row.outs ≡ os → TellsAt (Serve cache) (KnowFailures f) cache t row b
+TellsUnserved cache f t r os b = (row : Row) → row.event.what ≡ Ask r → row.outs ≡ os → TellsAt (Serve cache) (KnowFailures cache f) cache t row b
 
 abbrev pub TellsRow : CacheSettings → Failures → Course → Row → Bool → Type 0
-TellsRow cache f t row b = TellsAt (Serve cache) (KnowFailures f) cache t row b
+TellsRow cache f t row b = TellsAt (Serve cache) (KnowFailures cache f) cache t row b

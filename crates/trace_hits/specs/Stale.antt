@@ -19,9 +19,9 @@ abbrev pub IsMissedStale : Option ℕ → CacheSettings → Conf → Settings �
 IsMissedStale None cache c s past rows = AllServeStale c s (room_of cache) past rows
 IsMissedStale (Some n) cache c s past rows = FailsAt (Serve cache) n c s past rows
 
--- The answer, which is asked of right traces alone: of every configuration, and of all settings with this cache, by which the rows are right.
-abbrev pub TellsMissedStale : CacheSettings → List Row → Option ℕ → Type 0
-TellsMissedStale cache rows o = (c : Conf) (s : Settings) → HasCache cache s → Right c s rows → IsMissedStale o cache c s [] rows
+-- The answer, which is asked of right traces alone: of a configuration, and of all settings with this cache, by which the rows are right.
+abbrev pub TellsMissedStale : Conf → CacheSettings → List Row → Option ℕ → Type 0
+TellsMissedStale c cache rows o = (s : Settings) → HasCache cache s → Right c s rows → IsMissedStale o cache c s [] rows
 
 abbrev pub Steps : CacheSettings → Failures → Row → (old new : Course) → Bool → Type 0
-Steps cache f row old new b = rows.Steps (Serve cache) (KnowFailures f) cache row old new b
+Steps cache f row old new b = rows.Steps (Serve cache) (KnowFailures cache f) cache row old new b

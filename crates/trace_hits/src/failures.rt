@@ -1,134 +1,151 @@
-//! When requests failed by servers or by their deadlines.
+//! When requests failed, where what has expired should have stood in the place of the reply.
 
 ghost use Rattle.std.specs.Prelude.{◌≡◌, IfOk, OnOk};
 ghost use Rattle.number_table.specs.Entries.{entry_at};
-ghost use Rattle.right_trace.specs.Errors as errors;
 ghost use Rattle.trace_hits.specs.Failures as plain;
 
-use client_request::{Error, Out, Row};
+use crate::failing::fails_by;
+use client_request::{Out, Row, What};
 use dns_base::NoMemory;
 use number_table::NumberTable;
-use std::alloc::Global;
+use trace_pass::Pass;
+use trace_promptness::TraceSettings;
+use trace_questions::TraceConf;
 
 /// When requests failed, up to a point of a trace.
 pub(crate) struct Failures {
-    /// The greatest moment so far, in microseconds.
-    clock: u64,
-    /// By request: when it was first given an error of a server or that of its deadline.
+    /// What was known before the row.
+    past: Pass,
+    /// What is known at the point.
+    here: Pass,
+    /// By request: when it first failed, in microseconds.
     moments: NumberTable<u64>,
 }
 
 impl Drop for Failures {
     fn drop(self) {
         let Failures {
-            clock: _,
+            past: _,
+            here: _,
             moments: _,
         } = self;
     }
 }
 
-/// Whether an error is that of the deadline.
-fn is_deadline(error: Error) -> bool
-    ensures { result ≡ errors.is_deadline error }
+/// A request fails, if it did not before.
+fn note(moments: &mut NumberTable<u64>, request: u64, now: u64) -> Result<(), NoMemory>
+    ensures { OnOk result (moments.new ≡ plain.noted request now moments.old) }
 {
-    matches!(error, Error::TimedOut)
+    if moments.contains_key(request) {
+        return Ok(());
+    }
+    match moments.insert(request, now) {
+        Ok(_) => Ok(()),
+        Err(_) => Err(NoMemory),
+    }
 }
 
-/// Whether an error is one that only a server gives.
-fn is_of_server(error: Error) -> bool
-    ensures { result ≡ errors.is_of_server error }
+/// The same of a request, if there is one.
+fn note_if(moments: &mut NumberTable<u64>, request: Option<u64>, now: u64) -> Result<(), NoMemory>
+    ensures { OnOk result (moments.new ≡ plain.noted_of request now moments.old) }
 {
-    matches!(
-        error,
-        Error::Dgram(_) | Error::WrongReplyForQuery | Error::StreamReadTimeout
-    )
-}
-
-/// Whether an error is one for which what has expired may stand.
-fn is_failure(error: Error) -> bool
-    ensures { result ≡ errors.is_failure error }
-{
-    is_deadline(error) || is_of_server(error)
-}
-
-/// The request that an out lets fail so.
-fn failing(out: &Out) -> Option<u64>
-    ensures { result ≡ plain.failing out.now }
-{
-    match out {
-        Out::Reply {
-            request,
-            result: Err(error),
-        } => {
-            if is_failure(*error) {
-                Some(*request)
-            } else {
-                None
-            }
-        }
-        _ => None,
+    match request {
+        None => Ok(()),
+        Some(request) => note(moments, request, now),
     }
 }
 
 impl Failures {
     /// Before the first row.
-    fn new(alloc: Global) -> Failures
+    fn new(conf: &TraceConf) -> Failures
         ensures { result ≡ plain.nothing }
     {
+        let alloc = conf.alloc();
         Failures {
-            clock: 0,
+            past: Pass::new(alloc),
+            here: Pass::new(alloc),
             moments: NumberTable::new(alloc),
         }
     }
 
-    /// A request fails, if it did not before.
-    fn note(&mut self, request: u64) -> Result<(), NoMemory>
-        ensures { OnOk result (self.new ≡ plain.noted request self.old) }
+    /// The request that an out lets fail, in a row with this event.
+    fn failing(
+        &self,
+        conf: &TraceConf,
+        settings: &TraceSettings,
+        what: &What,
+        out: &Out,
+    ) -> Result<Option<u64>, NoMemory>
+        ensures { IfOk result (λ o. o ≡ plain.failing conf.now settings.now self.now.past self.now.here what.now out.now) }
     {
-        if self.moments.contains_key(request) {
-            return Ok(());
-        }
-        match self.moments.insert(request, self.clock) {
-            Ok(_) => Ok(()),
-            Err(_) => Err(NoMemory),
+        match out {
+            Out::Reply { request, result } => {
+                let past = &self.past;
+                let here = &self.here;
+                let fails = fails_by(conf, settings, past, here, what, *request, result)?;
+                if fails { Ok(Some(*request)) } else { Ok(None) }
+            }
+            _ => Ok(None),
         }
     }
 
-    /// An out is put.
-    fn put(&mut self, out: &Out) -> Result<(), NoMemory>
-        ensures { OnOk result (self.new ≡ plain.has_put out.now self.old) }
+    /// An out is put, in a row with this event.
+    fn put(
+        &mut self,
+        conf: &TraceConf,
+        settings: &TraceSettings,
+        what: &What,
+        out: &Out,
+    ) -> Result<(), NoMemory>
+        ensures { OnOk result (self.new ≡ plain.has_put conf.now settings.now what.now out.now self.old) }
     {
-        match failing(out) {
-            None => Ok(()),
-            Some(request) => self.note(request),
-        }
+        let failing = self.failing(conf, settings, what, out)?;
+        let now = self.here.ledger.books.requests.clock;
+        note_if(&mut self.moments, failing, now)?;
+        self.here.put(conf.alloc(), what, out)
     }
 
     /// The outs of a row are put.
-    fn put_all(&mut self, outs: &[Out]) -> Result<(), NoMemory>
-        ensures { OnOk result (self.new ≡ plain.have_put outs.now self.old) }
+    fn put_all(
+        &mut self,
+        conf: &TraceConf,
+        settings: &TraceSettings,
+        what: &What,
+        outs: &[Out],
+    ) -> Result<(), NoMemory>
+        ensures { OnOk result (self.new ≡ plain.have_put conf.now settings.now what.now outs.now self.old) }
     {
         for out in outs {
-            self.put(out)?;
+            self.put(conf, settings, what, out)?;
         }
         Ok(())
     }
 
     /// A row goes by.
-    fn take(&mut self, row: &Row) -> Result<(), NoMemory>
-        ensures { OnOk result (self.new ≡ plain.after_row row.now self.old) }
+    fn take(
+        &mut self,
+        conf: &TraceConf,
+        settings: &TraceSettings,
+        row: &Row,
+    ) -> Result<(), NoMemory>
+        ensures { OnOk result (self.new ≡ plain.after_row conf.now settings.now row.now self.old) }
     {
-        self.clock = row.event.moment.0.max(self.clock);
-        self.put_all(row.outs.as_slice())
+        self.here.meet(conf, &row.event)?;
+        self.put_all(conf, settings, &row.event.what, row.outs.as_slice())?;
+        self.past.take(conf, row)
     }
 
     /// Those of all rows.
-    pub(crate) fn of(alloc: Global, rows: &[Row]) -> Result<Failures, NoMemory>
-        ensures { IfOk result (λ t. t ≡ plain.after_rows rows.now plain.nothing) }
+    pub(crate) fn of(
+        conf: &TraceConf,
+        settings: &TraceSettings,
+        rows: &[Row],
+    ) -> Result<Failures, NoMemory>
+        ensures { IfOk result (λ t. t ≡ plain.after_rows conf.now settings.now rows.now plain.nothing) }
     {
-        let mut failures = Failures::new(alloc);
+        let mut failures = Failures::new(conf);
         for row in rows {
-            failures.take(row)?;
+            failures.take(conf, settings, row)?;
         }
         Ok(failures)
     }

@@ -10,6 +10,8 @@ use client_request::Row;
 use client_settings::cache;
 use dns_base::NoMemory;
 use std::alloc::Global;
+use trace_promptness::TraceSettings;
+use trace_questions::TraceConf;
 
 /// A row goes by: whether its request fails, in it or later, where what has expired should have served it.
 fn step(
@@ -28,15 +30,18 @@ fn step(
 }
 
 /// The first row of a right trace, counted from 0, that asks what the cache has but had expired, few enough requests and replies
-/// later, and whose request fails, in that row or later, by servers or by its deadline, while what the cache has may serve.
+/// later, and whose request fails, in that row or later, by servers, by their messages or by its deadline, while what the cache has
+/// may serve.
 pub fn first_missed_stale(
-    alloc: Global,
+    conf: &TraceConf,
     cache: &cache::Config,
     rows: &[Row],
 ) -> Result<Option<u64>, NoMemory>
-    ensures { IfOk result (plain.TellsMissedStale cache.now rows.now) }
+    ensures { IfOk result (plain.TellsMissedStale conf.now cache.now rows.now) }
 {
-    let failures = Failures::of(alloc, rows)?;
+    let alloc = conf.alloc();
+    let settings = TraceSettings::new(cache.try_clone()?, false, false, false);
+    let failures = Failures::of(conf, &settings, rows)?;
     let mut course = Course::new(alloc);
     for (i, row) in rows.iter().enumerate() {
         if step(alloc, cache, &failures, &mut course, row)? {

@@ -4,7 +4,7 @@ use Rattle.std.proofs.lemmas.Bool.Decides.{nat_tests}
 use Rattle.number_table.specs.Entries.{puts, entry_at}
 use Rattle.client_request.specs.declared.event.Event.{Event}
 use Rattle.client_request.specs.declared.event.Out.{Out}
-use Rattle.right_trace.specs.Trace.{History, Came, Put}
+use Rattle.right_trace.specs.Trace.{History, Came, Put, Conf}
 use Rattle.right_trace.specs.Time.{idle_timeout}
 use Rattle.right_trace.specs.Messages.{Octets, keepalive_of, keepalive_in, keepalive_option}
 use Rattle.right_trace.specs.Frames.{is_bad, came_here}
@@ -57,32 +57,31 @@ frames_tell [] n = refl
 frames_tell (m ∷ ms) n = ap (last_keepalive ms) (frame_tells m n) ∙ frames_tell ms (or_before (told_in m) n)
 
 -- what the newest row's frames say is said behind all before
-counted : (ms : List Octets) (p : ℕ) (h : History) → came_here p h ≡ ms → idle_with ms p h ≡ last_keepalive ms (idle_with [] p h)
-counted [] p h e = refl
-counted (m ∷ ms) p [] e = absurd (cc)
-counted (m ∷ ms) p (Came e ∷ h) c = refl
-counted (m ∷ ms) p (Put o ∷ h) e = counted (m ∷ ms) p h e
+counted : (conf : Conf) (ms : List Octets) (p : ℕ) (h : History) → came_here p h ≡ ms → idle_with conf ms p h ≡ last_keepalive ms (idle_with conf [] p h)
+counted conf [] p h e = refl
+counted conf (m ∷ ms) p [] e = absurd (cc)
+counted conf (m ∷ ms) p (Came e ∷ h) c = refl
+counted conf (m ∷ ms) p (Put o ∷ h) e = counted conf (m ∷ ms) p h e
 
 same_place : (p q : ℕ) → (p == q) ≡ true → p ≡ q
 same_place p q e = grind (arith, nat_tests)
 
-met_so : (b : Option Brought) (p : ℕ) (t : Idle) → idle_seen p (met b t) ≡ last_told (frames_of p b) (idle_seen p t)
-met_so None p t = refl
-met_so (Some b) p t = ap time_or (at_puts b.place (last_told b.frames (idle_seen b.place t)) p t) ∙ go (b.place == p) refl
+met_so : (usual : ℕ) (b : Option Brought) (p : ℕ) (t : Idle) → idle_seen usual p (met usual b t) ≡ last_told (frames_of p b) (idle_seen usual p t)
+met_so usual None p t = refl
+met_so usual (Some b) p t = ap (time_or usual) (at_puts b.place (last_told b.frames (idle_seen usual b.place t)) p t) ∙ go (b.place == p) refl
   where
-    go : (c : Bool) → (b.place == p) ≡ c → time_or (if c then Some (last_told b.frames (idle_seen b.place t)) else entry_at p t) ≡ last_told (if c then b.frames else []) (idle_seen p t)
-    go true e = ap (λ q. last_told b.frames (idle_seen q t)) (same_place b.place p e)
+    go : (c : Bool) → (b.place == p) ≡ c → time_or usual (if c then Some (last_told b.frames (idle_seen usual b.place t)) else entry_at p t) ≡ last_told (if c then b.frames else []) (idle_seen usual p t)
+    go true e = ap (λ q. last_told b.frames (idle_seen usual q t)) (same_place b.place p e)
     go false e = refl
 
-event : (h : History) (f : Frames) (t : Idle) (e : Event) → FramesKnown h f → Known h t → Known (Came e ∷ h) (met f.brought t)
-event h f t e fs is = record {
-  times = λ p. met_so f.brought p t ∙ (ap (λ ms. last_told ms (idle_seen p t)) (fs.here p) ∙ (ap (last_told (came_here p h)) (is.times p)
-      ∙ (sym (frames_tell (came_here p h) (idle_with [] p h)) ∙ sym (counted (came_here p h) p h refl))));
+event : (conf : Conf) (h : History) (f : Frames) (t : Idle) (e : Event) → FramesKnown h f → Known conf h t → Known conf (Came e ∷ h) (met (idle_timeout conf) f.brought t)
+event conf h f t e fs is = record {
+  times = λ p. met_so (idle_timeout conf) f.brought p t ∙ (ap (λ ms. last_told ms (idle_seen (idle_timeout conf) p t)) (fs.here p) ∙ (ap (last_told (came_here p h)) (is.times p)
+      ∙ (sym (frames_tell (came_here p h) (idle_with conf [] p h)) ∙ sym (counted conf (came_here p h) p h refl))));
 }
 
-first_time : (p : ℕ) → idle_seen p [] ≡ idle_with [] p []
-unfolding idle_timeout
-first_time p = refl
+first_time : (conf : Conf) (p : ℕ) → idle_seen (idle_timeout conf) p [] ≡ idle_with conf [] p []
+first_time conf p = refl
 
-pub goes_on : GoesOn
-goes_on = record { begins = record { times = first_time }; event = event; out = λ h t o is. record { times = is.times } }
+pub goes_on : (conf : Conf) → GoesOn conf
+goes_on conf = record { begins = record { times = first_time conf }; event = event conf; out = λ h t o is. record { times = is.times } }

@@ -3,8 +3,9 @@ use Rattle.std.specs.Prelude.{◌≡◌, ℕ, List, [], ◌∷◌, Option, Some,
 use Rattle.number_table.specs.Entries.{puts, entry_at}
 use Rattle.client_request.specs.declared.event.Event.{Event}
 use Rattle.client_request.specs.declared.event.Out.{Out}
-use Rattle.right_trace.specs.Trace.{History, Came, Put}
+use Rattle.right_trace.specs.Trace.{History, Came, Put, Conf}
 use Rattle.right_trace.specs.Messages.{Octets}
+use Rattle.right_trace.specs.Time.{idle_timeout}
 use Rattle.right_trace.specs.Timers.{idle_with}
 use Rattle.trace_frames.specs.declared.frames.Brought.{Brought}
 use Rattle.trace_frames.specs.declared.frames.Frames.{Frames}
@@ -15,24 +16,24 @@ use Rattle.trace_idle.specs.Keepalive.{last_told}
 abbrev pub Idle : Type 0
 Idle = List (ℕ × ℕ)
 
--- 10 s, where nothing was told (RFC 7766 6.2.3)
-abbrev pub time_or : Option ℕ → ℕ
-time_or None = 10000000
-time_or (Some n) = n
+-- the usual time, where nothing was told (RFC 7766 6.2.3)
+abbrev pub time_or : (usual : ℕ) → Option ℕ → ℕ
+time_or usual None = usual
+time_or usual (Some n) = n
 
-abbrev pub idle_seen : (p : ℕ) → Idle → ℕ
-idle_seen p t = time_or (entry_at p t)
+abbrev pub idle_seen : (usual p : ℕ) → Idle → ℕ
+idle_seen usual p t = time_or usual (entry_at p t)
 
 -- what came in a row that is over
-abbrev pub met : Option Brought → Idle → Idle
-met None t = t
-met (Some b) t = puts b.place (last_told b.frames (idle_seen b.place t)) t
+abbrev pub met : (usual : ℕ) → Option Brought → Idle → Idle
+met usual None t = t
+met usual (Some b) t = puts b.place (last_told b.frames (idle_seen usual b.place t)) t
 
 -- what is kept is what the definitions say
-pub record Known (h : History) (t : Idle) : Type 0 where
-  pub times : (p : ℕ) → idle_seen p t ≡ idle_with [] p h
+pub record Known (c : Conf) (h : History) (t : Idle) : Type 0 where
+  pub times : (p : ℕ) → idle_seen (idle_timeout c) p t ≡ idle_with c [] p h
 
-pub record GoesOn : Type 0 where
-  pub begins : Known [] []
-  pub event : (h : History) (f : Frames) (t : Idle) (e : Event) → FramesKnown h f → Known h t → Known (Came e ∷ h) (met f.brought t)
-  pub out : (h : History) (t : Idle) (o : Out) → Known h t → Known (Put o ∷ h) t
+pub record GoesOn (c : Conf) : Type 0 where
+  pub begins : Known c [] []
+  pub event : (h : History) (f : Frames) (t : Idle) (e : Event) → FramesKnown h f → Known c h t → Known c (Came e ∷ h) (met (idle_timeout c) f.brought t)
+  pub out : (h : History) (t : Idle) (o : Out) → Known c h t → Known c (Put o ∷ h) t

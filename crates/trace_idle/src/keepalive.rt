@@ -4,7 +4,7 @@ ghost use Rattle.std.specs.Prelude.{◌≡◌, length, drop, None, IfOk};
 ghost use Rattle.right_trace.specs.Messages.{keepalive_option, keepalive_in};
 ghost use Rattle.trace_idle.specs.Keepalive as spec;
 
-use dns_base::{Message, NoMemory, Octets};
+use dns_base::{Duration, Message, NoMemory, Octets};
 
 /// The code of the option edns-tcp-keepalive.
 const KEEPALIVE: usize = 11;
@@ -72,13 +72,13 @@ pub fn told_in(frame: &Octets) -> Result<Option<u64>, NoMemory>
 }
 
 /// The last that frames tell, or what was told before.
-pub fn last_told(frames: &[Octets], before: u64) -> Result<u64, NoMemory>
+pub fn last_told(frames: &[Octets], before: Duration) -> Result<Duration, NoMemory>
     ensures { IfOk result (λ t. t ≡ spec.last_told frames.now before) }
 {
     let mut last = before;
     for frame in frames {
         if let Some(told) = told_in(frame)? {
-            last = told;
+            last = Duration::from_micros(told);
         }
     }
     Ok(last)

@@ -21,6 +21,7 @@ use Rattle.trace_judge.specs.Course.{TellsAllBusy, TellsBusy, TellsEnd}
 use Rattle.trace_judge.proofs.Telling.{both_told, where_told, own_told, same_told}
 
 pub record IsScene (r : Rules) (t : Course) (q : Scene) : Type 0 where
+  pub conf : q.conf.now ≡ r.conf
   pub servers : q.servers.now ≡ r.servers.items
   pub ledger : q.ledger.now ≡ t.here.pass.ledger
   pub sends : q.sends.now ≡ t.here.pass.sends
@@ -30,13 +31,13 @@ pub record IsScene (r : Rules) (t : Course) (q : Scene) : Type 0 where
   pub backs : q.backs.now ≡ t.here.backs
 
 pub all_busy : (r : Rules) (t : Course) (q : Scene) (b : Bool) → IsScene r t q → busy.TellsBusy q b → TellsAllBusy r t b
-all_busy r t q b a f h n = f r.conf h (r.servers_are ∙ ap (map use_of) (sym a.servers)) (record {
+all_busy r t q b a f h n = f r.conf h a.conf (r.servers_are ∙ ap (map use_of) (sym a.servers)) (record {
   ledger = subst (ledger.Known h) (sym a.ledger) n.pass.ledger;
-  sends = subst (open_sends.Known h) (sym a.sends) n.pass.sends;
+  sends = subst (open_sends.Known r.conf h) (sym a.sends) n.pass.sends;
   writing = subst (writing.Known h) (sym a.writing) n.pass.timers.writes;
-  loads = subst (loads.Known h) (sym a.loads) n.loads;
-  waits = subst (waits.Known h) (sym a.waits) n.waits;
-  backs = subst (backs.Known h) (sym a.backs) n.backs;
+  loads = subst (loads.Known r.conf h) (sym a.loads) n.loads;
+  waits = subst (waits.Known r.conf h) (sym a.waits) n.waits;
+  backs = subst (backs.Known r.conf h) (sym a.backs) n.backs;
 })
 
 -- where there is no server nobody is asked
@@ -78,7 +79,7 @@ at_end r t os kept busy met stand few b m u f h n exact = record {
   causes = both_told kept.causes (not r.defers_nothing || few) (own_told kept.causes)
       (where_told r.defers_nothing few (subst (λ d. Tells (d ≡ true) r.defers_nothing) r.exact_is (own_told r.defers_nothing)) f);
   orders = same_told (kept.orders && (busy && (met && stand))) (λ q. (q.0, q.1.0, q.1.1.0, q.1.1.1)) (λ q. (q.0, (q.1, (q.2, q.3))))
-      (both_told kept.orders (busy && (met && stand)) (own_told kept.orders) (both_told busy (met && stand) (b h n) (both_told met stand (m r.settings h exact n.loads) u)));
+      (both_told kept.orders (busy && (met && stand)) (own_told kept.orders) (both_told busy (met && stand) (b h n) (both_told met stand (m r.conf r.settings h exact n.loads) u)));
 }
 
 pub at_end_is : (r : Rules) (t : Course) (os : List Out) (kept : Kept) (busy met stand few causes orders : Bool) → causes ≡ (kept.causes && (not r.defers_nothing || few)) → orders ≡ (kept.orders && (busy && (met && stand)))

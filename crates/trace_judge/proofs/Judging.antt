@@ -49,7 +49,7 @@ found r j xs f x h b p t = f x h b p.pass.ledger.books p.pass.sends t.pass.ledge
 
 -- the outs of a row, behind what was known before it
 module _ (r : Rules) (row : Row) (old new : Judge) (begun : Course) (p : Case) (k : Kept) where
-  pub runs : p.rules.now ≡ r → p.past.now ≡ old.past → p.row.now ≡ row → course.Begins row.event old.course begun → TellsComing r (record { past = old.past; course = begun }) p.comings.now
+  pub runs : p.rules.now ≡ r → p.past.now ≡ old.past → p.row.now ≡ row → course.Begins r.conf row.event old.course begun → TellsComing r (record { past = old.past; course = begun }) p.comings.now
       → course.Runs p row.outs begun new.course k → new.past ≡ old.past → Runs r row old new k
   runs rules its_past its_row b cs f same x right n =
       let c = r.conf in
@@ -74,7 +74,7 @@ module _ (r : Rules) (row : Row) (old new : Judge) (begun : Course) (p : Case) (
       }
 
 -- the same of outs by another name
-pub runs_of : (r : Rules) (row : Row) (old new : Judge) (begun : Course) (os : List Out) (k : Kept) (p : Case) → course.Runs p os begun new.course k → os ≡ row.outs → p.rules.now ≡ r → p.past.now ≡ old.past → p.row.now ≡ row → course.Begins row.event old.course begun
+pub runs_of : (r : Rules) (row : Row) (old new : Judge) (begun : Course) (os : List Out) (k : Kept) (p : Case) → course.Runs p os begun new.course k → os ≡ row.outs → p.rules.now ≡ r → p.past.now ≡ old.past → p.row.now ≡ row → course.Begins r.conf row.event old.course begun
     → TellsComing r (record { past = old.past; course = begun }) p.comings.now → new.past ≡ old.past → Runs r row old new k
 runs_of r row old new begun os k p f e a b d g cs same = runs r row old new begun p k a b d g cs (subst (λ os. course.Runs p os begun new.course k) e f) same
 
@@ -86,14 +86,14 @@ prompt r row xs j s b same f x n =
 
 -- what was known before the row goes over it
 past_goes : (c : Conf) (s : Settings) (row : Row) (xs : List Coming) (x : History) (p : Past) (t : Course) → BehindRight c s x → RowRight c s x row → PastKnown c s x p → CourseKnown c s x (after row x) p.pass.ledger.books.places t → AllComing c None x (after row x) xs
-    → PastKnown c s (after row x) (past.after_row s row t.here.pass.ledger t.made xs p)
+    → PastKnown c s (after row x) (past.after_row c s row t.here.pass.ledger t.made xs p)
 past_goes c s row xs x p t right is k d cs =
     let l = d.here.pass.ledger in
     let heard = hearing.goes_on.row c x row p.pass.ledger t.here.pass.ledger p.pass.timers t.made xs p.heard k.pass.ledger l k.pass.timers d.made cs k.heard in
     record {
-      pass = passing.goes_on.row x row p.pass right.asked k.pass;
+      pass = (passing.goes_on c).row x row p.pass right.asked k.pass;
       heard = heard;
-      errors = erring.goes_on.row c s x row p.pass.ledger t.here.pass.ledger p.pass.timers p.heard (past.after_row s row t.here.pass.ledger t.made xs p).heard t.made xs p.errors is k.pass.ledger l k.pass.timers k.heard heard d.made cs k.errors;
+      errors = erring.goes_on.row c s x row p.pass.ledger t.here.pass.ledger p.pass.timers p.heard (past.after_row c s row t.here.pass.ledger t.made xs p).heard t.made xs p.errors is k.pass.ledger l k.pass.timers k.heard heard d.made cs k.errors;
       firsts = arriving.goes_on.row c x row p.pass.ledger t.here.pass.ledger p.pass.timers t.made xs p.firsts k.pass.ledger l k.pass.timers d.made cs k.firsts;
     }
 
@@ -127,7 +127,7 @@ row_goes r row mid new xs x right a u keeps =
       behind r.conf r.settings x row is right,
       record {
         past = subst (PastKnown r.conf r.settings (after row x)) (sym u.past) (past_goes r.conf r.settings row xs x mid.past mid.course right is a.past a.course a.all);
-        here = subst (λ (t : Course). tables.Known (after row x) t.here) (sym u.course) a.course.here;
+        here = subst (λ (t : Course). tables.Known r.conf (after row x) t.here) (sym u.course) a.course.here;
         exact = ap (λ (t : Course). t.here.loads.exact) u.course ∙ a.course.exact;
         replies = subst (λ (t : Course). replies.Known r.conf r.settings (after row x) t.replies) (sym u.course) a.course.replies;
       },
@@ -135,7 +135,7 @@ row_goes r row mid new xs x right a u keeps =
 
 -- a row is judged, its event not asked
 module _ (r : Rules) (row : Row) (old mid new : Judge) (run kept : Kept) (xs : List Coming) (q : Bool) where
-  pub judges : Runs r row old mid run → course.TellsEnd r mid.course row.outs run kept → TellsComing r mid xs → TellsPrompt r row xs mid q → plain.Ends r row xs mid new
+  pub judges : Runs r row old mid run → course.TellsEnd r.conf r mid.course row.outs run kept → TellsComing r mid xs → TellsPrompt r row xs mid q → plain.Ends r row xs mid new
       → Judges r row.event row old new (first_broken kept q)
   judges f e cs g u x right n =
       let c = r.conf in
@@ -164,8 +164,8 @@ same_event r e row old new o is f = subst (λ e. Judges r e row old new o) is f
 -- before the first row
 pub judge_begins : (r : Rules) (j : Judge) → plain.IsBegun r j → Known r.conf r.settings [] j
 judge_begins r j b = record {
-  past = subst (PastKnown r.conf r.settings []) (sym b.past) (record { pass = passing.goes_on.begins; heard = hearing.goes_on.begins r.conf; errors = erring.goes_on.begins r.conf r.settings; firsts = arriving.goes_on.begins r.conf });
-  here = subst (tables.Known []) (sym b.course.here) (tables_begin r.defers_nothing);
+  past = subst (PastKnown r.conf r.settings []) (sym b.past) (record { pass = (passing.goes_on r.conf).begins; heard = hearing.goes_on.begins r.conf; errors = erring.goes_on.begins r.conf r.settings; firsts = arriving.goes_on.begins r.conf });
+  here = subst (tables.Known r.conf []) (sym b.course.here) (tables_begin r.conf r.defers_nothing);
   exact = ap (λ (t : Tables). t.loads.exact) b.course.here ∙ r.exact_is;
   replies = subst (replies.Known r.conf r.settings []) (sym b.course.replies) (giving.goes_on.begins r.conf r.settings);
 }

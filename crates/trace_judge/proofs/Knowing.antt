@@ -35,61 +35,61 @@ use Rattle.right_trace.specs.Trace.{after}
 
 -- tables
 
-pub tables_begin : (exact : Bool) → tables.Known [] (tables.nothing exact)
-tables_begin exact = record {
-  pass = passing.goes_on.begins;
-  loads = loading.goes_on.begins exact;
+pub tables_begin : (c : Conf) (exact : Bool) → tables.Known c [] (tables.nothing exact)
+tables_begin c exact = record {
+  pass = (passing.goes_on c).begins;
+  loads = (loading.goes_on c).begins exact;
   held = holding.goes_on.begins;
-  waits = waiting.goes_on.begins;
-  backs = backing.goes_on.begins;
-  exchanged = exchanging.goes_on.begins;
+  waits = (waiting.goes_on c).begins;
+  backs = (backing.goes_on c).begins;
+  exchanged = (exchanging.goes_on c).begins;
 }
 
-pub tables_event : (h : History) (e : Event) (t : Tables) → AskedFirst h → tables.Known h t → tables.Known (Came e ∷ h) (tables.met e t)
-tables_event h e t first k =
-    let p = passing.goes_on.event h e t.pass first k.pass in
+pub tables_event : (c : Conf) (h : History) (e : Event) (t : Tables) → AskedFirst h → tables.Known c h t → tables.Known c (Came e ∷ h) (tables.met c e t)
+tables_event c h e t first k =
+    let p = (passing.goes_on c).event h e t.pass first k.pass in
     let d = holding.goes_on.event h t.pass.ledger.frames t.held e k.pass.ledger.frames k.held in
     record {
       pass = p;
-      loads = loading.goes_on.event h t.pass.ledger.books t.loads e first k.pass.ledger.books k.loads;
+      loads = (loading.goes_on c).event h t.pass.ledger.books t.loads e first k.pass.ledger.books k.loads;
       held = d;
-      waits = waiting.goes_on.event h t.pass.ledger.books.requests t.waits e k.pass.ledger.books.requests k.waits;
-      backs = backing.goes_on.event h e (max e.moment.0 t.pass.ledger.books.requests.clock) t.pass.ledger.books.places (pass.met e t.pass).ledger.books.places (tables.met e t).held t.backs
+      waits = (waiting.goes_on c).event h t.pass.ledger.books.requests t.waits e k.pass.ledger.books.requests k.waits;
+      backs = (backing.goes_on c).event h e (max e.moment.0 t.pass.ledger.books.requests.clock) t.pass.ledger.books.places (pass.met c e t.pass).ledger.books.places (tables.met c e t).held t.backs
           (ap (λ n. max e.moment.0 n) k.pass.ledger.books.requests.time) k.pass.ledger.books.places p.ledger.books.places d k.backs;
-      exchanged = exchanging.goes_on.event h t.exchanged e k.exchanged;
+      exchanged = (exchanging.goes_on c).event h t.exchanged e k.exchanged;
     }
 
-pub tables_out : (h : History) (o : Out) (bad : Bool) (t : Tables) → TellsEnd o h bad → tables.Known h t → tables.Known (Put o ∷ h) (tables.has_put (newest h) o bad t)
-tables_out h o bad t is_bad k =
-    let p = passing.goes_on.out h o t.pass k.pass in
+pub tables_out : (c : Conf) (h : History) (o : Out) (bad : Bool) (t : Tables) → TellsEnd c o h bad → tables.Known c h t → tables.Known c (Put o ∷ h) (tables.has_put c (newest h) o bad t)
+tables_out c h o bad t is_bad k =
+    let p = (passing.goes_on c).out h o t.pass k.pass in
     let d = holding.goes_on.out h t.held o k.held in
     record {
       pass = p;
-      loads = loading.goes_on.out h t.pass.ledger.books t.loads o k.pass.ledger.books k.loads;
+      loads = (loading.goes_on c).out h t.pass.ledger.books t.loads o k.pass.ledger.books k.loads;
       held = d;
-      waits = waiting.goes_on.out h t.pass.ledger.books.requests t.waits o k.pass.ledger.books.requests k.waits;
-      backs = backing.goes_on.out h o bad t.pass.ledger.books.requests.clock t.pass.ledger.books.places (pass.has_put (newest h) o t.pass).ledger.books.places (tables.has_put (newest h) o bad t).held t.backs
+      waits = (waiting.goes_on c).out h t.pass.ledger.books.requests t.waits o k.pass.ledger.books.requests k.waits;
+      backs = (backing.goes_on c).out h o bad t.pass.ledger.books.requests.clock t.pass.ledger.books.places (pass.has_put (newest h) o t.pass).ledger.books.places (tables.has_put c (newest h) o bad t).held t.backs
           k.pass.ledger.books.requests.time is_bad k.pass.ledger.books.places p.ledger.books.places d k.backs;
-      exchanged = exchanging.goes_on.out h t.exchanged o k.exchanged;
+      exchanged = (exchanging.goes_on c).out h t.exchanged o k.exchanged;
     }
 
 -- whether nothing is deferred stands
-event_exact : (e : Event) (t : Tables) → (tables.met e t).loads.exact ≡ t.loads.exact
-event_exact e t = (loading.goes_on.exact e.what t.pass.ledger.books t.loads (Close 0)).0
+event_exact : (c : Conf) (e : Event) (t : Tables) → (tables.met c e t).loads.exact ≡ t.loads.exact
+event_exact c e t = (loading.goes_on.exact e.what t.pass.ledger.books t.loads (Close 0)).0
 
-out_exact : (h : History) (o : Out) (bad : Bool) (t : Tables) → (tables.has_put (newest h) o bad t).loads.exact ≡ t.loads.exact
-out_exact h o bad t = (loading.goes_on.exact (newest h) t.pass.ledger.books t.loads o).1
+out_exact : (c : Conf) (h : History) (o : Out) (bad : Bool) (t : Tables) → (tables.has_put c (newest h) o bad t).loads.exact ≡ t.loads.exact
+out_exact c h o bad t = (loading.goes_on.exact (newest h) t.pass.ledger.books t.loads o).1
 
 -- marks
 none_marked : (c : Conf) (s : Settings) (x : History) (e : Event) → MarkKnown c s x (Came e ∷ x) None
 none_marked c s x e k before is = absurd (cc)
 
 -- a row begins
-pub begins : (c : Conf) (s : Settings) (x : History) (e : Event) (places : List (ℕ × Place)) (old new : Course) → BehindRight c s x → tables.Known x old.here → old.here.loads.exact ≡ defers_nothing s → replies.Known c s x old.replies
-    → places_seen.Known x places → Begins e old new → CourseKnown c s x (Came e ∷ x) places new
+pub begins : (c : Conf) (s : Settings) (x : History) (e : Event) (places : List (ℕ × Place)) (old new : Course) → BehindRight c s x → tables.Known c x old.here → old.here.loads.exact ≡ defers_nothing s → replies.Known c s x old.replies
+    → places_seen.Known x places → Begins c e old new → CourseKnown c s x (Came e ∷ x) places new
 begins c s x e places old new right k exact kr kp b = record {
-  here = subst (tables.Known (Came e ∷ x)) (sym b.here) (tables_event x e old.here right.asked k);
-  exact = ap (λ (t : Tables). t.loads.exact) b.here ∙ (event_exact e old.here ∙ exact);
+  here = subst (tables.Known c (Came e ∷ x)) (sym b.here) (tables_event c x e old.here right.asked k);
+  exact = ap (λ (t : Tables). t.loads.exact) b.here ∙ (event_exact c e old.here ∙ exact);
   replies = subst (replies.Known c s (Came e ∷ x)) (sym b.replies) (giving.goes_on.event c s x old.replies e right.given kr);
   made = subst (here_outs.Known places (Came e ∷ x)) (sym b.made) (opening.goes_on.begins x places e kp);
   mark = subst (MarkKnown c s x (Came e ∷ x)) (sym b.mark) (none_marked c s x e);
@@ -97,13 +97,13 @@ begins c s x e places old new right k exact kr kp b = record {
 
 -- an out is put
 module _ (x h : History) (p : Case) (o : Out) (a : Said) (old new : Course) (k : Known x h p old) (said : IsSaid (conf_in p) (settings_in p) x (event_in p) (after p.row.now x) h o a) (u : Puts p o a old new) where
-  out_here : tables.Known (Put o ∷ h) new.here
-  out_here = subst (tables.Known (Put o ∷ h)) (sym u.here)
-      (subst (λ w. tables.Known (Put o ∷ h) (tables.has_put w o a.is_bad old.here)) k.within.event (tables_out h o a.is_bad old.here said.bad k.course.here))
+  out_here : tables.Known (conf_in p) (Put o ∷ h) new.here
+  out_here = subst (tables.Known (conf_in p) (Put o ∷ h)) (sym u.here)
+      (subst (λ w. tables.Known (conf_in p) (Put o ∷ h) (tables.has_put (conf_in p) w o a.is_bad old.here)) k.within.event (tables_out (conf_in p) h o a.is_bad old.here said.bad k.course.here))
 
   exact_kept : new.here.loads.exact ≡ defers_nothing (settings_in p)
   exact_kept = ap (λ (t : Tables). t.loads.exact) u.here
-      ∙ (subst (λ w. (tables.has_put w o a.is_bad old.here).loads.exact ≡ old.here.loads.exact) k.within.event (out_exact h o a.is_bad old.here) ∙ k.course.exact)
+      ∙ (subst (λ w. (tables.has_put (conf_in p) w o a.is_bad old.here).loads.exact ≡ old.here.loads.exact) k.within.event (out_exact (conf_in p) h o a.is_bad old.here) ∙ k.course.exact)
 
   pub puts : Known x (Put o ∷ h) p new
   puts = record {

@@ -125,6 +125,7 @@ said_other p t o orders bad m i f g d x h n =
 
 -- what is known at the point
 pub record IsAt (p : Case) (t : Course) (q : Point) : Type 0 where
+  pub conf : q.conf.now ≡ conf_in p
   pub servers : q.servers.now ≡ p.rules.now.servers.items
   pub row : q.row.now ≡ p.row.now
   pub past : q.past.now ≡ p.past.now.pass.ledger
@@ -138,13 +139,14 @@ module _ (p : Case) (t : Course) (q : Point) (a : IsAt p t q) where
   is_point : (x h : History) → Known x h p t → points.Known (conf_in p) x h (after p.row.now x) q
   is_point x h n = record {
     past = subst (ledger.Known x) (sym a.past) n.past.pass.ledger;
-    past_timers = subst (timers.Known x) (sym a.past_timers) n.past.pass.timers;
+    past_timers = subst (timers.Known (conf_in p) x) (sym a.past_timers) n.past.pass.timers;
     here = subst (ledger.Known h) (sym a.here) n.course.here.pass.ledger;
-    timers = subst (timers.Known h) (sym a.timers) n.course.here.pass.timers;
+    timers = subst (timers.Known (conf_in p) h) (sym a.timers) n.course.here.pass.timers;
     made = subst (λ (l : Ledger). here_outs.Known l.books.places h q.made.now) (sym a.past) (subst (here_outs.Known p.past.now.pass.ledger.books.places h) (sym a.made) n.course.made);
     before = n.within.before;
     event = n.within.event ∙ ap (λ (r : Row). r.event.what) (sym a.row);
     behind = ap (λ (r : Row). after r x) (sym a.row);
+    conf = a.conf;
     servers = p.rules.now.servers_are ∙ ap (map use_of) (sym a.servers);
     comings = record {
       at = Came p.row.now.event ∷ x;
@@ -164,7 +166,7 @@ module _ (p : Case) (t : Course) (q : Point) (a : IsAt p t q) where
 pub not_bad : (p : Case) (t : Course) (o : Out) → ((q : ℕ) → o ≡ Close q → ⊥) → TellsBad p t o false
 not_bad p t o non x h n = go o non
   where
-    go : (o : Out) → ((q : ℕ) → o ≡ Close q → ⊥) → TellsEnd o h false
+    go : (o : Out) → ((q : ℕ) → o ≡ Close q → ⊥) → TellsEnd (conf_in p) o h false
     go (Close q) non = absurd (non q refl)
     go _ non = tt
 

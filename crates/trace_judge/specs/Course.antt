@@ -34,8 +34,8 @@ pub record IsBegun (exact : Bool) (t : Course) : Type 0 where
   pub replies : t.replies ≡ []
 
 -- a row begins with an event
-pub record Begins (e : Event) (old new : Course) : Type 0 where
-  pub here : new.here ≡ tables.met e old.here
+pub record Begins (c : Conf) (e : Event) (old new : Course) : Type 0 where
+  pub here : new.here ≡ tables.met c e old.here
   pub replies : new.replies ≡ old.replies
   pub made : new.made ≡ here_outs.nothing
   pub mark : new.mark ≡ None
@@ -49,7 +49,7 @@ pub record KeepsGiven (o : Out) (given : Bool) (old new : Course) : Type 0 where
 
 -- an out is put
 pub record Puts (p : Case) (o : Out) (a : Said) (old new : Course) : Type 0 where
-  pub here : new.here ≡ tables.has_put (event_in p) o a.is_bad old.here
+  pub here : new.here ≡ tables.has_put (conf_in p) (event_in p) o a.is_bad old.here
   pub made : new.made ≡ here_outs.has_put o p.past.now.pass.ledger.books.places old.made
   pub mark : new.mark ≡ a.mark
   pub replies : (s : Settings) → Steps s old.here.pass.ledger.books.requests o a.given old.replies new.replies
@@ -82,10 +82,10 @@ abbrev pub EachIsBusy : Conf → History → Type 0
 EachIsBusy c h = HasServer c → WaitingIsBusy c h
 
 abbrev pub TellsAllBusy : Rules → Course → Bool → Type 0
-TellsAllBusy r t b = (h : History) → tables.Known h t.here → Tells (WaitingIsBusy r.conf h) b
+TellsAllBusy r t b = (h : History) → tables.Known r.conf h t.here → Tells (WaitingIsBusy r.conf h) b
 
 abbrev pub TellsBusy : Rules → Course → Bool → Type 0
-TellsBusy r t b = (h : History) → tables.Known h t.here → Tells (EachIsBusy r.conf h) b
+TellsBusy r t b = (h : History) → tables.Known r.conf h t.here → Tells (EachIsBusy r.conf h) b
 
 -- at most one error that an event at a datagram place brings, where nothing is deferred
 abbrev pub OneFault : Settings → List Out → Type 0
@@ -96,7 +96,7 @@ pub record IsEnd (c : Conf) (s : Settings) (h : History) (os : List Out) (kept k
   pub messages : k.messages ≡ kept.messages
   pub firsts : k.firsts ≡ kept.firsts
   pub causes : Tells ((kept.causes ≡ true) × OneFault s os) k.causes
-  pub orders : Tells ((kept.orders ≡ true) × EachIsBusy c h × PlacesAreMet s h × MarksStand os) k.orders
+  pub orders : Tells ((kept.orders ≡ true) × EachIsBusy c h × PlacesAreMet c s h × MarksStand os) k.orders
 
 abbrev pub TellsEnd : Rules → Course → List Out → (kept k : Kept) → Type 0
-TellsEnd r t os kept k = (h : History) → tables.Known h t.here → t.here.loads.exact ≡ defers_nothing r.settings → IsEnd r.conf r.settings h os kept k
+TellsEnd r t os kept k = (h : History) → tables.Known r.conf h t.here → t.here.loads.exact ≡ defers_nothing r.settings → IsEnd r.conf r.settings h os kept k

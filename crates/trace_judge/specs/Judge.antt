@@ -26,7 +26,7 @@ use Rattle.trace_judge.specs.Verdict.{clause_of}
 -- what is known between rows
 pub record Known (c : Conf) (s : Settings) (x : History) (j : Judge) : Type 0 where
   pub past : PastKnown c s x j.past
-  pub here : tables.Known x j.course.here
+  pub here : tables.Known c x j.course.here
   pub exact : j.course.here.loads.exact ≡ defers_nothing s
   pub replies : replies.Known c s x j.course.replies
 
@@ -42,7 +42,7 @@ first_broken k prompt =
     else Some Prompts) else Some Orders) else Some Causes) else Some Firsts) else Some Messages
 
 abbrev pub TellsComing : Rules → Judge → List Coming → Type 0
-TellsComing r j xs = (x h : History) → row_before h ≡ x → PastKnown r.conf r.settings x j.past → tables.Known h j.course.here → AllComing r.conf None x h xs
+TellsComing r j xs = (x h : History) → row_before h ≡ x → PastKnown r.conf r.settings x j.past → tables.Known r.conf h j.course.here → AllComing r.conf None x h xs
 
 -- the outs of a row are judged and put
 pub record HasRun (c : Conf) (s : Settings) (row : Row) (old new : Judge) (k : Kept) (x : History) : Type 0 where
@@ -65,7 +65,7 @@ TellsPrompt r row xs j b = (x : History) → AtEnd r.conf r.settings row xs x j 
 -- what was known before a row goes over it
 pub record Ends (r : Rules) (row : Row) (xs : List Coming) (old new : Judge) : Type 0 where
   pub course : new.course ≡ old.course
-  pub past : new.past ≡ past.after_row r.settings row old.course.here.pass.ledger old.course.made xs old.past
+  pub past : new.past ≡ past.after_row r.conf r.settings row old.course.here.pass.ledger old.course.made xs old.past
 
 -- a row is judged
 abbrev pub IsJudged : Conf → Settings → (x : History) → Event → Row → Judge → Option Clause → Type 0

@@ -33,12 +33,12 @@ pub record BehindRight (c : Conf) (s : Settings) (x : History) : Type 0 where
 
 -- before a row
 pub record PastKnown (c : Conf) (s : Settings) (x : History) (p : Past) : Type 0 where
-  pub pass : pass.Known x p.pass
+  pub pass : pass.Known c x p.pass
   pub heard : heards.Known c x p.heard
   pub errors : errors.Known c s x p.errors
   pub firsts : firsts.Known c x p.firsts
 
--- the mark was put last, and says whether an error of its request has its own cause there
+-- the mark was put last, and says whether a result of its request fails there
 pub record IsMark (c : Conf) (s : Settings) (k : ℕ) (x h before : History) (m : Option Mark) : Type 0 where
   pub mark : Mark
   pub is : m ≡ Some mark
@@ -56,7 +56,7 @@ pub record IsWithin (row : Row) (x h : History) : Type 0 where
 
 -- what is known at a point
 pub record CourseKnown (c : Conf) (s : Settings) (x h : History) (places : List (ℕ × Place)) (t : Course) : Type 0 where
-  pub here : tables.Known h t.here
+  pub here : tables.Known c h t.here
   pub exact : t.here.loads.exact ≡ defers_nothing s
   pub replies : replies.Known c s h t.replies
   pub made : here_outs.Known places h t.made

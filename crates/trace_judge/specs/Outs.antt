@@ -34,7 +34,7 @@ pub record IsKept (c : Conf) (s : Settings) (x : History) (w : What) (end h : Hi
 pub record IsSaid (c : Conf) (s : Settings) (x : History) (w : What) (end h : History) (o : Out) (a : Said) : Type 0 where
   pub kept : IsKept c s x w end h o a.kept
   pub given : replies.IsTold c s o a.given h
-  pub bad : TellsEnd o h a.is_bad
+  pub bad : TellsEnd c o h a.is_bad
   pub mark : MarkKnown c s x (Put o ∷ h) a.mark
 
 abbrev pub TellsSaid : Case → Course → Out → Said → Type 0
@@ -44,10 +44,10 @@ abbrev pub TellsOut : Case → Course → Out → Bool → Type 0
 TellsOut p t o b = AtPoints p t (λ x h. Tells (OutOwes (conf_in p) x (event_in p) h (after p.row.now x) o) b)
 
 abbrev pub TellsBadEnd : Case → Course → (place : ℕ) → Bool → Type 0
-TellsBadEnd p t q b = AtPoints p t (λ x h. Tells (EndsBadly q h) b)
+TellsBadEnd p t q b = AtPoints p t (λ x h. Tells (EndsBadly (conf_in p) q h) b)
 
 abbrev pub TellsBad : Case → Course → Out → Bool → Type 0
-TellsBad p t o b = AtPoints p t (λ x h. TellsEnd o h b)
+TellsBad p t o b = AtPoints p t (λ x h. TellsEnd (conf_in p) o h b)
 
 abbrev pub TellsMark : Case → Course → Out → Option Mark → Type 0
 TellsMark p t o m = AtPoints p t (λ x h. MarkKnown (conf_in p) (settings_in p) x (Put o ∷ h) m)

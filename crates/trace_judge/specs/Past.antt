@@ -12,23 +12,24 @@ use Rattle.trace_pass.specs.Pass as pass
 use Rattle.trace_errors.specs.Earlier as errors
 use Rattle.trace_firsts.specs.Firsts as firsts
 use Rattle.trace_judge.specs.declared.past.Past.{Past}
+use Rattle.right_trace.specs.Trace.{Conf}
 
 abbrev pub nothing : Past
 nothing = record { pass = pass.nothing; heard = []; errors = errors.nothing; firsts = [] }
 
 -- what rests on what came in a row, by what is known behind it
-abbrev pub noted : Settings → Row → (here : Ledger) → Here → List Coming → Past → Past
-noted s row l o xs p = record {
+abbrev pub noted : (c : Conf) → Settings → Row → (here : Ledger) → Here → List Coming → Past → Past
+noted c s row l o xs p = record {
   pass = p.pass;
-  heard = heards.after_row (passed_over_in l.frames.brought l.books.requests.clock p.pass.ledger p.pass.timers o) xs p.heard;
-  errors = errors.after_row s p.pass.ledger p.pass.timers p.heard l o row xs p.errors;
-  firsts = firsts.after_row (excused_in l.frames.brought l.books.requests.clock p.pass.ledger p.pass.timers l o) xs p.firsts;
+  heard = heards.after_row (passed_over_in c l.frames.brought l.books.requests.clock p.pass.ledger p.pass.timers o) xs p.heard;
+  errors = errors.after_row c s p.pass.ledger p.pass.timers p.heard l o row xs p.errors;
+  firsts = firsts.after_row (excused_in c l.frames.brought l.books.requests.clock p.pass.ledger p.pass.timers l o) xs p.firsts;
 }
 
-abbrev pub after_row : Settings → Row → (here : Ledger) → Here → List Coming → Past → Past
-after_row s row l o xs p = record {
-  pass = pass.after_row row p.pass;
-  heard = heards.after_row (passed_over_in l.frames.brought l.books.requests.clock p.pass.ledger p.pass.timers o) xs p.heard;
-  errors = errors.after_row s p.pass.ledger p.pass.timers p.heard l o row xs p.errors;
-  firsts = firsts.after_row (excused_in l.frames.brought l.books.requests.clock p.pass.ledger p.pass.timers l o) xs p.firsts;
+abbrev pub after_row : (c : Conf) → Settings → Row → (here : Ledger) → Here → List Coming → Past → Past
+after_row c s row l o xs p = record {
+  pass = pass.after_row c row p.pass;
+  heard = heards.after_row (passed_over_in c l.frames.brought l.books.requests.clock p.pass.ledger p.pass.timers o) xs p.heard;
+  errors = errors.after_row c s p.pass.ledger p.pass.timers p.heard l o row xs p.errors;
+  firsts = firsts.after_row (excused_in c l.frames.brought l.books.requests.clock p.pass.ledger p.pass.timers l o) xs p.firsts;
 }

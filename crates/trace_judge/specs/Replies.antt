@@ -11,6 +11,7 @@ use Rattle.right_trace.specs.Coming.{CameFirst}
 use Rattle.right_trace.specs.Owed.{AllAreDone}
 use Rattle.right_trace.specs.Errors.{OwnCause, HasCause, IsKeptError, DirectCause}
 use Rattle.trace_questions.specs.Outs.{Tells}
+use Rattle.trace_firsts.specs.Failing.{MessageFails}
 use Rattle.trace_messages.specs.declared.message.Told.{Told}
 use Rattle.trace_messages.specs.declared.message.Judged.{Judged}
 use Rattle.trace_messages.specs.Message.{FailsHere, IsTold, IsJudged}
@@ -60,6 +61,9 @@ FailsWithoutFault p k x h =
 
 abbrev pub TellsFailsWithoutFault : Case → Course → (k : ℕ) → Bool → Type 0
 TellsFailsWithoutFault p t k b = AtPoints p t (λ x h. Tells (FailsWithoutFault p k x h) b)
+
+abbrev pub TellsFailsByMessage : Case → Course → (k : ℕ) → Bool → Type 0
+TellsFailsByMessage p t k b = AtPoints p t (λ x h. Tells (MessageFails (conf_in p) (settings_in p) k x (event_in p) h) b)
 
 abbrev pub TellsFails : Case → Course → (k : ℕ) → Bool → Type 0
 TellsFails p t k b = AtPoints p t (λ x h. Tells (FailsHere (conf_in p) (settings_in p) k x (event_in p) h) b)

@@ -61,8 +61,8 @@ fn first_lane(script: &Script) -> &[Event]
 /// What is said of a trace by its script, which has one lane: that it is right, exactly where its events are the script's and the
 /// trace is right; or else the least row that is not, counted from 0, and the first clause that fails there.
 pub fn audit(alloc: Global, script: &Script, trace: &Trace) -> Result<Verdict, NoMemory>
-    ensures verdict { IfOk result (λ v. IsVerdict (verdict_of v) (conf_of script.now.conf) (settings_of script.now.redundant script.now.cache) [] (first_lane script.now.lanes) trace.now.rows) }
-    ensures right { IfOk result (λ v. (v ≡ Verdict.Right) ↔ (HaveEvents (first_lane script.now.lanes) trace.now.rows × Right (conf_of script.now.conf) (settings_of script.now.redundant script.now.cache) trace.now.rows)) }
+    ensures verdict { IfOk result (λ v. IsVerdict (verdict_of v) (conf_of script.now.conf script.now.transports) (settings_of script.now.redundant script.now.cache) [] (first_lane script.now.lanes) trace.now.rows) }
+    ensures right { IfOk result (λ v. (v ≡ Verdict.Right) ↔ (HaveEvents (first_lane script.now.lanes) trace.now.rows × Right (conf_of script.now.conf script.now.transports) (settings_of script.now.redundant script.now.cache) trace.now.rows)) }
 {
     let rules = Rules::of(alloc, script)?;
     judge_rows(alloc, &rules, first_lane(script), trace.rows.as_slice())

@@ -24,7 +24,7 @@ impl Drop for Case<'_> {
     }
 }
 
-/// A mark that was put last: whose reply is stale, and whether an error of the request had its own cause there.
+/// A mark that was put last: whose reply is stale, and whether a result of the request failed there.
 #[derive(Clone, Copy, Debug, Drop)]
 pub struct Mark {
     pub request: u64,

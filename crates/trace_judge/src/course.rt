@@ -14,7 +14,7 @@ use std::alloc::Global;
 use trace_busy::Scene;
 use trace_frames::Here;
 use trace_given::Earliers;
-use trace_questions::{has_one_fault_at_most, marks_stand};
+use trace_questions::{TraceConf, has_one_fault_at_most, marks_stand};
 
 /// What is known at a point within a row, or behind one.
 pub struct Course {
@@ -64,10 +64,10 @@ impl Course {
     }
 
     /// A row begins: its event comes.
-    pub(crate) fn begin(&mut self, alloc: Global, event: &Event) -> Result<(), NoMemory>
-        ensures { OnOk result (plain.Begins event.now self.old self.new) }
+    pub(crate) fn begin(&mut self, conf: &TraceConf, event: &Event) -> Result<(), NoMemory>
+        ensures { OnOk result (plain.Begins conf.now event.now self.old self.new) }
     {
-        self.here.meet(alloc, event)?;
+        self.here.meet(conf, event)?;
         self.made.begin();
         self.mark = None;
         Ok(())
@@ -100,7 +100,7 @@ impl Course {
         self.keep_if(alloc, out, said.given)?;
         self.made.put(&case.past.pass.ledger.books.places, out)?;
         self.here
-            .put(alloc, &case.row.event.what, out, said.is_bad)?;
+            .put(&case.rules.conf, &case.row.event.what, out, said.is_bad)?;
         self.mark = said.mark;
         Ok(())
     }
@@ -144,6 +144,7 @@ impl Course {
     {
         let pass = &self.here.pass;
         let scene = Scene {
+            conf: &rules.conf,
             servers: &rules.servers,
             ledger: &pass.ledger,
             sends: &pass.sends,

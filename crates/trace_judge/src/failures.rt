@@ -1,15 +1,17 @@
-//! Whether an error for which an expired message may stand has its own cause.
+//! Whether a result for which an expired message may stand has its cause: an error, or a message that fails.
 
 ghost use Rattle.std.specs.Prelude.{◌≡◌, ◌&&◌, ◌||◌, IfOk};
 ghost use Rattle.trace_judge.specs.Replies as plain;
 
 use crate::case::Case;
 use crate::course::Course;
+use crate::replies::is_done;
 use client_request::{Error, Fault, QueryError};
 use dns_base::NoMemory;
 use std::alloc::Global;
 use trace_deferred::own_cause;
 use trace_exchanges::find_coming;
+use trace_firsts::message_fails;
 
 /// Whether an error of a request has its own cause where it would be given.
 pub(crate) fn has_own_cause(
@@ -27,7 +29,6 @@ pub(crate) fn has_own_cause(
     let books = &past.ledger.books;
     let comings = find_coming(alloc, conf, Some(request), books, &past.sends, &pass.ledger)?;
     own_cause(
-        alloc,
         conf,
         case.rules.settings.trace(),
         &past.ledger,
@@ -138,7 +139,32 @@ fn fails_without_fault(
     Ok(either(is_late, second))
 }
 
-/// Whether some error of a server, or that of the deadline, has its own cause for a request.
+/// Whether a request could be given a message that fails.
+fn fails_by_message(
+    alloc: Global,
+    case: &Case<'_>,
+    course: &Course,
+    request: u64,
+) -> Result<bool, NoMemory>
+    ensures { IfOk result (plain.TellsFailsByMessage case.now course.now request) }
+{
+    let past = &case.past.pass;
+    let ledger = &course.here.pass.ledger;
+    let conf = &case.rules.conf;
+    let books = &past.ledger.books;
+    let comings = find_coming(alloc, conf, Some(request), books, &past.sends, ledger)?;
+    let done = is_done(case, course, request)?;
+    Ok(message_fails(
+        case.rules.settings.trace(),
+        &case.past.firsts,
+        request,
+        done,
+        comings.as_slice(),
+    ))
+}
+
+/// Whether some error of a server, or that of the deadline, has its own cause for a request, or it could be given a message that
+/// fails.
 pub(crate) fn fails(
     alloc: Global,
     case: &Case<'_>,
@@ -150,6 +176,8 @@ pub(crate) fn fails(
     let alone = fails_without_fault(alloc, case, course, request)?;
     let by_socket = fails_by_socket(alloc, case, course, request)?;
     let by_client = fails_by_client(alloc, case, course, request)?;
+    let by_message = fails_by_message(alloc, case, course, request)?;
     let by_fault = either(by_socket, by_client);
-    Ok(either(alone, by_fault))
+    let by_error = either(alone, by_fault);
+    Ok(either(by_error, by_message))
 }

@@ -77,7 +77,7 @@ impl Judge {
     fn run(&mut self, alloc: Global, rules: &Rules, row: &Row) -> Result<Kept, NoMemory>
         ensures { IfOk result (plain.Runs rules.now row.now self.old self.new) }
     {
-        self.course.begin(alloc, &row.event)?;
+        self.course.begin(&rules.conf, &row.event)?;
         let comings = self.comings(alloc, rules)?;
         let case = Case {
             rules,
@@ -107,17 +107,11 @@ impl Judge {
     }
 
     /// The row is done, and what was known before it goes over it.
-    fn end(
-        &mut self,
-        alloc: Global,
-        rules: &Rules,
-        row: &Row,
-        comings: &[Coming],
-    ) -> Result<(), NoMemory>
+    fn end(&mut self, rules: &Rules, row: &Row, comings: &[Coming]) -> Result<(), NoMemory>
         ensures { OnOk result (plain.Ends rules.now row.now comings.now self.old self.new) }
     {
         self.past.take(
-            alloc,
+            &rules.conf,
             rules.settings.trace(),
             row,
             &self.course.here.pass.ledger,
@@ -137,7 +131,7 @@ impl Judge {
             .kept_at_end(alloc, rules, row.outs.as_slice(), kept)?;
         let comings = self.comings(alloc, rules)?;
         let prompt = self.is_prompt(rules, row, comings.as_slice())?;
-        self.end(alloc, rules, row, comings.as_slice())?;
+        self.end(rules, row, comings.as_slice())?;
         Ok(first_broken(kept, prompt))
     }
 

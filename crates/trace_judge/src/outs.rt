@@ -91,6 +91,7 @@ fn is_right(alloc: Global, case: &Case<'_>, course: &Course, out: &Out) -> Resul
     ensures { IfOk result (plain.TellsOut case.now course.now out.now) }
 {
     let point = Point {
+        conf: &case.rules.conf,
         servers: &case.rules.servers,
         row: case.row,
         past: &case.past.pass.ledger,
@@ -108,6 +109,7 @@ fn is_bad_end(alloc: Global, case: &Case<'_>, course: &Course, place: u64) -> Re
     ensures { IfOk result (plain.TellsBadEnd case.now course.now place) }
 {
     let point = Point {
+        conf: &case.rules.conf,
         servers: &case.rules.servers,
         row: case.row,
         past: &case.past.pass.ledger,

@@ -13,6 +13,7 @@ use trace_firsts::{Firsts, note_arrivals};
 use trace_frames::{Here, Ledger};
 use trace_pass::Pass;
 use trace_promptness::{Heards, TraceSettings, hear};
+use trace_questions::TraceConf;
 
 /// What is known before a row.
 pub struct Past {
@@ -53,14 +54,14 @@ impl Past {
     /// places, and `comings` all that came.
     fn note(
         &mut self,
-        alloc: Global,
+        conf: &TraceConf,
         settings: &TraceSettings,
         row: &Row,
         ledger: &Ledger,
         made: &Here,
         comings: &[Coming],
     ) -> Result<(), NoMemory>
-        ensures { OnOk result (self.new ≡ plain.noted settings.now row.now ledger.now made.now comings.now self.old) }
+        ensures { OnOk result (self.new ≡ plain.noted conf.now settings.now row.now ledger.now made.now comings.now self.old) }
     {
         let Pass {
             ledger: past,
@@ -68,7 +69,7 @@ impl Past {
             ..
         } = &self.pass;
         self.errors.take(
-            alloc,
+            conf,
             settings,
             past,
             timers,
@@ -78,23 +79,23 @@ impl Past {
             row,
             comings,
         )?;
-        note_arrivals(&mut self.firsts, alloc, past, timers, ledger, made, comings)?;
-        hear(&mut self.heard, alloc, past, timers, ledger, made, comings)
+        note_arrivals(conf, &mut self.firsts, past, timers, ledger, made, comings)?;
+        hear(conf, &mut self.heard, past, timers, ledger, made, comings)
     }
 
     /// A row goes by.
     pub(crate) fn take(
         &mut self,
-        alloc: Global,
+        conf: &TraceConf,
         settings: &TraceSettings,
         row: &Row,
         ledger: &Ledger,
         made: &Here,
         comings: &[Coming],
     ) -> Result<(), NoMemory>
-        ensures { OnOk result (self.new ≡ plain.after_row settings.now row.now ledger.now made.now comings.now self.old) }
+        ensures { OnOk result (self.new ≡ plain.after_row conf.now settings.now row.now ledger.now made.now comings.now self.old) }
     {
-        self.note(alloc, settings, row, ledger, made, comings)?;
-        self.pass.take(alloc, row)
+        self.note(conf, settings, row, ledger, made, comings)?;
+        self.pass.take(conf, row)
     }
 }

@@ -17,7 +17,7 @@ use trace_messages::{Judged, Place, Told};
 use trace_owed::are_all_done;
 use trace_views::is_kept_error;
 
-/// Whether a mark says that an error of the request has its own cause.
+/// Whether a mark says that a result of the request failed.
 fn is_marked_as_failing(mark: &Option<Mark>, request: u64) -> bool
     ensures { result ≡ plain.marked_as_failing mark.now request }
 {
@@ -51,12 +51,11 @@ fn is_first_come(
 }
 
 /// Whether every server is done with a request.
-fn is_done(alloc: Global, case: &Case<'_>, course: &Course, request: u64) -> Result<bool, NoMemory>
+pub(crate) fn is_done(case: &Case<'_>, course: &Course, request: u64) -> Result<bool, NoMemory>
     ensures { IfOk result (plain.TellsDone case.now course.now request) }
 {
     let pass = &course.here.pass;
     are_all_done(
-        alloc,
         &case.rules.conf,
         &case.past.pass.ledger.books,
         &pass.ledger,
@@ -78,7 +77,7 @@ fn told_deferred(
     ensures { IfOk result (plain.TellsTold case.now course.now request message.now) }
 {
     let first = is_first_come(alloc, case, course, request, message)?;
-    let done = is_done(alloc, case, course, request)?;
+    let done = is_done(case, course, request)?;
     Ok(Told {
         fails: is_marked_as_failing(&course.mark, request),
         came_earlier: came_earlier(&case.past.firsts, request, message),
@@ -182,7 +181,6 @@ pub(crate) fn has_direct_cause(
     let books = &past.ledger.books;
     let comings = find_coming(alloc, conf, Some(request), books, &past.sends, ledger)?;
     direct_cause(
-        alloc,
         conf,
         case.rules.settings.trace(),
         books,

@@ -39,7 +39,7 @@ impl Drop for Rules {
 impl Rules {
     /// Those of a script.
     pub(crate) fn of(alloc: Global, script: &Script) -> Result<Rules, NoMemory>
-        ensures conf { IfOk result (λ rules. rules.conf ≡ judged.conf_of script.now.conf) }
+        ensures conf { IfOk result (λ rules. rules.conf ≡ judged.conf_of script.now.conf script.now.transports) }
         ensures settings { IfOk result (λ rules. rules.settings ≡ judged.settings_of script.now.redundant script.now.cache) }
     {
         let cache: cache::Config = script.cache.try_clone()?;
@@ -47,7 +47,7 @@ impl Rules {
         let refused = script.redundant.defer_refused();
         let servfail = script.redundant.defer_servfail();
         Ok(Rules {
-            conf: conf_of(alloc, &script.conf)?,
+            conf: conf_of(alloc, &script.conf, script.transports.try_clone()?)?,
             servers: uses_of(
                 alloc,
                 script.conf.options.use_vc,

@@ -11,6 +11,7 @@ use trace_busy::{Backs, Waits, meet_backs, note_used, put_backs};
 use trace_loads::{Held, Loads};
 use trace_owed::{Exchanged, put_exchange};
 use trace_pass::Pass;
+use trace_questions::TraceConf;
 
 /// What is known at a point of a trace.
 pub struct Tables {
@@ -64,38 +65,38 @@ impl Tables {
     }
 
     /// An event comes.
-    pub fn meet(&mut self, alloc: Global, event: &Event) -> Result<(), NoMemory>
-        ensures { OnOk result (self.new ≡ plain.met event.now self.old) }
+    pub fn meet(&mut self, conf: &TraceConf, event: &Event) -> Result<(), NoMemory>
+        ensures { OnOk result (self.new ≡ plain.met conf.now event.now self.old) }
     {
         let ledger = &self.pass.ledger;
         let books = &ledger.books;
         let moment = event.moment.0.max(books.requests.clock);
-        self.loads.meet(alloc, &books.places, &event.what)?;
-        self.held.meet(alloc, &ledger.frames.brought)?;
+        self.loads.meet(conf, &books.places, &event.what)?;
+        self.held.meet(conf.alloc(), &ledger.frames.brought)?;
         self.waits.meet(&books.requests, &event.what)?;
         meet_backs(&mut self.backs, &books.places, &event.what, moment)?;
-        self.pass.meet(alloc, event)?;
+        self.pass.meet(conf, event)?;
         self.note_used(moment)
     }
 
     /// An out is put, in a row with this event. Where it closes a place, it is said whether that ends badly.
     pub fn put(
         &mut self,
-        alloc: Global,
+        conf: &TraceConf,
         what: &What,
         out: &Out,
         is_bad: bool,
     ) -> Result<(), NoMemory>
-        ensures { OnOk result (self.new ≡ plain.has_put what.now out.now is_bad self.old) }
+        ensures { OnOk result (self.new ≡ plain.has_put conf.now what.now out.now is_bad self.old) }
     {
         let books = &self.pass.ledger.books;
-        self.loads.put(alloc, books, what, out)?;
-        self.held.put(alloc, out)?;
-        self.waits.put(alloc, &books.requests, out)?;
+        self.loads.put(conf, books, what, out)?;
+        self.held.put(conf.alloc(), out)?;
+        self.waits.put(conf, &books.requests, out)?;
         let moment = books.requests.clock;
         put_backs(&mut self.backs, &books.places, what, out, is_bad, moment)?;
-        put_exchange(&mut self.exchanged, alloc, out)?;
-        self.pass.put(alloc, what, out)?;
+        put_exchange(&mut self.exchanged, conf.alloc(), out)?;
+        self.pass.put(conf.alloc(), what, out)?;
         self.note_used(moment)
     }
 }

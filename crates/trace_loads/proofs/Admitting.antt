@@ -4,7 +4,7 @@ use Rattle.std.specs.Prelude.{nat_le}
 use Rattle.std.proofs.lemmas.Bool.Decides.{nat_tests}
 use Rattle.number_table.specs.Entries.{entry_at}
 use Rattle.client_request.specs.declared.event.Via.TheVariants.{Stream}
-use Rattle.right_trace.specs.Trace.{History}
+use Rattle.right_trace.specs.Trace.{History, Conf}
 use Rattle.right_trace.specs.Time.{id_count}
 use Rattle.right_trace.specs.Places.{Stand, Unused, Opening, Alive, Gone, is_at, stand, is_live, is_opening, is_alive}
 use Rattle.right_trace.specs.Writes.{held_with}
@@ -42,7 +42,7 @@ alive_is Opening e = absurd (cc)
 alive_is Alive e = refl
 alive_is Gone e = absurd (cc)
 
-module _ (s : ℕ) (places : List (ℕ × Place)) (l : Loads) (t : Held) (h : History) (kp : places_seen.Known h places) (kl : loads.Known h l) (kt : held.Known h t) where
+module _ (c : Conf) (s : ℕ) (places : List (ℕ × Place)) (l : Loads) (t : Held) (h : History) (kp : places_seen.Known h places) (kl : loads.Known c h l) (kt : held.Known h t) where
   there : (p : ℕ) → is_at Stream s p h ≡ true → is_live (stand p h) ≡ true → has s p l.streams ≡ true
   there p at live = kl.places Stream s p ∙ ap₂ (λ a b. a && b) at live
 
@@ -94,7 +94,7 @@ module _ (s : ℕ) (places : List (ℕ × Place)) (l : Loads) (t : Held) (h : Hi
           less a b le = grind (arith, nat_tests)
 
 pub tells_open : (s : ℕ) (places : List (ℕ × Place)) (l : Loads) (t : Held) (b : Bool) → b ≡ may_open_seen s places l t → TellsOpenStream s places l t b
-tells_open s places l t b e h kp kl kt = (
-  (λ u. open_so s places l t h kp kl kt (sym e ∙ u)),
-  (λ may. e ∙ so_open s places l t h kp kl kt may (some_of (blocks_at places t) (members s l.streams)) refl),
+tells_open s places l t b e c h kp kl kt = (
+  (λ u. open_so c s places l t h kp kl kt (sym e ∙ u)),
+  (λ may. e ∙ so_open c s places l t h kp kl kt may (some_of (blocks_at places t) (members s l.streams)) refl),
 )

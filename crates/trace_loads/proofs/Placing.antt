@@ -18,6 +18,7 @@ use Rattle.trace_sets.specs.Sets.{has, joins, leaves, AreSets}
 use Rattle.trace_sets.proofs.Keeping.{goes_on}
 use Rattle.trace_loads.specs.declared.loads.Loads.{Loads}
 use Rattle.trace_loads.specs.Loads.{gives, takes, fails_as, fails, closes, opens_as, opens, met, places_of}
+use Rattle.right_trace.specs.Trace.{Conf}
 
 -- what an entry says of a place: it is live, of this kind and of this server
 abbrev pub live_at : Via → (s : ℕ) → Option Place → Bool
@@ -26,17 +27,17 @@ live_at v s o = is_site v s (site_seen o) && is_live (stand_seen o)
 pub record Follows (places : List (ℕ × Place)) (t : Loads) : Type 0 where
   pub so : (u : Via) (k q : ℕ) → has k q (places_of u t) ≡ live_at u k (entry_at q places)
 
-gave : (v u : Via) (s p k q : ℕ) (t : Loads) → has k q (places_of u (gives v s p t)) ≡ ((same_via v u && (s == k && p == q)) || has k q (places_of u t))
-gave Dgram Dgram s p k q t = goes_on.joined s p k q t.dgrams
-gave Dgram Stream s p k q t = refl
-gave Stream Dgram s p k q t = refl
-gave Stream Stream s p k q t = goes_on.joined s p k q t.streams
+gave : (c : Conf) (v u : Via) (s p k q : ℕ) (t : Loads) → has k q (places_of u (gives c v s p t)) ≡ ((same_via v u && (s == k && p == q)) || has k q (places_of u t))
+gave c Dgram Dgram s p k q t = goes_on.joined s p k q t.dgrams
+gave c Dgram Stream s p k q t = refl
+gave c Stream Dgram s p k q t = refl
+gave c Stream Stream s p k q t = goes_on.joined s p k q t.streams
 
-took : (v u : Via) (s p k q : ℕ) (t : Loads) → AreSets (places_of v t) → has k q (places_of u (takes v s p t)) ≡ (not (same_via v u && (s == k && p == q)) && has k q (places_of u t))
-took Dgram Dgram s p k q t are = goes_on.left s p k q t.dgrams are
-took Dgram Stream s p k q t are = refl
-took Stream Dgram s p k q t are = refl
-took Stream Stream s p k q t are = goes_on.left s p k q t.streams are
+took : (c : Conf) (v u : Via) (s p k q : ℕ) (t : Loads) → AreSets (places_of v t) → has k q (places_of u (takes c v s p t)) ≡ (not (same_via v u && (s == k && p == q)) && has k q (places_of u t))
+took c Dgram Dgram s p k q t are = goes_on.left s p k q t.dgrams are
+took c Dgram Stream s p k q t are = refl
+took c Stream Dgram s p k q t are = refl
+took c Stream Stream s p k q t are = goes_on.left s p k q t.streams are
 
 is_equal : (p q : ℕ) → (p == q) ≡ true → p ≡ q
 is_equal p q e = grind (arith, nat_tests)
@@ -70,16 +71,16 @@ none_live true true = refl
 none_live true false = refl
 none_live false b = refl
 
-module _ (places : List (ℕ × Place)) (t : Loads) (f : Follows places t) (p : ℕ) where
-  takes_so : (x : Place) → AreSets (places_of x.via t) → entry_at p places ≡ Some x → Follows (puts p (record x { stand = seen.Gone }) places) (takes x.via x.server p t)
-  takes_so x are e = record { so = λ u k q. took x.via u x.server p k q t are ∙ (go u k q (p == q) refl ∙ ap (live_at u k) (sym (at_puts p (record x { stand = seen.Gone }) q places))) }
+module _ (c : Conf) (places : List (ℕ × Place)) (t : Loads) (f : Follows places t) (p : ℕ) where
+  takes_so : (x : Place) → AreSets (places_of x.via t) → entry_at p places ≡ Some x → Follows (puts p (record x { stand = seen.Gone }) places) (takes c x.via x.server p t)
+  takes_so x are e = record { so = λ u k q. took c x.via u x.server p k q t are ∙ (go u k q (p == q) refl ∙ ap (live_at u k) (sym (at_puts p (record x { stand = seen.Gone }) q places))) }
     where
       go : (u : Via) (k q : ℕ) (b : Bool) → (p == q) ≡ b → (not (same_via x.via u && (x.server == k && b)) && has k q (places_of u t)) ≡ live_at u k (if b then Some (record x { stand = seen.Gone }) else entry_at q places)
       go u k q true i = ap (λ z. not (same_via x.via u && (x.server == k && true)) && z) (f.so u k q ∙ ap (live_at u k) (same_entry p q places (Some x) i e)) ∙ gone (same_via x.via u) (x.server == k) (is_live (stand_of x.stand))
       go u k q false i = not_here (same_via x.via u) (x.server == k) (has k q (places_of u t)) ∙ f.so u k q
 
-  gives_so : (y : Place) → entry_at p places ≡ None → is_live (stand_of y.stand) ≡ true → Follows (puts p y places) (gives y.via y.server p t)
-  gives_so y e l = record { so = λ u k q. gave y.via u y.server p k q t ∙ (go u k q (p == q) refl ∙ ap (live_at u k) (sym (at_puts p y q places))) }
+  gives_so : (y : Place) → entry_at p places ≡ None → is_live (stand_of y.stand) ≡ true → Follows (puts p y places) (gives c y.via y.server p t)
+  gives_so y e l = record { so = λ u k q. gave c y.via u y.server p k q t ∙ (go u k q (p == q) refl ∙ ap (live_at u k) (sym (at_puts p y q places))) }
     where
       go : (u : Via) (k q : ℕ) (b : Bool) → (p == q) ≡ b → ((same_via y.via u && (y.server == k && b)) || has k q (places_of u t)) ≡ live_at u k (if b then Some y else entry_at q places)
       go u k q true i =
@@ -116,39 +117,39 @@ module _ (places : List (ℕ × Place)) (t : Loads) (f : Follows places t) (p : 
       go seen.Alive d = f
       go seen.Gone d = f
 
-  failed_so : ((v : Via) → AreSets (places_of v t)) → (o : Option Place) → entry_at p places ≡ o → Follows (tables.settles seen.Gone p o places) (fails p o t)
+  failed_so : ((v : Via) → AreSets (places_of v t)) → (o : Option Place) → entry_at p places ≡ o → Follows (tables.settles seen.Gone p o places) (fails c p o t)
   failed_so are None e = f
   failed_so are (Some x) e = go x.stand refl
     where
-      go : (z : Seen) → x.stand ≡ z → Follows (tables.settled seen.Gone p x z places) (fails_as p x z t)
+      go : (z : Seen) → x.stand ≡ z → Follows (tables.settled seen.Gone p x z places) (fails_as c p x z t)
       go seen.Opening d = takes_so x (are x.via) e
       go seen.Alive d = f
       go seen.Gone d = f
 
-  pub closed_so : ((v : Via) → AreSets (places_of v t)) → (o : Option Place) → entry_at p places ≡ o → Follows (tables.closes p o places) (closes p o t)
+  pub closed_so : ((v : Via) → AreSets (places_of v t)) → (o : Option Place) → entry_at p places ≡ o → Follows (tables.closes p o places) (closes c p o t)
   closed_so are None e = f
   closed_so are (Some x) e = takes_so x (are x.via) e
 
-  pub begun_so : (w : What) (v : Via) (s : ℕ) (o : Option Place) → entry_at p places ≡ o → Follows (tables.opens w v s p o places) (opens w v s p o t)
+  pub begun_so : (w : What) (v : Via) (s : ℕ) (o : Option Place) → entry_at p places ≡ o → Follows (tables.opens w v s p o places) (opens c w v s p o t)
   begun_so w v s (Some x) e = f
   begun_so w v s None e = go (tables.begun_stand w p) refl
     where
-      go : (z : Seen) → tables.begun_stand w p ≡ z → Follows (puts p (record { via = v; server = s; stand = tables.begun_stand w p }) places) (opens_as v s p z t)
+      go : (z : Seen) → tables.begun_stand w p ≡ z → Follows (puts p (record { via = v; server = s; stand = tables.begun_stand w p }) places) (opens_as c v s p z t)
       go seen.Opening d = gives_so (record { via = v; server = s; stand = tables.begun_stand w p }) e (ap (λ (z : Seen). is_live (stand_of z)) d)
       go seen.Alive d = gives_so (record { via = v; server = s; stand = tables.begun_stand w p }) e (ap (λ (z : Seen). is_live (stand_of z)) d)
       go seen.Gone d = gone_so (record { via = v; server = s; stand = tables.begun_stand w p }) e d
 
-pub met_so : (places : List (ℕ × Place)) (t : Loads) → Follows places t → ((v : Via) → AreSets (places_of v t)) → (w : What) → Follows (tables.met w places) (met w places t)
-met_so places t f are (Opened p) = opened_so places t f p (entry_at p places) refl
-met_so places t f are (OpenFailed p g) = failed_so places t f p are (entry_at p places) refl
-met_so places t f are (Ask r) = f
-met_so places t f are (SendFailed p g) = f
-met_so places t f are (ShortSend p) = f
-met_so places t f are (Datagram p o) = f
-met_so places t f are (RecvFailed p g) = f
-met_so places t f are (Wrote p n) = f
-met_so places t f are (WriteFailed p g) = f
-met_so places t f are (Bytes p o) = f
-met_so places t f are (ReadFailed p g) = f
-met_so places t f are (Ended p) = f
-met_so places t f are Tick = f
+pub met_so : (c : Conf) (places : List (ℕ × Place)) (t : Loads) → Follows places t → ((v : Via) → AreSets (places_of v t)) → (w : What) → Follows (tables.met w places) (met c w places t)
+met_so c places t f are (Opened p) = opened_so c places t f p (entry_at p places) refl
+met_so c places t f are (OpenFailed p g) = failed_so c places t f p are (entry_at p places) refl
+met_so c places t f are (Ask r) = f
+met_so c places t f are (SendFailed p g) = f
+met_so c places t f are (ShortSend p) = f
+met_so c places t f are (Datagram p o) = f
+met_so c places t f are (RecvFailed p g) = f
+met_so c places t f are (Wrote p n) = f
+met_so c places t f are (WriteFailed p g) = f
+met_so c places t f are (Bytes p o) = f
+met_so c places t f are (ReadFailed p g) = f
+met_so c places t f are (Ended p) = f
+met_so c places t f are Tick = f

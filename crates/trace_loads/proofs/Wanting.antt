@@ -10,7 +10,7 @@ use Rattle.client_request.specs.declared.event.Out.{Out}
 use Rattle.client_request.specs.declared.event.Out.TheVariants.{Start, OpenDgram, OpenStream, Send, Write, Resume, Close, Stale, Reply}
 use Rattle.client_request.specs.declared.event.Via.{Via}
 use Rattle.client_request.specs.declared.event.Via.TheVariants.{Dgram, Stream}
-use Rattle.right_trace.specs.Trace.{History, Came, Put}
+use Rattle.right_trace.specs.Trace.{History, Came, Put, Conf}
 use Rattle.right_trace.specs.Time.{now}
 use Rattle.right_trace.specs.Requests.{asking, asking_of, asks, is_ask, is_reply, replied, start, started, waits, same_via}
 use Rattle.trace_tables.specs.declared.requests.Requests.{Requests}
@@ -85,7 +85,7 @@ started_put k j s t v u h = go (same_via v u && ((j == k) && (t == s)))
 same_number : (a b : ℕ) → (a == b) ≡ true → a ≡ b
 same_number a b e = grind (arith, nat_tests)
 
-module _ (h : History) (r : Requests) (t : Loads) (is : requests.Known h r) (wants : (s k : ℕ) → has s k t.demand ≡ is_wanting s k h) (are : AreSets t.demand) where
+module _ (conf : Conf) (h : History) (r : Requests) (t : Loads) (is : requests.Known h r) (wants : (s k : ℕ) → has s k t.demand ≡ is_wanting s k h) (are : AreSets t.demand) where
   waits_is : (k : ℕ) → waits_seen k r ≡ waits k h
   waits_is k = ap₂ (λ a b. is_some a && not b) (is.askings k) (is.replies k)
 
@@ -103,7 +103,7 @@ module _ (h : History) (r : Requests) (t : Loads) (is : requests.Known h r) (wan
   apart true false n e = sym e
   apart false d n e = refl
 
-  pub dgram_wants : (j i s k : ℕ) → has s k (starts j i Dgram r t).demand ≡ is_wanting s k (Put (Start j i Dgram) ∷ h)
+  pub dgram_wants : (j i s k : ℕ) → has s k (starts conf j i Dgram r t).demand ≡ is_wanting s k (Put (Start j i Dgram) ∷ h)
   dgram_wants j i s k = go (waits_seen j r && not (started_seen j i Stream r)) refl (i == s) refl (j == k) refl
       ∙ sym (ap₂ (λ a b. waits k h && (a && not b)) (started_put k j s i Dgram Dgram h) (started_put k j s i Dgram Stream h))
     where
@@ -121,7 +121,7 @@ module _ (h : History) (r : Requests) (t : Loads) (is : requests.Known h r) (wan
       split false y e = absurd (cc)
 
       go : (c : Bool) → (waits_seen j r && not (started_seen j i Stream r)) ≡ c → (a : Bool) → (i == s) ≡ a → (b : Bool) → (j == k) ≡ b
-          → has s k (if c then waits_at i j t else t).demand ≡ (waits k h && (((b && a) || started k s Dgram h) && not (started k s Stream h)))
+          → has s k (if c then waits_at conf i j t else t).demand ≡ (waits k h && (((b && a) || started k s Dgram h) && not (started k s Stream h)))
       go true ec true ea true eb =
           let q = split (waits k h) (not (started k s Stream h)) (sym (there ea eb) ∙ ec) in
           new true true ea eb ∙ (ap (λ z. true || z) (wants s k) ∙ joined (waits k h) (started k s Dgram h) (not (started k s Stream h)) q.0 q.1)
@@ -134,7 +134,7 @@ module _ (h : History) (r : Requests) (t : Loads) (is : requests.Known h r) (wan
       go false ec false ea false eb = wants s k
 
   -- by stream
-  pub stream_wants : (j i s k : ℕ) → has s k (starts j i Stream r t).demand ≡ is_wanting s k (Put (Start j i Stream) ∷ h)
+  pub stream_wants : (j i s k : ℕ) → has s k (starts conf j i Stream r t).demand ≡ is_wanting s k (Put (Start j i Stream) ∷ h)
   stream_wants j i s k =
       goes_on.left i j s k t.demand are
       ∙ (ap (λ z. not ((i == s) && (j == k)) && z) (wants s k)
@@ -167,13 +167,13 @@ among_none s v (x ∷ xs) e = go (x.server == s) refl (among_none s v xs) e
     go true i rest e = absurd (cc)
     go false i rest e = ap (λ b. if b then Some x.moment else start_of s v xs) (no (same_via x.via v)) ∙ rest e
 
-goes_sets : (s k : ℕ) (t : Loads) → AreSets t.demand → AreSets (goes_from s k t).demand
-goes_sets s k t are = goes_on.leave s k t.demand are
+goes_sets : (conf : Conf) (s k : ℕ) (t : Loads) → AreSets t.demand → AreSets (goes_from conf s k t).demand
+goes_sets conf s k t are = goes_on.leave s k t.demand are
 
-all_left : (j s k : ℕ) (xs : List Started) (t : Loads) → AreSets t.demand → has s k (goes_from_all j xs t).demand ≡ (not (is_among s xs && (j == k)) && has s k t.demand)
-all_left j s k [] t are = refl
-all_left j s k (x ∷ xs) t are =
-    all_left j s k xs (goes_from x.server j t) (goes_sets x.server j t are)
+all_left : (conf : Conf) (j s k : ℕ) (xs : List Started) (t : Loads) → AreSets t.demand → has s k (goes_from_all conf j xs t).demand ≡ (not (is_among s xs && (j == k)) && has s k t.demand)
+all_left conf j s k [] t are = refl
+all_left conf j s k (x ∷ xs) t are =
+    all_left conf j s k xs (goes_from conf x.server j t) (goes_sets conf x.server j t are)
     ∙ (ap (λ z. not (is_among s xs && (j == k)) && z) (goes_on.left x.server j s k t.demand are)
     ∙ join (x.server == s) (is_among s xs) (j == k) (has s k t.demand))
   where
@@ -186,9 +186,9 @@ all_left j s k (x ∷ xs) t are =
     join false true false z = refl
     join false false c z = refl
 
-pub reply_wants : (h : History) (r : Requests) (t : Loads) → requests.Known h r → ((s k : ℕ) → has s k t.demand ≡ is_wanting s k h) → AreSets t.demand
-    → (j s k : ℕ) → has s k (goes_from_all j (listed j r.starts) t).demand ≡ ((is_some (asking k h) && not ((j == k) || replied k h)) && (started k s Dgram h && not (started k s Stream h)))
-reply_wants h r t is wants are j s k = all_left j s k (listed j r.starts) t are ∙ (ap (λ z. not (is_among s (listed j r.starts) && (j == k)) && z) (wants s k) ∙ go (j == k) refl (is_among s (listed j r.starts)) refl)
+pub reply_wants : (conf : Conf) (h : History) (r : Requests) (t : Loads) → requests.Known h r → ((s k : ℕ) → has s k t.demand ≡ is_wanting s k h) → AreSets t.demand
+    → (j s k : ℕ) → has s k (goes_from_all conf j (listed j r.starts) t).demand ≡ ((is_some (asking k h) && not ((j == k) || replied k h)) && (started k s Dgram h && not (started k s Stream h)))
+reply_wants conf h r t is wants are j s k = all_left conf j s k (listed j r.starts) t are ∙ (ap (λ z. not (is_among s (listed j r.starts) && (j == k)) && z) (wants s k) ∙ go (j == k) refl (is_among s (listed j r.starts)) refl)
   where
     none : (a m b n d : Bool) → d ≡ false → (not (m && true) && ((a && b) && (d && n))) ≡ ((a && false) && (d && n))
     none a m b n true e = absurd (cc)

@@ -1,7 +1,7 @@
 -- Whether a stream place may be opened.
 use Rattle.std.specs.Prelude.{ℕ, ◌&&◌, ◌||◌, not, Bool, List, Option}
 use Rattle.number_table.specs.Entries.{entry_at}
-use Rattle.right_trace.specs.Trace.{History}
+use Rattle.right_trace.specs.Trace.{History, Conf}
 use Rattle.right_trace.specs.Places.{is_opening, is_alive}
 use Rattle.right_trace.specs.Orderly.{MayOpenStream}
 use Rattle.trace_tables.specs.declared.places.Place.{Place}
@@ -27,4 +27,4 @@ may_open_seen s places l t = not (some_of (blocks_at places t) (members s l.stre
 
 -- the answer, of every history that the tables know
 abbrev pub TellsOpenStream : (s : ℕ) → List (ℕ × Place) → Loads → Held → Bool → Type 0
-TellsOpenStream s places l t b = (h : History) → places_seen.Known h places → loads.Known h l → held.Known h t → Tells (MayOpenStream s h) b
+TellsOpenStream s places l t b = (c : Conf) (h : History) → places_seen.Known h places → loads.Known c h l → held.Known h t → Tells (MayOpenStream s h) b

@@ -1,12 +1,13 @@
 //! What is kept is what the definitions say.
 
+ghost use Rattle.right_trace.specs.Trace.{Conf};
 ghost use Rattle.trace_loads.specs.Held as held;
 ghost use Rattle.trace_loads.specs.Loads as loads;
 
 /// What is kept of servers is what the definitions of a right trace say, before the first row and over each event and out, where
 /// nobody was sent or handed on who was not asked.
 pub fn loads_go_on()
-    ensures { loads.GoesOn }
+    ensures { (c : Conf) → loads.GoesOn c }
 {}
 
 /// So is what is kept of ids that are held.

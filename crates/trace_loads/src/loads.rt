@@ -10,6 +10,7 @@ use client_request::{Out, Via, What};
 use dns_base::NoMemory;
 use number_table::NumberTable;
 use std::alloc::Global;
+use trace_questions::TraceConf;
 use trace_sets::{Members, Sets, count, join, leave};
 use trace_tables::{Books, Newest, Place, Requests, Stand, Started};
 
@@ -40,10 +41,10 @@ impl Drop for Loads {
 }
 
 /// Whether so many live datagram places are right for so many requests.
-fn are_met(exact: bool, places: usize, requests: usize) -> bool
-    ensures { result ≡ plain.are_met exact places requests }
+fn are_met(conf: &TraceConf, exact: bool, places: usize, requests: usize) -> bool
+    ensures { result ≡ plain.are_met conf.now exact places requests }
 {
-    let most = requests.min(100);
+    let most = requests.min(conf.max_places());
     places <= most && (!exact || places == most)
 }
 
@@ -106,11 +107,12 @@ impl Loads {
     }
 
     /// A server is asked anew.
-    fn check(&mut self, server: u32) -> Result<(), NoMemory>
-        ensures { OnOk result (self.new ≡ plain.checks server self.old) }
+    fn check(&mut self, conf: &TraceConf, server: u32) -> Result<(), NoMemory>
+        ensures { OnOk result (self.new ≡ plain.checks conf.now server self.old) }
     {
         let key = u64::from(server);
         let is_met = are_met(
+            conf,
             self.exact,
             count(&self.dgrams, key),
             count(&self.demand, key),
@@ -119,184 +121,189 @@ impl Loads {
     }
 
     /// A live place is there.
-    fn give(&mut self, alloc: Global, via: Via, server: u32, place: u64) -> Result<(), NoMemory>
-        ensures { OnOk result (self.new ≡ plain.gives via server place self.old) }
+    fn give(&mut self, conf: &TraceConf, via: Via, server: u32, place: u64) -> Result<(), NoMemory>
+        ensures { OnOk result (self.new ≡ plain.gives conf.now via server place self.old) }
     {
         match via {
             Via::Dgram => {
-                join(&mut self.dgrams, alloc, u64::from(server), place)?;
-                self.check(server)
+                join(&mut self.dgrams, conf.alloc(), u64::from(server), place)?;
+                self.check(conf, server)
             }
-            Via::Stream => join(&mut self.streams, alloc, u64::from(server), place),
+            Via::Stream => join(&mut self.streams, conf.alloc(), u64::from(server), place),
         }
     }
 
     /// A place is live no more.
-    fn take(&mut self, alloc: Global, via: Via, server: u32, place: u64) -> Result<(), NoMemory>
-        ensures { OnOk result (self.new ≡ plain.takes via server place self.old) }
+    fn take(&mut self, conf: &TraceConf, via: Via, server: u32, place: u64) -> Result<(), NoMemory>
+        ensures { OnOk result (self.new ≡ plain.takes conf.now via server place self.old) }
     {
         match via {
             Via::Dgram => {
-                leave(&mut self.dgrams, alloc, u64::from(server), place)?;
-                self.check(server)
+                leave(&mut self.dgrams, conf.alloc(), u64::from(server), place)?;
+                self.check(conf, server)
             }
-            Via::Stream => leave(&mut self.streams, alloc, u64::from(server), place),
+            Via::Stream => leave(&mut self.streams, conf.alloc(), u64::from(server), place),
         }
     }
 
     /// A request waits at a server.
-    fn wait_at(&mut self, alloc: Global, server: u32, request: u64) -> Result<(), NoMemory>
-        ensures { OnOk result (self.new ≡ plain.waits_at server request self.old) }
+    fn wait_at(&mut self, conf: &TraceConf, server: u32, request: u64) -> Result<(), NoMemory>
+        ensures { OnOk result (self.new ≡ plain.waits_at conf.now server request self.old) }
     {
-        join(&mut self.demand, alloc, u64::from(server), request)?;
-        self.check(server)
+        join(&mut self.demand, conf.alloc(), u64::from(server), request)?;
+        self.check(conf, server)
     }
 
     /// A request waits there no more.
-    fn go_from(&mut self, alloc: Global, server: u32, request: u64) -> Result<(), NoMemory>
-        ensures { OnOk result (self.new ≡ plain.goes_from server request self.old) }
+    fn go_from(&mut self, conf: &TraceConf, server: u32, request: u64) -> Result<(), NoMemory>
+        ensures { OnOk result (self.new ≡ plain.goes_from conf.now server request self.old) }
     {
-        leave(&mut self.demand, alloc, u64::from(server), request)?;
-        self.check(server)
+        leave(&mut self.demand, conf.alloc(), u64::from(server), request)?;
+        self.check(conf, server)
     }
 
     /// A request waits at none of these servers any more.
     fn go_from_all(
         &mut self,
-        alloc: Global,
+        conf: &TraceConf,
         request: u64,
         starts: &Newest<Started>,
     ) -> Result<(), NoMemory>
-        ensures { OnOk result (self.new ≡ plain.goes_from_all request starts.now self.old) }
+        ensures { OnOk result (self.new ≡ plain.goes_from_all conf.now request starts.now self.old) }
     {
         for start in starts {
-            self.go_from(alloc, start.server, request)?;
+            self.go_from(conf, start.server, request)?;
         }
         Ok(())
     }
 
     /// A place that opens fails.
-    fn fail(&mut self, alloc: Global, place: Option<&Place>, number: u64) -> Result<(), NoMemory>
-        ensures { OnOk result (self.new ≡ plain.fails number (option_copied place.entry) self.old) }
+    fn fail(&mut self, conf: &TraceConf, place: Option<&Place>, number: u64) -> Result<(), NoMemory>
+        ensures { OnOk result (self.new ≡ plain.fails conf.now number (option_copied place.entry) self.old) }
     {
         let Some(place) = place else {
             return Ok(());
         };
         match place.stand {
-            Stand::Opening => self.take(alloc, place.via, place.server, number),
+            Stand::Opening => self.take(conf, place.via, place.server, number),
             _ => Ok(()),
         }
     }
 
     /// A place is closed.
-    fn close(&mut self, alloc: Global, place: Option<&Place>, number: u64) -> Result<(), NoMemory>
-        ensures { OnOk result (self.new ≡ plain.closes number (option_copied place.entry) self.old) }
+    fn close(
+        &mut self,
+        conf: &TraceConf,
+        place: Option<&Place>,
+        number: u64,
+    ) -> Result<(), NoMemory>
+        ensures { OnOk result (self.new ≡ plain.closes conf.now number (option_copied place.entry) self.old) }
     {
         match place {
             None => Ok(()),
-            Some(place) => self.take(alloc, place.via, place.server, number),
+            Some(place) => self.take(conf, place.via, place.server, number),
         }
     }
 
     /// A place is opened, if it was not opened before.
     fn open(
         &mut self,
-        alloc: Global,
+        conf: &TraceConf,
         places: &NumberTable<Place>,
         what: &What,
         via: Via,
         server: u32,
         number: u64,
     ) -> Result<(), NoMemory>
-        ensures { OnOk result (self.new ≡ plain.opens what.now via server number (entry_at number places.now) self.old) }
+        ensures { OnOk result (self.new ≡ plain.opens conf.now what.now via server number (entry_at number places.now) self.old) }
     {
         if places.contains_key(number) {
             return Ok(());
         }
         match begun(what, number) {
             Stand::Gone => Ok(()),
-            _ => self.give(alloc, via, server, number),
+            _ => self.give(conf, via, server, number),
         }
     }
 
     /// A request is handed to a server.
     fn start(
         &mut self,
-        alloc: Global,
+        conf: &TraceConf,
         requests: &Requests,
         request: u64,
         server: u32,
         via: Via,
     ) -> Result<(), NoMemory>
-        ensures { OnOk result (self.new ≡ plain.starts request server via requests.now self.old) }
+        ensures { OnOk result (self.new ≡ plain.starts conf.now request server via requests.now self.old) }
     {
         match via {
             Via::Dgram => {
                 if waits(requests, request) && !requests.is_started(request, server, Via::Stream) {
-                    self.wait_at(alloc, server, request)
+                    self.wait_at(conf, server, request)
                 } else {
                     Ok(())
                 }
             }
-            Via::Stream => self.go_from(alloc, server, request),
+            Via::Stream => self.go_from(conf, server, request),
         }
     }
 
     /// An event comes, over the places as they were.
     pub fn meet(
         &mut self,
-        alloc: Global,
+        conf: &TraceConf,
         places: &NumberTable<Place>,
         what: &What,
     ) -> Result<(), NoMemory>
-        ensures { OnOk result (self.new ≡ plain.met what.now places.now self.old) }
+        ensures { OnOk result (self.new ≡ plain.met conf.now what.now places.now self.old) }
     {
         match what {
-            What::OpenFailed { place, .. } => self.fail(alloc, places.get(*place), *place),
+            What::OpenFailed { place, .. } => self.fail(conf, places.get(*place), *place),
             _ => Ok(()),
         }
     }
 
     /// A request has a reply.
-    fn reply(&mut self, alloc: Global, requests: &Requests, request: u64) -> Result<(), NoMemory>
-        ensures { OnOk result (self.new ≡ plain.goes_from_all request (listed request requests.now.starts) self.old) }
+    fn reply(&mut self, conf: &TraceConf, requests: &Requests, request: u64) -> Result<(), NoMemory>
+        ensures { OnOk result (self.new ≡ plain.goes_from_all conf.now request (listed request requests.now.starts) self.old) }
     {
         match requests.starts.get(request) {
             None => Ok(()),
-            Some(starts) => self.go_from_all(alloc, request, starts),
+            Some(starts) => self.go_from_all(conf, request, starts),
         }
     }
 
     /// An out is put, over the books as they were, in a row with this event.
     pub fn put(
         &mut self,
-        alloc: Global,
+        conf: &TraceConf,
         books: &Books,
         what: &What,
         out: &Out,
     ) -> Result<(), NoMemory>
-        ensures { OnOk result (self.new ≡ plain.has_put what.now out.now books.now self.old) }
+        ensures { OnOk result (self.new ≡ plain.has_put conf.now what.now out.now books.now self.old) }
     {
         match out {
             Out::OpenDgram { place, server } => {
-                self.open(alloc, &books.places, what, Via::Dgram, *server, *place)
+                self.open(conf, &books.places, what, Via::Dgram, *server, *place)
             }
             Out::OpenStream { place, server } => {
-                self.open(alloc, &books.places, what, Via::Stream, *server, *place)
+                self.open(conf, &books.places, what, Via::Stream, *server, *place)
             }
-            Out::Close { place } => self.close(alloc, books.places.get(*place), *place),
+            Out::Close { place } => self.close(conf, books.places.get(*place), *place),
             Out::Start {
                 request,
                 server,
                 via,
-            } => self.start(alloc, &books.requests, *request, *server, *via),
-            Out::Reply { request, .. } => self.reply(alloc, &books.requests, *request),
+            } => self.start(conf, &books.requests, *request, *server, *via),
+            Out::Reply { request, .. } => self.reply(conf, &books.requests, *request),
             _ => Ok(()),
         }
     }
 
-    /// Whether at most as many datagram places of each server are live as requests wait there, and at most 100; just so many
-    /// where nothing is deferred.
+    /// Whether at most as many datagram places of each server are live as requests wait there, and at most as many as are set;
+    /// just so many where nothing is deferred.
     pub fn are_met(&self) -> bool
         ensures value { result ≡ plain.are_all_met self.now }
         ensures told { plain.TellsMet self.now result }

@@ -126,7 +126,7 @@ module _ (c : Conf) (s : Settings) (k : ℕ) (m : Octets) where
         Marked (record {
           before = b.0;
           marked = b.1;
-          error = f.error;
+          failed = f.failed;
           fails = f.fails;
           cause = f.cause;
           first = v.first;
@@ -142,7 +142,7 @@ module _ (c : Conf) (s : Settings) (k : ℕ) (m : Octets) where
     so_stale : (supplied : Bool) → is_marked k h ≡ true → Tells (IsSupplied c s k m h) supplied → MessageIsRight c s k m x (newest h) h → (told.fails && supplied) ≡ true
     so_stale supplied marked tells (Unmarked unmarked right) = absurd (clash (is_marked k h) marked unmarked)
     so_stale supplied marked tells (Marked v) =
-        all told.fails supplied ((it.fails v.before v.marked).1 (record { error = v.error; fails = v.fails; cause = v.cause }))
+        all told.fails supplied ((it.fails v.before v.marked).1 (record { failed = v.failed; fails = v.fails; cause = v.cause }))
         (tells.1 (subst (IsSupplied c s k m) (sym v.marked) (behind_mark v.before (record { first = v.first; request = v.request; message = v.message; age = v.age; supplied = v.supplied; parts = v.parts; valid = v.valid; says = v.says }))))
 
     marked_judged : (supplied : Bool) → is_marked k h ≡ true → Tells (IsSupplied c s k m h) supplied → IsJudged c s k m x h (record { is_right = told.fails && supplied; is_fresh = false })

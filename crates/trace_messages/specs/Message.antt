@@ -1,5 +1,5 @@
 -- Whether a message that is put as a reply is right.
-use Rattle.std.specs.Prelude.{◌≡◌, ℕ, ◌&&◌, ◌||◌, not, Bool, true, ◌∷◌}
+use Rattle.std.specs.Prelude.{◌≡◌, ℕ, ◌&&◌, ◌||◌, not, Bool, true, ◌∷◌, Result}
 use Rattle.client_request.specs.declared.error.Error.{Error}
 use Rattle.client_request.specs.declared.event.Out.TheVariants.{Stale}
 use Rattle.client_request.specs.declared.event.What.{What}
@@ -10,7 +10,7 @@ use Rattle.right_trace.specs.Settings.{Settings}
 use Rattle.right_trace.specs.Validity.{is_deferred}
 use Rattle.right_trace.specs.Coming.{CameFor, CameFirst}
 use Rattle.right_trace.specs.Owed.{AllAreDone}
-use Rattle.right_trace.specs.Errors.{is_failure, OwnCause}
+use Rattle.right_trace.specs.Errors.{is_failing, FailsSo}
 use Rattle.right_trace.specs.Stale.{MessageIsRight}
 use Rattle.trace_tables.specs.declared.books.Books.{Books}
 use Rattle.trace_tables.specs.Books as books
@@ -25,11 +25,11 @@ use Rattle.trace_given.specs.Earlier as earlier
 use Rattle.trace_messages.specs.declared.message.Told.{Told}
 use Rattle.trace_messages.specs.declared.message.Judged.{Judged}
 
--- an error of a server or of the deadline has its own cause here
+-- a result for which an expired message may stand has its cause here
 pub record FailsHere (c : Conf) (s : Settings) (k : ℕ) (past : History) (w : What) (h : History) : Type 0 where
-  pub error : Error
-  pub fails : is_failure error ≡ true
-  pub cause : OwnCause c s error k past w h
+  pub failed : Result Octets Error
+  pub fails : is_failing failed ≡ true
+  pub cause : FailsSo c s k past w h failed
 
 -- a deferred message may be given: every server is done with its request, and it was the first that came
 abbrev pub IsLast : (c : Conf) (k : ℕ) → Octets → (past : History) → What → History → Type 0
@@ -49,7 +49,7 @@ pub record IsJudged (c : Conf) (s : Settings) (k : ℕ) (m : Octets) (past h : H
 -- of every two histories that the tables know, where the first is what was before the row of the second
 abbrev pub TellsMessage : Conf → Settings → (k : ℕ) → Octets → What → (past : Books) → Open → (here : Ledger) → Table → Told → Judged → Type 0
 TellsMessage c s k m w past sent here t told j =
-    (x h : History) → row_before h ≡ x → newest h ≡ w → books.Known x past → open_sends.Known x sent → ledger.Known h here → earlier.Known c s h t → IsTold c s k m x h told → IsJudged c s k m x h j
+    (x h : History) → row_before h ≡ x → newest h ≡ w → books.Known x past → open_sends.Known c x sent → ledger.Known h here → earlier.Known c s h t → IsTold c s k m x h told → IsJudged c s k m x h j
 
 -- the mark of request k was put last
 abbrev pub is_marked_seen : (k : ℕ) → Ledger → Bool

@@ -16,8 +16,8 @@ use trace_views::{ReplySettings, is_supplied, is_view};
 /// What is told of a reply from elsewhere: of causes of errors, and of deferred messages.
 #[derive(Clone, Copy, Debug, Drop)]
 pub struct Told {
-    /// An error of a server or of the deadline had its own cause before the mark. It is asked only of a reply that is marked
-    /// as stale.
+    /// A result for which an expired message may stand had its cause before the mark. It is asked only of a reply that is
+    /// marked as stale.
     pub fails: bool,
     /// The message came for its request in an earlier row. It is asked only of a deferred message.
     pub came_earlier: bool,

@@ -47,20 +47,26 @@ module _ (t : Point) (l : Loads) (d : Held) where
   pub tells_close : (p : ℕ) (b : Bool) → TellsClose p t b → TellsOut t l d (Close p) b
   tells_close p b tells c x h end known kl kd = tells c x h end known
 
-  pub tells_send : (k p id : ℕ) (o : Octets) (may b : Bool) → TellsSend t.past.now.books t.here.now.books k p id o may → b ≡ (has_server_seen t && may) → TellsOut t l d (Send p k id o) b
+  pub tells_send : (k p id : ℕ) (o : Octets) (may b : Bool) → TellsSend t.conf.now t.past.now.books t.here.now.books k p id o may → b ≡ (has_server_seen t && may) → TellsOut t l d (Send p k id o) b
   tells_send k p id o may b tells e c x h end known kl kd = (
     (λ u.
         let q = both (has_server_seen t) may (sym e ∙ u) in
-        let s = (tells x h known.past.books known.here.books).0 q.1 in
+        let s = (told x h known.past.books known.here.books).0 q.1 in
         (server_so c x h end t known q.0, s.0, s.1)),
-    (λ f. e ∙ all (has_server_seen t) may (so_server c x h end t known f.0) ((tells x h known.past.books known.here.books).1 (f.1, f.2))),
+    (λ f. e ∙ all (has_server_seen t) may (so_server c x h end t known f.0) ((told x h known.past.books known.here.books).1 (f.1, f.2))),
   )
+    where
+      told : TellsSend c t.past.now.books t.here.now.books k p id o may
+      told = subst (λ (v : Conf). TellsSend v t.past.now.books t.here.now.books k p id o may) known.conf tells
 
-  pub tells_write : (k p id : ℕ) (o : Octets) (may b : Bool) → TellsWrite t.past.now.books t.here.now k p id o may → b ≡ (has_server_seen t && may) → TellsOut t l d (Write p k id o) b
+  pub tells_write : (k p id : ℕ) (o : Octets) (may b : Bool) → TellsWrite t.conf.now t.past.now.books t.here.now k p id o may → b ≡ (has_server_seen t && may) → TellsOut t l d (Write p k id o) b
   tells_write k p id o may b tells e c x h end known kl kd = (
-    (λ u. (let q = both (has_server_seen t) may (sym e ∙ u) in (server_so c x h end t known q.0, (tells x h known.past.books known.here).0 q.1))),
-    (λ f. e ∙ all (has_server_seen t) may (so_server c x h end t known f.0) ((tells x h known.past.books known.here).1 f.1)),
+    (λ u. (let q = both (has_server_seen t) may (sym e ∙ u) in (server_so c x h end t known q.0, (told x h known.past.books known.here).0 q.1))),
+    (λ f. e ∙ all (has_server_seen t) may (so_server c x h end t known f.0) ((told x h known.past.books known.here).1 f.1)),
   )
+    where
+      told : TellsWrite c t.past.now.books t.here.now k p id o may
+      told = subst (λ (v : Conf). TellsWrite v t.past.now.books t.here.now k p id o may) known.conf tells
 
   opening_is : (c : Conf) (x h end : History) → Known c x h end t → (p s : ℕ) → may_open_seen p s t ≡ opens_seen c p s t.here.now.books
   opening_is c x h end known p s = ap (λ (n : ℕ). nat_lt s n && is_none (entry_at p t.here.now.books.places)) (sym (ap length known.servers ∙ as_long t.servers.now))
@@ -73,8 +79,8 @@ module _ (t : Point) (l : Loads) (d : Held) where
     (λ u.
         let q = both free may (sym e ∙ u) in
         let o = opens.0 q.0 in
-        (o.0, o.1, (tells h known.here.books.places kl kd).0 q.1, o.2)),
-    (λ f. e ∙ all free may (opens.1 (f.0, f.1, f.3)) ((tells h known.here.books.places kl kd).1 f.2)),
+        (o.0, o.1, (tells c h known.here.books.places kl kd).0 q.1, o.2)),
+    (λ f. e ∙ all free may (opens.1 (f.0, f.1, f.3)) ((tells c h known.here.books.places kl kd).1 f.2)),
   )
     where
       opens : (free ≡ true → OpenIsRight c p s h) × (OpenIsRight c p s h → free ≡ true)

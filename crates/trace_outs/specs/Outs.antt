@@ -26,4 +26,4 @@ may_open_seen p s t = nat_lt s (length t.servers.now) && is_none (entry_at p t.h
 
 -- the answer, of all that is known at the point
 abbrev pub TellsOut : Point → Loads → Held → Out → Bool → Type 0
-TellsOut t l d o b = (c : Conf) (x h end : History) → Known c x h end t → loads.Known h l → held.Known h d → Tells (OutOwes c x t.row.now.event.what h end o) b
+TellsOut t l d o b = (c : Conf) (x h end : History) → Known c x h end t → loads.Known c h l → held.Known h d → Tells (OutOwes c x t.row.now.event.what h end o) b

@@ -60,7 +60,6 @@ fn is_stream_right(point: &Point<'_>, loads: &Loads, held: &Held, place: u64, se
 }
 
 fn is_send_right(
-    alloc: Global,
     point: &Point<'_>,
     loads: &Loads,
     held: &Held,
@@ -73,12 +72,11 @@ fn is_send_right(
 {
     let past = &point.past.books;
     let here = &point.here.books;
-    let may = may_send(alloc, past, here, request, place, id, octets)?;
+    let may = may_send(point.conf, past, here, request, place, id, octets)?;
     Ok(with_server(point, may))
 }
 
 fn is_write_right(
-    alloc: Global,
     point: &Point<'_>,
     loads: &Loads,
     held: &Held,
@@ -90,7 +88,7 @@ fn is_write_right(
     ensures { IfOk result (plain.TellsOut point.now loads.now held.now (outs.Write place request id octets.now)) }
 {
     let past = &point.past.books;
-    let may = may_write(alloc, past, point.here, request, place, id, octets)?;
+    let may = may_write(point.conf, past, point.here, request, place, id, octets)?;
     Ok(with_server(point, may))
 }
 
@@ -152,13 +150,13 @@ pub fn is_out_right(
             request,
             id,
             octets,
-        } => is_send_right(alloc, point, loads, held, *place, *request, *id, octets),
+        } => is_send_right(point, loads, held, *place, *request, *id, octets),
         Out::Write {
             place,
             request,
             id,
             octets,
-        } => is_write_right(alloc, point, loads, held, *place, *request, *id, octets),
+        } => is_write_right(point, loads, held, *place, *request, *id, octets),
         Out::Resume { place, octets } => Ok(is_resume_right(point, loads, held, *place, octets)),
         Out::Close { place } => is_close_right(alloc, point, loads, held, *place),
         Out::Stale { request } => Ok(is_mark_right(point, loads, held, *request)),

@@ -8,7 +8,7 @@ use Rattle.client_request.specs.declared.event.What.{What}
 use Rattle.client_request.specs.declared.event.Via.{Via}
 use Rattle.client_request.specs.declared.event.Via.TheVariants.{Dgram, Stream}
 use Rattle.right_trace.specs.Trace.{History, Conf}
-use Rattle.right_trace.specs.Time.{now, stream_timeout}
+use Rattle.right_trace.specs.Time.{now, stream_timeout, read_timeout}
 use Rattle.right_trace.specs.Messages.{Octets, CarriesBy}
 use Rattle.right_trace.specs.Requests.{Asking, asking, start, handed}
 use Rattle.right_trace.specs.Places.{Site, site, is_of_kind, Stand, Unused, Opening, Alive, Gone, stand, is_alive, is_told}
@@ -65,87 +65,87 @@ second_true false b e = e
 
 -- sends
 
-record Carrying (r : Request) (k id n : ℕ) (xs : List Sent) : Type 0 where
+record Carrying (conf : Conf) (r : Request) (k id n : ℕ) (xs : List Sent) : Type 0 where
   octets : Octets
-  there : IsAmong octets (octets_of k id n (reverse xs))
-  carries : CarriesBy Dgram octets r id
+  there : IsAmong octets (octets_of conf k id n (reverse xs))
+  carries : CarriesBy conf Dgram octets r id
 
-for_so : (k id n : ℕ) (x : Sent) → is_for k id n x ≡ true → (x.request ≡ k) × (x.id ≡ id) × (nat_lt n (x.moment + 5000000) ≡ true)
-for_so k id n x e =
-    let a = both ((x.request == k) && (x.id == id)) (nat_lt n (x.moment + 5000000)) e in
+for_so : (c : Conf) (k id n : ℕ) (x : Sent) → is_for c k id n x ≡ true → (x.request ≡ k) × (x.id ≡ id) × (nat_lt n (x.moment + read_timeout c) ≡ true)
+for_so c k id n x e =
+    let a = both ((x.request == k) && (x.id == id)) (nat_lt n (x.moment + read_timeout c)) e in
     let b = both (x.request == k) (x.id == id) a.0 in
     (same_number x.request k b.0, same_number x.id id b.1, a.1)
 
-one_sent : (r : Request) (k id n : ℕ) (x : Sent) (xs : List Sent) → IsIn x xs → (is_for k id n x && carries_by Dgram x.octets r x.id) ≡ true → Carrying r k id n xs
-one_sent r k id n x xs i e =
-    let q = both (is_for k id n x) (carries_by Dgram x.octets r x.id) e in
-    let f = for_so k id n x q.0 in
+one_sent : (conf : Conf) (r : Request) (k id n : ℕ) (x : Sent) (xs : List Sent) → IsIn x xs → (is_for conf k id n x && carries_by conf.transports.dgram_udp_payload_size Dgram x.octets r x.id) ≡ true → Carrying conf r k id n xs
+one_sent conf r k id n x xs i e =
+    let q = both (is_for conf k id n x) (carries_by conf.transports.dgram_udp_payload_size Dgram x.octets r x.id) e in
+    let f = for_so conf k id n x q.0 in
     record {
       octets = x.octets;
-      there = subst (λ id. IsAmong x.octets (octets_of k id n (reverse xs))) f.1 (subst (λ k. IsAmong x.octets (octets_of k x.id n (reverse xs))) f.0 (so_sent n x (reverse xs) (reverse_in x xs i) f.2));
-      carries = subst (CarriesBy Dgram x.octets r) f.1 (carries_so Dgram x.octets r x.id q.1);
+      there = subst (λ id. IsAmong x.octets (octets_of conf k id n (reverse xs))) f.1 (subst (λ k. IsAmong x.octets (octets_of conf k x.id n (reverse xs))) f.0 (so_sent conf n x (reverse xs) (reverse_in x xs i) f.2));
+      carries = subst (CarriesBy conf Dgram x.octets r) f.1 (carries_so conf Dgram x.octets r x.id q.1);
     }
 
-some_sent_in : (r : Request) (k id n : ℕ) (xs : List Sent) → some_sent r k id n xs ≡ true → (x : Sent) × IsIn x xs × ((is_for k id n x && carries_by Dgram x.octets r x.id) ≡ true)
-some_sent_in r k id n [] e = absurd (cc)
-some_sent_in r k id n (x ∷ xs) e = go (either (is_for k id n x && carries_by Dgram x.octets r x.id) (some_sent r k id n xs) e) (some_sent_in r k id n xs)
+some_sent_in : (c : Conf) (r : Request) (k id n : ℕ) (xs : List Sent) → some_sent c r k id n xs ≡ true → (x : Sent) × IsIn x xs × ((is_for c k id n x && carries_by c.transports.dgram_udp_payload_size Dgram x.octets r x.id) ≡ true)
+some_sent_in c r k id n [] e = absurd (cc)
+some_sent_in c r k id n (x ∷ xs) e = go (either (is_for c k id n x && carries_by c.transports.dgram_udp_payload_size Dgram x.octets r x.id) (some_sent c r k id n xs) e) (some_sent_in c r k id n xs)
   where
-    go : ((is_for k id n x && carries_by Dgram x.octets r x.id) ≡ true) ⊎ (some_sent r k id n xs ≡ true) → (some_sent r k id n xs ≡ true → (x : Sent) × IsIn x xs × ((is_for k id n x && carries_by Dgram x.octets r x.id) ≡ true)) → (y : Sent) × IsIn y (x ∷ xs) × ((is_for k id n y && carries_by Dgram y.octets r y.id) ≡ true)
+    go : ((is_for c k id n x && carries_by c.transports.dgram_udp_payload_size Dgram x.octets r x.id) ≡ true) ⊎ (some_sent c r k id n xs ≡ true) → (some_sent c r k id n xs ≡ true → (x : Sent) × IsIn x xs × ((is_for c k id n x && carries_by c.transports.dgram_udp_payload_size Dgram x.octets r x.id) ≡ true)) → (y : Sent) × IsIn y (x ∷ xs) × ((is_for c k id n y && carries_by c.transports.dgram_udp_payload_size Dgram y.octets r y.id) ≡ true)
     go (inl e) rest = (x, inl refl, e)
     go (inr e) rest = (let y = rest e in (y.0, inr y.1, y.2))
 
-in_some_sent : (r : Request) (k id n : ℕ) (y : Sent) (xs : List Sent) → IsIn y xs → (is_for k id n y && carries_by Dgram y.octets r y.id) ≡ true → some_sent r k id n xs ≡ true
-in_some_sent r k id n y [] i e = absurd i
-in_some_sent r k id n y (x ∷ xs) (inl q) e = first_true _ _ (subst (λ (y : Sent). (is_for k id n y && carries_by Dgram y.octets r y.id) ≡ true) (sym q) e)
-in_some_sent r k id n y (x ∷ xs) (inr i) e = second_true _ _ (in_some_sent r k id n y xs i e)
+in_some_sent : (c : Conf) (r : Request) (k id n : ℕ) (y : Sent) (xs : List Sent) → IsIn y xs → (is_for c k id n y && carries_by c.transports.dgram_udp_payload_size Dgram y.octets r y.id) ≡ true → some_sent c r k id n xs ≡ true
+in_some_sent c r k id n y [] i e = absurd i
+in_some_sent c r k id n y (x ∷ xs) (inl q) e = first_true _ _ (subst (λ (y : Sent). (is_for c k id n y && carries_by c.transports.dgram_udp_payload_size Dgram y.octets r y.id) ≡ true) (sym q) e)
+in_some_sent c r k id n y (x ∷ xs) (inr i) e = second_true _ _ (in_some_sent c r k id n y xs i e)
 
-sends_so : (r : Request) (k id n : ℕ) (xs : List Sent) → some_sent r k id n xs ≡ true → Carrying r k id n xs
-sends_so r k id n xs e = (let y = some_sent_in r k id n xs e in one_sent r k id n y.0 xs y.1 y.2)
+sends_so : (conf : Conf) (r : Request) (k id n : ℕ) (xs : List Sent) → some_sent conf r k id n xs ≡ true → Carrying conf r k id n xs
+sends_so conf r k id n xs e = (let y = some_sent_in conf r k id n xs e in one_sent conf r k id n y.0 xs y.1 y.2)
 
-so_sends : (r : Request) (k id n : ℕ) (o : Octets) (xs : List Sent) → IsAmong o (octets_of k id n (reverse xs)) → CarriesBy Dgram o r id → some_sent r k id n xs ≡ true
-so_sends r k id n o xs i c =
-    let y = sent_so k id n o (reverse xs) i in
+so_sends : (conf : Conf) (r : Request) (k id n : ℕ) (o : Octets) (xs : List Sent) → IsAmong o (octets_of conf k id n (reverse xs)) → CarriesBy conf Dgram o r id → some_sent conf r k id n xs ≡ true
+so_sends conf r k id n o xs i c =
+    let y = sent_so conf k id n o (reverse xs) i in
     let x = y.send in
-    let d : CarriesBy Dgram x.octets r x.id = subst (λ o. CarriesBy Dgram o r x.id) (sym y.is_octets) (subst (CarriesBy Dgram o r) (sym y.is_id) c) in
-    in_some_sent r k id n x xs (in_reverse x xs y.there)
-    (all (is_for k id n x) _ (all ((x.request == k) && (x.id == id)) _ (all (x.request == k) (x.id == id) (ap (λ n. n == k) y.is_request ∙ own k) (ap (λ n. n == id) y.is_id ∙ own id)) y.young) (so_carries Dgram x.octets r x.id d))
+    let d : CarriesBy conf Dgram x.octets r x.id = subst (λ o. CarriesBy conf Dgram o r x.id) (sym y.is_octets) (subst (CarriesBy conf Dgram o r) (sym y.is_id) c) in
+    in_some_sent conf r k id n x xs (in_reverse x xs y.there)
+    (all (is_for conf k id n x) _ (all ((x.request == k) && (x.id == id)) _ (all (x.request == k) (x.id == id) (ap (λ n. n == k) y.is_request ∙ own k) (ap (λ n. n == id) y.is_id ∙ own id)) y.young) (so_carries conf Dgram x.octets r x.id d))
 
 -- writes
 
-record CarryingFrame (r : Request) (k id : ℕ) (ws : List Written) : Type 0 where
+record CarryingFrame (conf : Conf) (r : Request) (k id : ℕ) (ws : List Written) : Type 0 where
   octets : Octets
   there : IsAmong octets (octets_for k ws)
-  carries : CarriesBy Stream octets r id
+  carries : CarriesBy conf Stream octets r id
 
-some_written_in : (r : Request) (k id : ℕ) (ws : List Written) → some_written r k id ws ≡ true → (w : Written) × IsIn w ws × (((w.request == k) && carries_by Stream w.octets r id) ≡ true)
-some_written_in r k id [] e = absurd (cc)
-some_written_in r k id (w ∷ ws) e = go (either ((w.request == k) && carries_by Stream w.octets r id) (some_written r k id ws) e) (some_written_in r k id ws)
+some_written_in : (c : Conf) (r : Request) (k id : ℕ) (ws : List Written) → some_written c r k id ws ≡ true → (w : Written) × IsIn w ws × (((w.request == k) && carries_by c.transports.dgram_udp_payload_size Stream w.octets r id) ≡ true)
+some_written_in c r k id [] e = absurd (cc)
+some_written_in c r k id (w ∷ ws) e = go (either ((w.request == k) && carries_by c.transports.dgram_udp_payload_size Stream w.octets r id) (some_written c r k id ws) e) (some_written_in c r k id ws)
   where
-    go : (((w.request == k) && carries_by Stream w.octets r id) ≡ true) ⊎ (some_written r k id ws ≡ true) → (some_written r k id ws ≡ true → (w : Written) × IsIn w ws × (((w.request == k) && carries_by Stream w.octets r id) ≡ true)) → (y : Written) × IsIn y (w ∷ ws) × (((y.request == k) && carries_by Stream y.octets r id) ≡ true)
+    go : (((w.request == k) && carries_by c.transports.dgram_udp_payload_size Stream w.octets r id) ≡ true) ⊎ (some_written c r k id ws ≡ true) → (some_written c r k id ws ≡ true → (w : Written) × IsIn w ws × (((w.request == k) && carries_by c.transports.dgram_udp_payload_size Stream w.octets r id) ≡ true)) → (y : Written) × IsIn y (w ∷ ws) × (((y.request == k) && carries_by c.transports.dgram_udp_payload_size Stream y.octets r id) ≡ true)
     go (inl e) rest = (w, inl refl, e)
     go (inr e) rest = (let y = rest e in (y.0, inr y.1, y.2))
 
-in_some_written : (r : Request) (k id : ℕ) (y : Written) (ws : List Written) → IsIn y ws → ((y.request == k) && carries_by Stream y.octets r id) ≡ true → some_written r k id ws ≡ true
-in_some_written r k id y [] i e = absurd i
-in_some_written r k id y (w ∷ ws) (inl q) e = first_true _ _ (subst (λ (y : Written). ((y.request == k) && carries_by Stream y.octets r id) ≡ true) (sym q) e)
-in_some_written r k id y (w ∷ ws) (inr i) e = second_true _ _ (in_some_written r k id y ws i e)
+in_some_written : (c : Conf) (r : Request) (k id : ℕ) (y : Written) (ws : List Written) → IsIn y ws → ((y.request == k) && carries_by c.transports.dgram_udp_payload_size Stream y.octets r id) ≡ true → some_written c r k id ws ≡ true
+in_some_written c r k id y [] i e = absurd i
+in_some_written c r k id y (w ∷ ws) (inl q) e = first_true _ _ (subst (λ (y : Written). ((y.request == k) && carries_by c.transports.dgram_udp_payload_size Stream y.octets r id) ≡ true) (sym q) e)
+in_some_written c r k id y (w ∷ ws) (inr i) e = second_true _ _ (in_some_written c r k id y ws i e)
 
-frames_so : (r : Request) (k id : ℕ) (ws : List Written) → some_written r k id ws ≡ true → CarryingFrame r k id ws
-frames_so r k id ws e =
-    let y = some_written_in r k id ws e in
-    let q = both (y.0.request == k) (carries_by Stream y.0.octets r id) y.2 in
-    record { octets = y.0.octets; there = subst (λ k. IsAmong y.0.octets (octets_for k ws)) (same_number y.0.request k q.0) (so_written y.0 ws y.1); carries = carries_so Stream y.0.octets r id q.1 }
+frames_so : (conf : Conf) (r : Request) (k id : ℕ) (ws : List Written) → some_written conf r k id ws ≡ true → CarryingFrame conf r k id ws
+frames_so conf r k id ws e =
+    let y = some_written_in conf r k id ws e in
+    let q = both (y.0.request == k) (carries_by conf.transports.dgram_udp_payload_size Stream y.0.octets r id) y.2 in
+    record { octets = y.0.octets; there = subst (λ k. IsAmong y.0.octets (octets_for k ws)) (same_number y.0.request k q.0) (so_written y.0 ws y.1); carries = carries_so conf Stream y.0.octets r id q.1 }
 
-so_frames : (r : Request) (k id : ℕ) (o : Octets) (ws : List Written) → IsAmong o (octets_for k ws) → CarriesBy Stream o r id → some_written r k id ws ≡ true
-so_frames r k id o ws i c =
+so_frames : (conf : Conf) (r : Request) (k id : ℕ) (o : Octets) (ws : List Written) → IsAmong o (octets_for k ws) → CarriesBy conf Stream o r id → some_written conf r k id ws ≡ true
+so_frames conf r k id o ws i c =
     let y = written_so k o ws i in
     let w = y.write in
-    in_some_written r k id w ws y.there (all (w.request == k) _ (ap (λ n. n == k) y.is_request ∙ own k) (so_carries Stream w.octets r id (subst (λ o. CarriesBy Stream o r id) (sym y.is_octets) c)))
+    in_some_written conf r k id w ws y.there (all (w.request == k) _ (ap (λ n. n == k) y.is_request ∙ own k) (so_carries conf Stream w.octets r id (subst (λ o. CarriesBy conf Stream o r id) (sym y.is_octets) c)))
 
-young_is : (n : ℕ) (o : Option ℕ) → is_young n o ≡ is_before n o
+young_is : (conf : Conf) (n : ℕ) (o : Option ℕ) → is_young conf n o ≡ is_before conf n o
 unfolding stream_timeout
-young_is n None = refl
-young_is n (Some t) = refl
+young_is conf n None = refl
+young_is conf n (Some t) = refl
 
 alive_is : (x : Stand) → is_alive x ≡ true → x ≡ Alive
 alive_is Alive e = refl
@@ -155,34 +155,34 @@ alive_is Gone e = absurd (cc)
 
 -- exchanges
 
-module _ (c : Conf) (k : ℕ) (w : What) (bp : Books) (l : Ledger) (op : Open) (t : Exchanged) (x h : History) (kp : books.Known x bp) (kl : ledger.Known h l) (ko : open_sends.Known h op) (kt : exchanged.Known h t) where
+module _ (c : Conf) (k : ℕ) (w : What) (bp : Books) (l : Ledger) (op : Open) (t : Exchanged) (x h : History) (kp : books.Known x bp) (kl : ledger.Known h l) (ko : open_sends.Known c h op) (kt : exchanged.Known c h t) where
   -- what is waited for, as a walk sees it and as the definitions say it
   record Waited (v : Via) (s : ℕ) (r : Request) (p id : ℕ) : Type 0 where
     octets : Octets
-    sent : IsAmong octets (waited_for v r s p k id (now h) (came_here p h) h h)
-    carries : CarriesBy v octets r id
+    sent : IsAmong octets (waited_for c v r s p k id (now h) (came_here p h) h h)
+    carries : CarriesBy c v octets r id
 
   brought_is : (p id : ℕ) → brings_seen id (frames_of p l.frames.brought) ≡ brings id (came_here p h)
   brought_is p id = ap (brings_seen id) (kl.frames.here p) ∙ brings_is id (came_here p h)
 
-  begun_is : (s : ℕ) → is_young l.books.requests.clock (start_seen k s Stream l.books.requests) ≡ is_before (now h) (start k s Stream h)
-  begun_is s = young_is l.books.requests.clock (start_seen k s Stream l.books.requests) ∙ ap₂ is_before kl.books.requests.time (kl.books.requests.starts k s Stream)
+  begun_is : (s : ℕ) → is_young c l.books.requests.clock (start_seen k s Stream l.books.requests) ≡ is_before c (now h) (start k s Stream h)
+  begun_is s = young_is c l.books.requests.clock (start_seen k s Stream l.books.requests) ∙ ap₂ (is_before c) kl.books.requests.time (kl.books.requests.starts k s Stream)
 
   no_stream : (p s : ℕ) → site p h ≡ Some (record { via = Dgram; server = s }) → is_of_kind Stream (site p h) ≡ false
   no_stream p s e = ap (is_of_kind Stream) e
 
-  waits_so : (v : Via) (s : ℕ) (r : Request) (m p id : ℕ) → asking k h ≡ Some (record { request = r; moment = m }) → site p h ≡ Some (record { via = v; server = s }) → waits_by v s r k p id l op ≡ true → Waited v s r p id
+  waits_so : (v : Via) (s : ℕ) (r : Request) (m p id : ℕ) → asking k h ≡ Some (record { request = r; moment = m }) → site p h ≡ Some (record { via = v; server = s }) → waits_by c v s r k p id l op ≡ true → Waited v s r p id
   waits_so Dgram s r m p id asked at e =
-      let d = sends_so r k id l.books.requests.clock (listed p op) e in
+      let d = sends_so c r k id l.books.requests.clock (listed p op) e in
       record {
         octets = d.octets;
-        sent = subst (IsAmong d.octets) (ap (λ n. octets_of k id n (reverse (listed p op))) kl.books.requests.time ∙ ko.waits k p id (now h) (record { request = r; moment = m }) (no_stream p s at) asked) d.there;
+        sent = subst (IsAmong d.octets) (ap (λ n. octets_of c k id n (reverse (listed p op))) kl.books.requests.time ∙ ko.waits k p id (now h) (record { request = r; moment = m }) (no_stream p s at) asked) d.there;
         carries = d.carries;
       }
   waits_so Stream s r m p id asked at e =
-      let q = both (is_young l.books.requests.clock (start_seen k s Stream l.books.requests)) _ e in
-      let u = both (not (brings_seen id (frames_of p l.frames.brought))) (some_written r k id (waiting_seen p id l.waiting)) q.1 in
-      let d = frames_so r k id (waiting_seen p id l.waiting) u.1 in
+      let q = both (is_young c l.books.requests.clock (start_seen k s Stream l.books.requests)) _ e in
+      let u = both (not (brings_seen id (frames_of p l.frames.brought))) (some_written c r k id (waiting_seen p id l.waiting)) q.1 in
+      let d = frames_so c r k id (waiting_seen p id l.waiting) u.1 in
       let unbrought : brings id (came_here p h) ≡ false = sym (brought_is p id) ∙ not_true (brings_seen id (frames_of p l.frames.brought)) u.0 in
       let there : IsAmong d.octets (octets_for k (waiting_with (came_here p h) p id h)) =
       subst (λ ws. IsAmong d.octets (octets_for k ws)) (kl.waiting.waits p id ∙ sym (freeing (came_here p h) p id h ∙ ap (λ b. if b then [] else waiting_with [] p id h) unbrought)) d.there in
@@ -200,22 +200,22 @@ module _ (c : Conf) (k : ℕ) (w : What) (bp : Books) (l : Ledger) (op : Open) (
   written_if true o ws i = absurd i
   written_if false o ws i = (refl, i)
 
-  so_waits : (v : Via) (s : ℕ) (r : Request) (m p id : ℕ) → asking k h ≡ Some (record { request = r; moment = m }) → site p h ≡ Some (record { via = v; server = s }) → Waited v s r p id → waits_by v s r k p id l op ≡ true
+  so_waits : (v : Via) (s : ℕ) (r : Request) (m p id : ℕ) → asking k h ≡ Some (record { request = r; moment = m }) → site p h ≡ Some (record { via = v; server = s }) → Waited v s r p id → waits_by c v s r k p id l op ≡ true
   so_waits Dgram s r m p id asked at d =
-      so_sends r k id l.books.requests.clock d.octets (listed p op)
-      (subst (IsAmong d.octets) (sym (ap (λ n. octets_of k id n (reverse (listed p op))) kl.books.requests.time ∙ ko.waits k p id (now h) (record { request = r; moment = m }) (no_stream p s at) asked)) d.sent) d.carries
+      so_sends c r k id l.books.requests.clock d.octets (listed p op)
+      (subst (IsAmong d.octets) (sym (ap (λ n. octets_of c k id n (reverse (listed p op))) kl.books.requests.time ∙ ko.waits k p id (now h) (record { request = r; moment = m }) (no_stream p s at) asked)) d.sent) d.carries
   so_waits Stream s r m p id asked at d =
-      let a = among_if (is_before (now h) (start k s Stream h)) d.octets (octets_for k (waiting_with (came_here p h) p id h)) d.sent in
+      let a = among_if (is_before c (now h) (start k s Stream h)) d.octets (octets_for k (waiting_with (came_here p h) p id h)) d.sent in
       let b = written_if (brings id (came_here p h)) d.octets (waiting_with [] p id h) (subst (λ ws. IsAmong d.octets (octets_for k ws)) (freeing (came_here p h) p id h) a.1) in
-      all (is_young l.books.requests.clock (start_seen k s Stream l.books.requests)) _ (begun_is s ∙ a.0)
-      (all (not (brings_seen id (frames_of p l.frames.brought))) (some_written r k id (waiting_seen p id l.waiting)) (ap not (brought_is p id ∙ b.0))
-      (so_frames r k id d.octets (waiting_seen p id l.waiting) (subst (λ ws. IsAmong d.octets (octets_for k ws)) (sym (kl.waiting.waits p id)) b.1) d.carries))
+      all (is_young c l.books.requests.clock (start_seen k s Stream l.books.requests)) _ (begun_is s ∙ a.0)
+      (all (not (brings_seen id (frames_of p l.frames.brought))) (some_written c r k id (waiting_seen p id l.waiting)) (ap not (brought_is p id ∙ b.0))
+      (so_frames c r k id d.octets (waiting_seen p id l.waiting) (subst (λ ws. IsAmong d.octets (octets_for k ws)) (sym (kl.waiting.waits p id)) b.1) d.carries))
 
   -- an exchange
 
   exchange_kept : (v : Via) (s : ℕ) (r : Request) (p id : ℕ) → Waited v s r p id → IsIn (record { place = p; id = id }) (listed k t)
   exchange_kept Dgram s r p id d = kt.sends r k p id (now h) d.octets d.sent
-  exchange_kept Stream s r p id d = kt.writes (came_here p h) k p id d.octets (among_if (is_before (now h) (start k s Stream h)) d.octets (octets_for k (waiting_with (came_here p h) p id h)) d.sent).1
+  exchange_kept Stream s r p id d = kt.writes (came_here p h) k p id d.octets (among_if (is_before c (now h) (start k s Stream h)) d.octets (octets_for k (waiting_with (came_here p h) p id h)) d.sent).1
 
   alive_so : (p : ℕ) → is_still_alive p w (entry_at p bp.places) (entry_at p l.books.places) ≡ true → (stand p h ≡ Alive) ⊎ ((stand p x ≡ Alive) × (is_told p w ≡ false))
   alive_so p e = go (either (alive_seen (entry_at p l.books.places)) (alive_seen (entry_at p bp.places) && not (is_told p w)) e)
@@ -239,7 +239,7 @@ module _ (c : Conf) (k : ℕ) (w : What) (bp : Books) (l : Ledger) (op : Open) (
   there_so : (r : Request) (m : ℕ) (e : Exchange) → asking k h ≡ Some (record { request = r; moment = m }) → (stand e.place h ≡ Alive) ⊎ ((stand e.place x ≡ Alive) × (is_told e.place w ≡ false)) → (o : Option Place) → entry_at e.place l.books.places ≡ o → owes_there c r k e.place e.id l op o ≡ true → Owes r e
   there_so r m e asked alive None i u = absurd (cc)
   there_so r m e asked alive (Some y) i u =
-      let q = both (nat_lt y.server (length c.servers)) (waits_by y.via y.server r k e.place e.id l op) u in
+      let q = both (nat_lt y.server (length c.servers)) (waits_by c y.via y.server r k e.place e.id l op) u in
       let at : site e.place h ≡ Some (record { via = y.via; server = y.server }) = sym (kl.books.places.sites e.place) ∙ ap site_seen i in
       record { via = y.via; server = y.server; known = below y.server (length c.servers) q.0; at = at; alive = alive; waited = waits_so y.via y.server r m e.place e.id asked at q.1 }
 
@@ -252,8 +252,8 @@ module _ (c : Conf) (k : ℕ) (w : What) (bp : Books) (l : Ledger) (op : Open) (
   so_there r m e asked d None i = absurd (cc)
   so_there r m e asked d (Some y) i =
       let z : Path Site (record { via = y.via; server = y.server }) (record { via = d.via; server = d.server }) = cc in
-      subst (λ (z : Site). (nat_lt z.server (length c.servers) && waits_by z.via z.server r k e.place e.id l op) ≡ true) (sym z)
-      (all (nat_lt d.server (length c.servers)) (waits_by d.via d.server r k e.place e.id l op) (so_below d.server (length c.servers) d.known) (so_waits d.via d.server r m e.place e.id asked d.at d.waited))
+      subst (λ (z : Site). (nat_lt z.server (length c.servers) && waits_by c z.via z.server r k e.place e.id l op) ≡ true) (sym z)
+      (all (nat_lt d.server (length c.servers)) (waits_by c d.via d.server r k e.place e.id l op) (so_below d.server (length c.servers) d.known) (so_waits d.via d.server r m e.place e.id asked d.at d.waited))
 
   so_owes : (r : Request) (m : ℕ) (e : Exchange) → asking k h ≡ Some (record { request = r; moment = m }) → Owes r e → owes_on c r k w bp l op e ≡ true
   so_owes r m e asked d = all (is_still_alive e.place w (entry_at e.place bp.places) (entry_at e.place l.books.places)) _ (so_alive e.place d.alive)

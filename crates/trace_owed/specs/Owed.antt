@@ -32,22 +32,22 @@ use Rattle.trace_owed.specs.declared.exchanged.Exchange.{Exchange}
 use Rattle.trace_owed.specs.Exchanged.{Exchanged}
 use Rattle.trace_owed.specs.Exchanged as exchanged
 
--- something that was sent for request k, which is r, under this id less than 5 s ago carries it
-abbrev pub some_sent : Request → (k id now : ℕ) → List Sent → Bool
-some_sent r k id n [] = false
-some_sent r k id n (x ∷ xs) = (is_for k id n x && carries_by Dgram x.octets r x.id) || some_sent r k id n xs
+-- something that was sent for request k, which is r, under this id less than a read timeout ago carries it
+abbrev pub some_sent : (c : Conf) → Request → (k id now : ℕ) → List Sent → Bool
+some_sent c r k id n [] = false
+some_sent c r k id n (x ∷ xs) = (is_for c k id n x && carries_by c.transports.dgram_udp_payload_size Dgram x.octets r x.id) || some_sent c r k id n xs
 
 -- something that was written for it carries it
-abbrev pub some_written : Request → (k id : ℕ) → List Written → Bool
-some_written r k id [] = false
-some_written r k id (w ∷ ws) = ((w.request == k) && carries_by Stream w.octets r id) || some_written r k id ws
+abbrev pub some_written : (c : Conf) → Request → (k id : ℕ) → List Written → Bool
+some_written c r k id [] = false
+some_written c r k id (w ∷ ws) = ((w.request == k) && carries_by c.transports.dgram_udp_payload_size Stream w.octets r id) || some_written c r k id ws
 
 -- it is waited for at a place of this kind and server
-abbrev pub waits_by : Via → (s : ℕ) → Request → (k p id : ℕ) → (here : Ledger) → Open → Bool
-waits_by Dgram s r k p id l sent = some_sent r k id l.books.requests.clock (listed p sent)
-waits_by Stream s r k p id l sent =
-    is_young l.books.requests.clock (start_seen k s Stream l.books.requests)
-    && (not (brings_seen id (frames_of p l.frames.brought)) && some_written r k id (waiting_seen p id l.waiting))
+abbrev pub waits_by : (c : Conf) → Via → (s : ℕ) → Request → (k p id : ℕ) → (here : Ledger) → Open → Bool
+waits_by c Dgram s r k p id l sent = some_sent c r k id l.books.requests.clock (listed p sent)
+waits_by c Stream s r k p id l sent =
+    is_young c l.books.requests.clock (start_seen k s Stream l.books.requests)
+    && (not (brings_seen id (frames_of p l.frames.brought)) && some_written c r k id (waiting_seen p id l.waiting))
 
 -- a place is alive, or was when the row began and the event does not tell that it is broken
 abbrev pub alive_seen : Option Place → Bool
@@ -58,7 +58,7 @@ is_still_alive p w past here = alive_seen here || (alive_seen past && not (is_to
 
 abbrev pub owes_there : Conf → Request → (k p id : ℕ) → (here : Ledger) → Open → Option Place → Bool
 owes_there c r k p id l sent None = false
-owes_there c r k p id l sent (Some x) = nat_lt x.server (length c.servers) && waits_by x.via x.server r k p id l sent
+owes_there c r k p id l sent (Some x) = nat_lt x.server (length c.servers) && waits_by c x.via x.server r k p id l sent
 
 -- a server of the configuration owes an answer on an exchange
 abbrev pub owes_on : Conf → Request → (k : ℕ) → What → (past : Books) → (here : Ledger) → Open → Exchange → Bool
@@ -88,4 +88,4 @@ IsDone c k w past l sent t b = Tells (AllHave c k l.books.requests × (is_owed c
 
 -- the answer, of every two histories that the tables know
 abbrev pub TellsDone : Conf → (k : ℕ) → What → (past : Books) → (here : Ledger) → Open → Exchanged → Bool → Type 0
-TellsDone c k w past l sent t b = (x h : History) → books.Known x past → ledger.Known h l → open_sends.Known h sent → exchanged.Known h t → Tells (AllAreDone c k x w h) b
+TellsDone c k w past l sent t b = (x h : History) → books.Known x past → ledger.Known h l → open_sends.Known c h sent → exchanged.Known c h t → Tells (AllAreDone c k x w h) b

@@ -18,35 +18,41 @@ use crate::exchanged::{Exchange, Exchanged};
 use client_request::{RequestMessage, Via, What};
 use dns_base::{NoMemory, Octets};
 use message_matching::carries;
-use std::alloc::Global;
 use trace_exchanges::Open;
 use trace_frames::{Brought, Ledger, Waiting, Written};
 use trace_questions::TraceConf;
 use trace_tables::{Books, Newest, Place, Requests, Sent, Stand};
 
-/// Whether a send is one of a request under an id, less than five seconds ago.
-fn is_for(sent: &Sent, request: u64, id: u16, now: u64) -> bool
-    ensures { result ≡ is_for request id now sent.now }
+/// Whether a send is one of a request under an id, and waited for still.
+fn is_for(conf: &TraceConf, sent: &Sent, request: u64, id: u16, now: u64) -> bool
+    ensures { result ≡ is_for conf.now request id now sent.now }
 {
     sent.request == request
         && sent.id == id
-        && u128::from(now) < u128::from(sent.moment) + 5_000_000
+        && u128::from(now) < u128::from(sent.moment) + conf.read_timeout().as_micros()
 }
 
 /// Whether some of these is so and carries the request.
 fn some_sent(
-    alloc: Global,
+    conf: &TraceConf,
     sends: &[Sent],
     asked: &RequestMessage,
     request: u64,
     id: u16,
     now: u64,
 ) -> Result<bool, NoMemory>
-    ensures { IfOk result (λ b. b ≡ plain.some_sent asked.now request id now sends.now) }
+    ensures { IfOk result (λ b. b ≡ plain.some_sent conf.now asked.now request id now sends.now) }
 {
     for sent in sends {
-        if is_for(sent, request, id, now)
-            && carries(alloc, Via::Dgram, &sent.octets, asked, sent.id)?
+        if is_for(conf, sent, request, id, now)
+            && carries(
+                conf.alloc(),
+                conf.udp_payload_size(),
+                Via::Dgram,
+                &sent.octets,
+                asked,
+                sent.id,
+            )?
         {
             return Ok(true);
         }
@@ -56,16 +62,25 @@ fn some_sent(
 
 /// Whether something that was written for a request carries it.
 fn some_written(
-    alloc: Global,
+    conf: &TraceConf,
     writes: &Newest<Written>,
     asked: &RequestMessage,
     request: u64,
     id: u16,
 ) -> Result<bool, NoMemory>
-    ensures { IfOk result (λ b. b ≡ plain.some_written asked.now request id writes.now) }
+    ensures { IfOk result (λ b. b ≡ plain.some_written conf.now asked.now request id writes.now) }
 {
     for written in writes {
-        if written.request == request && carries(alloc, Via::Stream, &written.octets, asked, id)? {
+        if written.request == request
+            && carries(
+                conf.alloc(),
+                conf.udp_payload_size(),
+                Via::Stream,
+                &written.octets,
+                asked,
+                id,
+            )?
+        {
             return Ok(true);
         }
     }
@@ -74,21 +89,21 @@ fn some_written(
 
 /// The same of what waits at a place under an id.
 fn some_waiting(
-    alloc: Global,
+    conf: &TraceConf,
     waiting: &Waiting,
     asked: &RequestMessage,
     request: u64,
     place: u64,
     id: u16,
 ) -> Result<bool, NoMemory>
-    ensures { IfOk result (λ b. b ≡ plain.some_written asked.now request id (waiting_seen place id waiting.now)) }
+    ensures { IfOk result (λ b. b ≡ plain.some_written conf.now asked.now request id (waiting_seen place id waiting.now)) }
 {
     let Some(at) = waiting.get(place) else {
         return Ok(false);
     };
     match at.get(u64::from(id)) {
         None => Ok(false),
-        Some(writes) => some_written(alloc, writes, asked, request, id),
+        Some(writes) => some_written(conf, writes, asked, request, id),
     }
 }
 
@@ -126,13 +141,13 @@ fn is_brought(brought: &Option<Brought>, place: u64, id: u16) -> bool
     }
 }
 
-/// Whether 30 seconds are not over since a start.
-fn is_young(now: u64, begun: Option<u64>) -> bool
-    ensures { result ≡ is_young now begun }
+/// Whether the time of a request by stream is not over since a start.
+fn is_young(conf: &TraceConf, now: u64, begun: Option<u64>) -> bool
+    ensures { result ≡ is_young conf.now now begun }
 {
     match begun {
         None => false,
-        Some(begun) => u128::from(now) < u128::from(begun) + 30_000_000,
+        Some(begun) => u128::from(now) < u128::from(begun) + conf.stream_timeout().as_micros(),
     }
 }
 
@@ -186,14 +201,14 @@ impl Drop for Asking<'_> {
 
 impl<'a> Asking<'a> {
     /// Whether a datagram is waited for.
-    fn waits_for_datagram(&self, alloc: Global, exchange: Exchange) -> Result<bool, NoMemory>
-        ensures { IfOk result (λ b. b ≡ plain.some_sent self.now.asked.now self.now.request exchange.id self.now.here.now.books.requests.clock (listed exchange.place self.now.sends.now)) }
+    fn waits_for_datagram(&self, conf: &TraceConf, exchange: Exchange) -> Result<bool, NoMemory>
+        ensures { IfOk result (λ b. b ≡ plain.some_sent conf.now self.now.asked.now self.now.request exchange.id self.now.here.now.books.requests.clock (listed exchange.place self.now.sends.now)) }
     {
         let now = self.here.books.requests.clock;
         match self.sends.get(exchange.place) {
             None => Ok(false),
             Some(sends) => some_sent(
-                alloc,
+                conf,
                 sends.as_slice(),
                 self.asked,
                 self.request,
@@ -206,22 +221,22 @@ impl<'a> Asking<'a> {
     /// Whether a frame is waited for.
     fn waits_for_frame(
         &self,
-        alloc: Global,
+        conf: &TraceConf,
         server: u32,
         exchange: Exchange,
     ) -> Result<bool, NoMemory>
-        ensures { IfOk result (λ b. b ≡ plain.waits_by Stream server self.now.asked.now self.now.request exchange.place exchange.id self.now.here.now self.now.sends.now) }
+        ensures { IfOk result (λ b. b ≡ plain.waits_by conf.now Stream server self.now.asked.now self.now.request exchange.place exchange.id self.now.here.now self.now.sends.now) }
     {
         let requests = &self.here.books.requests;
         let begun = requests.start(self.request, server, Via::Stream);
-        if !is_young(requests.clock, begun) {
+        if !is_young(conf, requests.clock, begun) {
             return Ok(false);
         }
         if is_brought(&self.here.frames.brought, exchange.place, exchange.id) {
             return Ok(false);
         }
         some_waiting(
-            alloc,
+            conf,
             &self.here.waiting,
             self.asked,
             self.request,
@@ -239,7 +254,7 @@ impl<'a> Asking<'a> {
     }
 
     /// Whether a server of the configuration owes an answer at a place.
-    fn owes_there(&self, alloc: Global, conf: &TraceConf, sent: Exchange) -> Result<bool, NoMemory>
+    fn owes_there(&self, conf: &TraceConf, sent: Exchange) -> Result<bool, NoMemory>
         ensures { IfOk result (λ b. b ≡ plain.owes_there conf.now self.now.asked.now self.now.request sent.place sent.id self.now.here.now self.now.sends.now (entry_at sent.place self.now.here.now.books.places)) }
     {
         let Some(place) = self.here.books.places.get(sent.place) else {
@@ -249,30 +264,25 @@ impl<'a> Asking<'a> {
             return Ok(false);
         }
         match place.via {
-            Via::Dgram => self.waits_for_datagram(alloc, sent),
-            Via::Stream => self.waits_for_frame(alloc, place.server, sent),
+            Via::Dgram => self.waits_for_datagram(conf, sent),
+            Via::Stream => self.waits_for_frame(conf, place.server, sent),
         }
     }
 
-    fn owes_on(&self, alloc: Global, conf: &TraceConf, exchange: Exchange) -> Result<bool, NoMemory>
+    fn owes_on(&self, conf: &TraceConf, exchange: Exchange) -> Result<bool, NoMemory>
         ensures { IfOk result (λ b. b ≡ plain.owes_on conf.now self.now.asked.now self.now.request self.now.what.now self.now.past.now self.now.here.now self.now.sends.now exchange) }
     {
         if !self.is_still_alive(exchange.place) {
             return Ok(false);
         }
-        self.owes_there(alloc, conf, exchange)
+        self.owes_there(conf, exchange)
     }
 
-    fn some_owe(
-        &self,
-        alloc: Global,
-        conf: &TraceConf,
-        exchanges: &Newest<Exchange>,
-    ) -> Result<bool, NoMemory>
+    fn some_owe(&self, conf: &TraceConf, exchanges: &Newest<Exchange>) -> Result<bool, NoMemory>
         ensures { IfOk result (λ b. b ≡ plain.some_owe conf.now self.now.asked.now self.now.request self.now.what.now self.now.past.now self.now.here.now self.now.sends.now exchanges.now) }
     {
         for exchange in exchanges {
-            if self.owes_on(alloc, conf, *exchange)? {
+            if self.owes_on(conf, *exchange)? {
                 return Ok(true);
             }
         }
@@ -282,7 +292,6 @@ impl<'a> Asking<'a> {
 
 /// Whether some server of the configuration owes a request an answer.
 fn is_owed(
-    alloc: Global,
     conf: &TraceConf,
     past: &Books,
     here: &Ledger,
@@ -307,7 +316,7 @@ fn is_owed(
         here,
         sends,
     };
-    asking.some_owe(alloc, conf, exchanges)
+    asking.some_owe(conf, exchanges)
 }
 
 /// Whether a server has a request.
@@ -337,7 +346,6 @@ fn all_have(conf: &TraceConf, requests: &Requests, request: u64) -> Result<bool,
 /// `here` what is known here, `sends` what was sent by datagrams and is not answered here, `exchanged` where requests were sent
 /// or written by here, and `what` the row's event.
 pub fn are_all_done(
-    alloc: Global,
     conf: &TraceConf,
     past: &Books,
     here: &Ledger,
@@ -348,11 +356,10 @@ pub fn are_all_done(
 ) -> Result<bool, NoMemory>
     ensures { IfOk result (plain.TellsDone conf.now request what.now past.now here.now sends.now exchanged.now) }
 {
-    find_done(alloc, conf, past, here, sends, exchanged, what, request)
+    find_done(conf, past, here, sends, exchanged, what, request)
 }
 
 fn find_done(
-    alloc: Global,
     conf: &TraceConf,
     past: &Books,
     here: &Ledger,
@@ -366,5 +373,5 @@ fn find_done(
     if !all_have(conf, &here.books.requests, request)? {
         return Ok(false);
     }
-    Ok(!is_owed(alloc, conf, past, here, sends, exchanged, what, request)?)
+    Ok(!is_owed(conf, past, here, sends, exchanged, what, request)?)
 }

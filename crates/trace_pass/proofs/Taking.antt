@@ -4,7 +4,7 @@ use Rattle.client_request.specs.declared.event.Event.{Event}
 use Rattle.client_request.specs.declared.event.Out.{Out}
 use Rattle.client_request.specs.declared.event.Row.{Row}
 use Rattle.client_request.specs.declared.event.What.{What}
-use Rattle.right_trace.specs.Trace.{History, Came, Put, put_all, after}
+use Rattle.right_trace.specs.Trace.{History, Came, Put, put_all, after, Conf}
 use Rattle.right_trace.specs.Time.{newest}
 use Rattle.trace_frames.specs.Ledger as ledger
 use Rattle.trace_frames.proofs.Keeping as keeping
@@ -14,28 +14,28 @@ use Rattle.trace_due.proofs.Keeping as timing
 use Rattle.trace_pass.specs.declared.pass.Pass.{Pass}
 use Rattle.trace_pass.specs.Pass.{met, has_put, have_put, after_row, Known, GoesOn}
 
-event : (h : History) (e : Event) (p : Pass) → AskedFirst h → Known h p → Known (Came e ∷ h) (met e p)
-event h e p first k =
+event : (c : Conf) (h : History) (e : Event) (p : Pass) → AskedFirst h → Known c h p → Known c (Came e ∷ h) (met c e p)
+event c h e p first k =
     let l = keeping.goes_on.event h p.ledger e k.ledger in
     record {
       ledger = l;
-      sends = sending.goes_on.event h e (ledger.met e p.ledger).books.requests (ledger.met e p.ledger).frames p.sends first l.books.requests l.frames k.sends;
-      timers = timing.goes_on.event h p.ledger p.timers e first k.ledger k.timers;
+      sends = (sending.goes_on c).event h e (ledger.met e p.ledger).books.requests (ledger.met e p.ledger).frames p.sends first l.books.requests l.frames k.sends;
+      timers = (timing.goes_on c).event h p.ledger p.timers e first k.ledger k.timers;
     }
 
-out : (h : History) (o : Out) (p : Pass) → Known h p → Known (Put o ∷ h) (has_put (newest h) o p)
-out h o p k = record {
+out : (c : Conf) (h : History) (o : Out) (p : Pass) → Known c h p → Known c (Put o ∷ h) (has_put (newest h) o p)
+out c h o p k = record {
   ledger = keeping.goes_on.out h p.ledger o k.ledger;
-  sends = sending.goes_on.out h p.ledger.books.requests.clock p.sends o k.ledger.books.requests.time k.sends;
-  timers = timing.goes_on.out h p.ledger p.timers o k.ledger k.timers;
+  sends = (sending.goes_on c).out h p.ledger.books.requests.clock p.sends o k.ledger.books.requests.time k.sends;
+  timers = (timing.goes_on c).out h p.ledger p.timers o k.ledger k.timers;
 }
 
-outs : (w : What) (os : List Out) (h : History) (p : Pass) → newest h ≡ w → Known h p → Known (put_all os h) (have_put w os p)
-outs w [] h p e k = k
-outs w (o ∷ os) h p e k = outs w os (Put o ∷ h) (has_put w o p) e (subst (λ w. Known (Put o ∷ h) (has_put w o p)) e (out h o p k))
+outs : (c : Conf) (w : What) (os : List Out) (h : History) (p : Pass) → newest h ≡ w → Known c h p → Known c (put_all os h) (have_put w os p)
+outs c w [] h p e k = k
+outs c w (o ∷ os) h p e k = outs c w os (Put o ∷ h) (has_put w o p) e (subst (λ w. Known c (Put o ∷ h) (has_put w o p)) e (out c h o p k))
 
-row : (past : History) (row : Row) (p : Pass) → AskedFirst past → Known past p → Known (after row past) (after_row row p)
-row past r p first k = outs r.event.what r.outs (Came r.event ∷ past) (met r.event p) refl (event past r.event p first k)
+row : (c : Conf) (past : History) (row : Row) (p : Pass) → AskedFirst past → Known c past p → Known c (after row past) (after_row c row p)
+row c past r p first k = outs c r.event.what r.outs (Came r.event ∷ past) (met c r.event p) refl (event c past r.event p first k)
 
-pub goes_on : GoesOn
-goes_on = record { begins = record { ledger = keeping.goes_on.begins; sends = sending.goes_on.begins; timers = timing.goes_on.begins }; event = event; out = out; row = row }
+pub goes_on : (c : Conf) → GoesOn c
+goes_on c = record { begins = record { ledger = keeping.goes_on.begins; sends = (sending.goes_on c).begins; timers = (timing.goes_on c).begins }; event = event c; out = out c; row = row c }

@@ -4,7 +4,7 @@ use Rattle.client_request.specs.declared.event.Event.{Event}
 use Rattle.client_request.specs.declared.event.Out.{Out}
 use Rattle.client_request.specs.declared.event.Row.{Row}
 use Rattle.client_request.specs.declared.event.What.{What}
-use Rattle.right_trace.specs.Trace.{History, Came, Put, after}
+use Rattle.right_trace.specs.Trace.{History, Came, Put, after, Conf}
 use Rattle.right_trace.specs.Time.{newest}
 use Rattle.trace_frames.specs.Ledger as ledger
 use Rattle.trace_exchanges.specs.Asked.{AskedFirst}
@@ -16,11 +16,11 @@ abbrev pub nothing : Pass
 nothing = record { ledger = ledger.nothing; sends = []; timers = timers.nothing }
 
 -- what an event makes of it
-abbrev pub met : Event → Pass → Pass
-met e p = record {
+abbrev pub met : (c : Conf) → Event → Pass → Pass
+met c e p = record {
   ledger = ledger.met e p.ledger;
-  sends = open_sends.met (ledger.met e p.ledger).frames.brought (ledger.met e p.ledger).books.requests.askings p.sends;
-  timers = timers.met e p.ledger p.timers;
+  sends = open_sends.met c (ledger.met e p.ledger).frames.brought (ledger.met e p.ledger).books.requests.askings p.sends;
+  timers = timers.met c e p.ledger p.timers;
 }
 
 -- what an out makes of it, in a row with this event
@@ -35,18 +35,18 @@ abbrev pub have_put : What → List Out → Pass → Pass
 have_put w [] p = p
 have_put w (o ∷ os) p = have_put w os (has_put w o p)
 
-abbrev pub after_row : Row → Pass → Pass
-after_row row p = have_put row.event.what row.outs (met row.event p)
+abbrev pub after_row : (c : Conf) → Row → Pass → Pass
+after_row c row p = have_put row.event.what row.outs (met c row.event p)
 
 -- what is kept is what the definitions of a right trace say
-pub record Known (h : History) (p : Pass) : Type 0 where
+pub record Known (c : Conf) (h : History) (p : Pass) : Type 0 where
   pub ledger : ledger.Known h p.ledger
-  pub sends : open_sends.Known h p.sends
-  pub timers : timers.Known h p.timers
+  pub sends : open_sends.Known c h p.sends
+  pub timers : timers.Known c h p.timers
 
 -- it is known before the first row, and goes on over events and outs, and over rows
-pub record GoesOn : Type 0 where
-  pub begins : Known [] nothing
-  pub event : (h : History) (e : Event) (p : Pass) → AskedFirst h → Known h p → Known (Came e ∷ h) (met e p)
-  pub out : (h : History) (o : Out) (p : Pass) → Known h p → Known (Put o ∷ h) (has_put (newest h) o p)
-  pub row : (past : History) (row : Row) (p : Pass) → AskedFirst past → Known past p → Known (after row past) (after_row row p)
+pub record GoesOn (c : Conf) : Type 0 where
+  pub begins : Known c [] nothing
+  pub event : (h : History) (e : Event) (p : Pass) → AskedFirst h → Known c h p → Known c (Came e ∷ h) (met c e p)
+  pub out : (h : History) (o : Out) (p : Pass) → Known c h p → Known c (Put o ∷ h) (has_put (newest h) o p)
+  pub row : (past : History) (row : Row) (p : Pass) → AskedFirst past → Known c past p → Known c (after row past) (after_row c row p)

@@ -10,6 +10,7 @@ use std::alloc::Global;
 use trace_due::Timers;
 use trace_exchanges::{Open, meet_open, put_open};
 use trace_frames::Ledger;
+use trace_questions::TraceConf;
 
 /// What is known at a point of a trace, within a row or before one.
 pub struct Pass {
@@ -44,14 +45,14 @@ impl Pass {
     }
 
     /// An event comes.
-    pub fn meet(&mut self, alloc: Global, event: &Event) -> Result<(), NoMemory>
-        ensures { OnOk result (self.new ≡ plain.met event.now self.old) }
+    pub fn meet(&mut self, conf: &TraceConf, event: &Event) -> Result<(), NoMemory>
+        ensures { OnOk result (self.new ≡ plain.met conf.now event.now self.old) }
     {
-        self.timers.meet(&self.ledger, event)?;
-        self.ledger.meet(alloc, event)?;
+        self.timers.meet(conf, &self.ledger, event)?;
+        self.ledger.meet(conf.alloc(), event)?;
         meet_open(
+            conf,
             &mut self.sends,
-            alloc,
             &self.ledger.frames.brought,
             &self.ledger.books.requests.askings,
         )
@@ -82,10 +83,10 @@ impl Pass {
     }
 
     /// A row goes by.
-    pub fn take(&mut self, alloc: Global, row: &Row) -> Result<(), NoMemory>
-        ensures { OnOk result (self.new ≡ plain.after_row row.now self.old) }
+    pub fn take(&mut self, conf: &TraceConf, row: &Row) -> Result<(), NoMemory>
+        ensures { OnOk result (self.new ≡ plain.after_row conf.now row.now self.old) }
     {
-        self.meet(alloc, &row.event)?;
-        self.put_all(alloc, &row.event.what, row.outs.as_slice())
+        self.meet(conf, &row.event)?;
+        self.put_all(conf.alloc(), &row.event.what, row.outs.as_slice())
     }
 }

@@ -147,50 +147,50 @@ so_notes k s (x ∷ xs) t h = go (so_notes k s xs (notes x t)) h.there
 -- where something came
 
 -- a message that comes is brought to its place
-pub brought_to : (l : Ledger) (h : History) (p id : ℕ) (v : Via) (m : Octets) (past : History) → ledger.Known h l → row_before h ≡ past → first_of v id (came p (newest h) past) ≡ Some m → (b : Brought) × (l.frames.brought ≡ Some b) × (b.place ≡ p)
-brought_to l h p id v m past kl before first = go l.frames.brought refl
+pub brought_to : (c : Conf) (l : Ledger) (h : History) (p id : ℕ) (v : Via) (m : Octets) (past : History) → ledger.Known h l → row_before h ≡ past → first_of c v id (came p (newest h) past) ≡ Some m → (b : Brought) × (l.frames.brought ≡ Some b) × (b.place ≡ p)
+brought_to c l h p id v m past kl before first = go l.frames.brought refl
   where
     here : frames_of p l.frames.brought ≡ came p (newest h) past
     here = kl.frames.here p ∙ (came_now p h ∙ ap (came p (newest h)) before)
 
-    none : (v : Via) → first_of v id [] ≡ Some m → ⊥
+    none : (v : Via) → first_of c v id [] ≡ Some m → ⊥
     none Dgram e = cc
     none Stream e = cc
 
     go : (b : Option Brought) → l.frames.brought ≡ b → (b : Brought) × (l.frames.brought ≡ Some b) × (b.place ≡ p)
-    go None e = absurd (none v (ap (first_of v id) (sym (ap (frames_of p) e) ∙ here) ∙ first))
+    go None e = absurd (none v (ap (first_of c v id) (sym (ap (frames_of p) e) ∙ here) ∙ first))
     go (Some b) e = by (b.place == p) refl
       where
         by : (d : Bool) → (b.place == p) ≡ d → (b : Brought) × (l.frames.brought ≡ Some b) × (b.place ≡ p)
         by true i = (b, e, same_number b.place p i)
-        by false i = absurd (none v (ap (first_of v id) (sym (ap (frames_of p) e ∙ ap (λ d. if d then b.frames else []) i) ∙ here) ∙ first))
+        by false i = absurd (none v (ap (first_of c v id) (sym (ap (frames_of p) e ∙ ap (λ d. if d then b.frames else []) i) ∙ here) ∙ first))
 
 -- a row
 
-module _ (c : Conf) (past : History) (row : Row) (l l' : Ledger) (t : Timers) (o : Here) (kl : ledger.Known past l) (kl' : ledger.Known (after row past) l') (kt : timers.Known past t) (ko : here_outs.Known l.books.places (after row past) o) where
-  due : (p : ℕ) → (read_due p l'.books.requests.clock l t ≡ true → ReadTimerIsDue p (now (after row past)) past) × (ReadTimerIsDue p (now (after row past)) past → read_due p l'.books.requests.clock l t ≡ true)
-  due p = subst (λ n. (read_due p l'.books.requests.clock l t ≡ true → ReadTimerIsDue p n past) × (ReadTimerIsDue p n past → read_due p l'.books.requests.clock l t ≡ true)) kl'.books.requests.time
-      (tells_read_timer p l'.books.requests.clock l t (read_due p l'.books.requests.clock l t) refl past kl kt)
+module _ (c : Conf) (past : History) (row : Row) (l l' : Ledger) (t : Timers) (o : Here) (kl : ledger.Known past l) (kl' : ledger.Known (after row past) l') (kt : timers.Known c past t) (ko : here_outs.Known l.books.places (after row past) o) where
+  due : (p : ℕ) → (read_due c p l'.books.requests.clock l t ≡ true → ReadTimerIsDue c p (now (after row past)) past) × (ReadTimerIsDue c p (now (after row past)) past → read_due c p l'.books.requests.clock l t ≡ true)
+  due p = subst (λ n. (read_due c p l'.books.requests.clock l t ≡ true → ReadTimerIsDue c p n past) × (ReadTimerIsDue c p n past → read_due c p l'.books.requests.clock l t ≡ true)) kl'.books.requests.time
+      (tells_read_timer c p l'.books.requests.clock l t (read_due c p l'.books.requests.clock l t) refl past kl kt)
 
   -- a place is passed over
-  pub passed_so : (p : ℕ) → is_passed_over p l'.books.requests.clock l t o ≡ true → (closed_here p (after row past) ≡ true) × ReadTimerIsDue p (now (after row past)) past
+  pub passed_so : (p : ℕ) → is_passed_over c p l'.books.requests.clock l t o ≡ true → (closed_here p (after row past) ≡ true) × ReadTimerIsDue c p (now (after row past)) past
   passed_so p e =
       let q = both (here_outs.closed_seen p o) _ e in
       (sym (ko.closes p) ∙ q.0, (due p).0 q.1)
 
-  pub so_passed : (p : ℕ) → closed_here p (after row past) ≡ true → ReadTimerIsDue p (now (after row past)) past → is_passed_over p l'.books.requests.clock l t o ≡ true
+  pub so_passed : (p : ℕ) → closed_here p (after row past) ≡ true → ReadTimerIsDue c p (now (after row past)) past → is_passed_over c p l'.books.requests.clock l t o ≡ true
   so_passed p e d = all (here_outs.closed_seen p o) _ (ko.closes p ∙ e) ((due p).1 d)
 
   module _ (xs : List Coming) (heard : Heards) (cs : AllComing c None past (after row past) xs) (kh : Known c past heard) where
     passed : Bool
-    passed = passed_over_in l'.frames.brought l'.books.requests.clock l t o
+    passed = passed_over_in c l'.frames.brought l'.books.requests.clock l t o
 
     -- the place of a message
-    placed : (p id : ℕ) (v : Via) (m : Octets) → first_of v id (came p (newest (after row past)) past) ≡ Some m → passed ≡ is_passed_over p l'.books.requests.clock l t o
+    placed : (p id : ℕ) (v : Via) (m : Octets) → first_of c v id (came p (newest (after row past)) past) ≡ Some m → passed ≡ is_passed_over c p l'.books.requests.clock l t o
     unfolding passed
     placed p id v m first =
-        let b = brought_to l' (after row past) p id v m past kl' (before_row row past) first in
-        ap (λ b. passed_over_in b l'.books.requests.clock l t o) b.1 ∙ ap (λ p. is_passed_over p l'.books.requests.clock l t o) b.2
+        let b = brought_to c l' (after row past) p id v m past kl' (before_row row past) first in
+        ap (λ b. passed_over_in c b l'.books.requests.clock l t o) b.1 ∙ ap (λ p. is_passed_over c p l'.books.requests.clock l t o) b.2
 
     heard_now : (k s : ℕ) → passed ≡ false → HeardIn k s xs → Heard c k s (after row past)
     heard_now k s non h =
@@ -207,7 +207,7 @@ module _ (c : Conf) (past : History) (row : Row) (l l' : Ledger) (t : Timers) (o
           message = x.message;
           comes = subst (λ q. Comes c is.asked_as Stream s x.place k x.id x.message q (newest (after row past)) (after row past)) (sym (before_row row past)) comes;
           taken = λ closed late. (
-              let late' = subst (λ q. ReadTimerIsDue x.place (now (after row past)) q) (before_row row past) late in
+              let late' = subst (λ q. ReadTimerIsDue c x.place (now (after row past)) q) (before_row row past) late in
               let e = sym non ∙ (placed x.place x.id Stream x.message comes.first ∙ so_passed x.place closed late') in
               cc);
         }
@@ -222,7 +222,7 @@ module _ (c : Conf) (past : History) (row : Row) (l l' : Ledger) (t : Timers) (o
         go false e comes = refl
         go true e comes =
             let p = passed_so h.place (sym (placed h.place h.id Stream h.message comes.first) ∙ e) in
-            absurd (h.taken p.0 (subst (λ q. ReadTimerIsDue h.place (now (after row past)) q) (sym (before_row row past)) p.1))
+            absurd (h.taken p.0 (subst (λ q. ReadTimerIsDue c h.place (now (after row past)) q) (sym (before_row row past)) p.1))
 
     row_so : (k s : ℕ) → (b : Bool) → passed ≡ b → heard_seen k s (after_row b xs heard) ≡ true → WasHeard c k s (after row past)
     row_so k s true e seen = inr (before_rows (Heard c k s) row past (kh.so k s seen))
@@ -238,7 +238,7 @@ module _ (c : Conf) (past : History) (row : Row) (l l' : Ledger) (t : Timers) (o
     so_row k s false e (inl h) = so_notes k s xs heard (now_heard k s h).1
     so_row k s false e (inr w) = notes_keep k s xs heard (kh.back k s (rows_before (Heard c k s) row past w))
 
-    pub heard_row : Known c (after row past) (after_row (passed_over_in l'.frames.brought l'.books.requests.clock l t o) xs heard)
+    pub heard_row : Known c (after row past) (after_row (passed_over_in c l'.frames.brought l'.books.requests.clock l t o) xs heard)
     unfolding passed
     heard_row = record { so = λ k s e. row_so k s passed refl e; back = λ k s w. so_row k s passed refl w }
 

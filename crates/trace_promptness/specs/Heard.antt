@@ -31,13 +31,13 @@ abbrev pub heard_seen : (k s : ℕ) → Heards → Bool
 heard_seen k s t = is_in s (listed k t)
 
 -- a place was closed in the row, and its read timer was due then
-abbrev pub is_passed_over : (p moment : ℕ) → (past : Ledger) → Timers → Here → Bool
-is_passed_over p n past t here = closed_seen p here && read_due p n past t
+abbrev pub is_passed_over : (c : Conf) (p moment : ℕ) → (past : Ledger) → Timers → Here → Bool
+is_passed_over c p n past t here = closed_seen p here && read_due c p n past t
 
 -- so it was of the place where something came
-abbrev pub passed_over_in : Option Brought → (moment : ℕ) → (past : Ledger) → Timers → Here → Bool
-passed_over_in None n past t here = false
-passed_over_in (Some b) n past t here = is_passed_over b.place n past t here
+abbrev pub passed_over_in : (c : Conf) → Option Brought → (moment : ℕ) → (past : Ledger) → Timers → Here → Bool
+passed_over_in c None n past t here = false
+passed_over_in c (Some b) n past t here = is_passed_over c b.place n past t here
 
 -- what comes by stream is heard
 abbrev pub notes : Coming → Heards → Heards
@@ -64,6 +64,6 @@ pub record Known (c : Conf) (h : History) (t : Heards) : Type 0 where
 -- it is known before the first row, and goes on over rows: `past` is the ledger before the row, and `here` that behind it
 pub record GoesOn : Type 0 where
   pub begins : (c : Conf) → Known c [] []
-  pub row : (c : Conf) (past : History) (row : Row) (l l' : Ledger) (t : Timers) (o : Here) (xs : List Coming) (heard : Heards) → ledger.Known past l → ledger.Known (after row past) l' → timers.Known past t
+  pub row : (c : Conf) (past : History) (row : Row) (l l' : Ledger) (t : Timers) (o : Here) (xs : List Coming) (heard : Heards) → ledger.Known past l → ledger.Known (after row past) l' → timers.Known c past t
       → here_outs.Known l.books.places (after row past) o → AllComing c None past (after row past) xs → Known c past heard
-      → Known c (after row past) (after_row (passed_over_in l'.frames.brought l'.books.requests.clock l t o) xs heard)
+      → Known c (after row past) (after_row (passed_over_in c l'.frames.brought l'.books.requests.clock l t o) xs heard)

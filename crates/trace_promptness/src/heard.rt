@@ -10,6 +10,7 @@ use std::alloc::Global;
 use trace_due::{Timers, is_read_timer_due};
 use trace_exchanges::Coming;
 use trace_frames::{Here, Ledger};
+use trace_questions::TraceConf;
 use trace_tables::{Newest, add};
 
 /// The servers, by request.
@@ -38,21 +39,34 @@ pub fn is_heard(heard: &Heards, request: u64, server: u32) -> bool
 
 /// Whether a place was closed in the row, and its read timer was due then: `past` and `timers` are what was known before the
 /// row, and `here` what the row's outs made of places.
-pub fn is_passed_over(past: &Ledger, timers: &Timers, here: &Here, place: u64, moment: u64) -> bool
-    ensures { result ≡ plain.is_passed_over place moment past.now timers.now here.now }
+pub fn is_passed_over(
+    conf: &TraceConf,
+    past: &Ledger,
+    timers: &Timers,
+    here: &Here,
+    place: u64,
+    moment: u64,
+) -> bool
+    ensures { result ≡ plain.is_passed_over conf.now place moment past.now timers.now here.now }
 {
-    here.is_closed(place) && is_read_timer_due(past, timers, place, moment)
+    here.is_closed(place) && is_read_timer_due(conf, past, timers, place, moment)
 }
 
 /// Whether it is so of the place where something came in the row.
-fn is_passed_over_in(past: &Ledger, timers: &Timers, ledger: &Ledger, here: &Here) -> bool
-    ensures { result ≡ plain.passed_over_in ledger.now.frames.brought ledger.now.books.requests.clock past.now timers.now here.now }
+fn is_passed_over_in(
+    conf: &TraceConf,
+    past: &Ledger,
+    timers: &Timers,
+    ledger: &Ledger,
+    here: &Here,
+) -> bool
+    ensures { result ≡ plain.passed_over_in conf.now ledger.now.frames.brought ledger.now.books.requests.clock past.now timers.now here.now }
 {
     match &ledger.frames.brought {
         None => false,
         Some(brought) => {
             let moment = ledger.books.requests.clock;
-            is_passed_over(past, timers, here, brought.place, moment)
+            is_passed_over(conf, past, timers, here, brought.place, moment)
         }
     }
 }
@@ -78,18 +92,18 @@ fn note_all(heard: &mut Heards, alloc: Global, comings: &[Coming]) -> Result<(),
 /// A row is done, in which these messages came: `past` and `timers` are what was known before it, `ledger` what is known behind
 /// it, and `here` what its outs made of places.
 pub fn hear(
+    conf: &TraceConf,
     heard: &mut Heards,
-    alloc: Global,
     past: &Ledger,
     timers: &Timers,
     ledger: &Ledger,
     here: &Here,
     comings: &[Coming],
 ) -> Result<(), NoMemory>
-    ensures { OnOk result (heard.new ≡ plain.after_row (plain.passed_over_in ledger.now.frames.brought ledger.now.books.requests.clock past.now timers.now here.now) comings.now heard.old) }
+    ensures { OnOk result (heard.new ≡ plain.after_row (plain.passed_over_in conf.now ledger.now.frames.brought ledger.now.books.requests.clock past.now timers.now here.now) comings.now heard.old) }
 {
-    if is_passed_over_in(past, timers, ledger, here) {
+    if is_passed_over_in(conf, past, timers, ledger, here) {
         return Ok(());
     }
-    note_all(heard, alloc, comings)
+    note_all(heard, conf.alloc(), comings)
 }

@@ -46,116 +46,141 @@ fn last_at(tries: &Newest<Tried>, server: u32) -> Option<LastTry>
     None
 }
 
-/// How many of these went to a server. Seven are as many as more.
-fn count_at(tries: &Newest<Tried>, server: u32) -> u8
-    ensures { result ≡ min 7 (count_at server tries.now) }
+/// How many of these went to a server. As many as `most` are as many as more.
+fn count_at(tries: &Newest<Tried>, server: u32, most: u64) -> u64
+    ensures { result ≡ min most (count_at server tries.now) }
 {
     let mut count = 0;
     for tried in tries {
-        if tried.server == server && count < 7 {
+        if tried.server == server && count < most {
             count += 1;
         }
     }
     count
 }
 
-/// Whether a send is five seconds old at a moment, and its place was live.
-fn is_lost(moment: u64, past: &NumberTable<Place>, last: Option<LastTry>) -> bool
-    ensures { result ≡ plain.is_lost moment past.now last }
+/// Whether a send is as old at a moment as an answer is waited for, and its place was live.
+fn is_lost(conf: &TraceConf, moment: u64, past: &NumberTable<Place>, last: Option<LastTry>) -> bool
+    ensures { result ≡ plain.is_lost conf.now moment past.now last }
 {
     match last {
         None => false,
         Some(last) => {
-            u128::from(last.moment) + 5_000_000 <= u128::from(moment) && is_live(past, last.place)
+            u128::from(last.moment) + conf.read_timeout().as_micros() <= u128::from(moment)
+                && is_live(past, last.place)
         }
     }
 }
 
-/// Whether six of these went to a server, and the last is lost.
-fn are_up_at(moment: u64, past: &NumberTable<Place>, tries: &Newest<Tried>, server: u32) -> bool
-    ensures { result ≡ plain.are_up_at moment past.now tries.now server }
+/// Whether all tries at a server are among these, and the last is lost.
+fn are_up_at(
+    conf: &TraceConf,
+    moment: u64,
+    past: &NumberTable<Place>,
+    tries: &Newest<Tried>,
+    server: u32,
+) -> bool
+    ensures { result ≡ plain.are_up_at conf.now moment past.now tries.now server }
 {
-    count_at(tries, server) == 6 && is_lost(moment, past, last_at(tries, server))
+    let all = u64::from(conf.max_tries());
+    count_at(tries, server, all + 1) == all && is_lost(conf, moment, past, last_at(tries, server))
 }
 
-fn are_up_among(moment: u64, past: &NumberTable<Place>, tries: &Newest<Tried>) -> bool
-    ensures { result ≡ plain.are_up_among moment past.now tries.now tries.now }
+fn are_up_among(
+    conf: &TraceConf,
+    moment: u64,
+    past: &NumberTable<Place>,
+    tries: &Newest<Tried>,
+) -> bool
+    ensures { result ≡ plain.are_up_among conf.now moment past.now tries.now tries.now }
 {
     for tried in tries {
-        if are_up_at(moment, past, tries, tried.server) {
+        if are_up_at(conf, moment, past, tries, tried.server) {
             return true;
         }
     }
     false
 }
 
-/// Whether by a moment a request had six sends to one server, the last at least five seconds ago, at a place that was live: by
-/// what is known here of sends, and what was known before the row of places.
-pub fn are_tries_up(past: &Books, here: &Books, request: u64, moment: u64) -> bool
-    ensures value { result ≡ plain.tries_are_up request moment past.now.places here.now }
-    ensures told { plain.TellsTries request moment past.now here.now result }
+/// Whether by a moment a request had all its sends to one server, the last of them a read timeout ago or more, at a place that was
+/// live: by what is known here of sends, and what was known before the row of places.
+pub fn are_tries_up(conf: &TraceConf, past: &Books, here: &Books, request: u64, moment: u64) -> bool
+    ensures value { result ≡ plain.tries_are_up conf.now request moment past.now.places here.now }
+    ensures told { plain.TellsTries conf.now request moment past.now here.now result }
 {
-    find_tries(past, here, request, moment)
+    find_tries(conf, past, here, request, moment)
 }
 
-fn find_tries(past: &Books, here: &Books, request: u64, moment: u64) -> bool
-    ensures { result ≡ plain.tries_are_up request moment past.now.places here.now }
+fn find_tries(conf: &TraceConf, past: &Books, here: &Books, request: u64, moment: u64) -> bool
+    ensures { result ≡ plain.tries_are_up conf.now request moment past.now.places here.now }
 {
     match here.sends.tries.get(request) {
         None => false,
-        Some(tries) => are_up_among(moment, &past.places, tries),
+        Some(tries) => are_up_among(conf, moment, &past.places, tries),
     }
 }
 
-/// Whether 30 seconds are over since a start.
-fn is_over(moment: u64, begun: Option<u64>) -> bool
-    ensures { result ≡ plain.is_over moment begun }
+/// Whether the time of a request by stream is over since a start.
+fn is_over(conf: &TraceConf, moment: u64, begun: Option<u64>) -> bool
+    ensures { result ≡ plain.is_over conf.now moment begun }
 {
     match begun {
         None => false,
-        Some(begun) => u128::from(begun) + 30_000_000 <= u128::from(moment),
+        Some(begun) => u128::from(begun) + conf.stream_timeout().as_micros() <= u128::from(moment),
     }
 }
 
 /// Whether a request waits so long for a server that it was handed to so, by stream.
 fn is_silent_at(
+    conf: &TraceConf,
     requests: &Requests,
     heard: &Heards,
     request: u64,
     moment: u64,
     start: &Started,
 ) -> bool
-    ensures { result ≡ plain.is_silent_at request moment requests.now heard.now start.now }
+    ensures { result ≡ plain.is_silent_at conf.now request moment requests.now heard.now start.now }
 {
     matches!(start.via, Via::Stream)
-        && is_over(moment, requests.start(request, start.server, Via::Stream))
+        && is_over(
+            conf,
+            moment,
+            requests.start(request, start.server, Via::Stream),
+        )
         && !is_heard(heard, request, start.server)
 }
 
 fn is_silent_among(
+    conf: &TraceConf,
     requests: &Requests,
     heard: &Heards,
     request: u64,
     moment: u64,
     starts: &Newest<Started>,
 ) -> bool
-    ensures { result ≡ plain.is_silent_among request moment requests.now heard.now starts.now }
+    ensures { result ≡ plain.is_silent_among conf.now request moment requests.now heard.now starts.now }
 {
     for start in starts {
-        if is_silent_at(requests, heard, request, moment, start) {
+        if is_silent_at(conf, requests, heard, request, moment, start) {
             return true;
         }
     }
     false
 }
 
-/// Whether by a moment 30 seconds passed since a request was handed to a server by stream, and no message has come since.
-pub fn is_stream_silent(requests: &Requests, heard: &Heards, request: u64, moment: u64) -> bool
-    ensures { result ≡ plain.stream_is_silent request moment requests.now heard.now }
+/// Whether by a moment the time of a request by stream passed since it was handed to a server so, and no message has come since.
+pub fn is_stream_silent(
+    conf: &TraceConf,
+    requests: &Requests,
+    heard: &Heards,
+    request: u64,
+    moment: u64,
+) -> bool
+    ensures { result ≡ plain.stream_is_silent conf.now request moment requests.now heard.now }
 {
     match requests.starts.get(request) {
         None => false,
-        Some(starts) => is_silent_among(requests, heard, request, moment, starts),
+        Some(starts) => is_silent_among(conf, requests, heard, request, moment, starts),
     }
 }
 
@@ -196,6 +221,6 @@ fn find_overdue(
 {
     is_past(&past.requests.askings, request, conf.timeout(), moment)
         || (!settings.defers_errors()
-            && (are_tries_up(past, past, request, moment)
-                || is_stream_silent(&past.requests, heard, request, moment)))
+            && (are_tries_up(conf, past, past, request, moment)
+                || is_stream_silent(conf, &past.requests, heard, request, moment)))
 }

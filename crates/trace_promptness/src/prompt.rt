@@ -2,13 +2,14 @@
 
 ghost use Rattle.std.specs.Prelude.{◌≡◌, IfOk};
 ghost use Rattle.number_table.specs.Entries.{entry_at};
+ghost use Rattle.right_trace.specs.Views.{is_failing_message};
 ghost use Rattle.trace_promptness.specs.Prompt as plain;
 
 use crate::heard::{Heards, is_passed_over};
 use crate::overdue::is_overdue;
 use crate::settings::TraceSettings;
 use client_request::{Out, Row, Via};
-use dns_base::{Message, NoMemory};
+use dns_base::{Message, NoMemory, OptRcode};
 use number_table::NumberTable;
 use trace_due::Timers;
 use trace_exchanges::Coming;
@@ -39,6 +40,35 @@ fn is_given(request: u64, message: &Message, outs: &[Out]) -> bool
         }
     }
     false
+}
+
+/// Whether one of these marks a request's reply as stale.
+fn is_marked(request: u64, outs: &[Out]) -> bool
+    ensures { result ≡ plain.is_marked request outs.now }
+{
+    for out in outs {
+        if let Out::Stale { request: other } = out {
+            if *other == request {
+                return true;
+            }
+        }
+    }
+    false
+}
+
+/// Whether the server of a message failed: it tells of no name (RFC 8767 4).
+pub fn is_failing(message: &Message) -> bool
+    ensures { result ≡ is_failing_message message.now }
+{
+    !matches!(message.opt_rcode(), OptRcode(0) | OptRcode(3))
+}
+
+/// Whether a message is given; or, where an expired one may serve and this one fails, a stale one.
+fn is_given_so(settings: &TraceSettings, request: u64, message: &Message, outs: &[Out]) -> bool
+    ensures { result ≡ plain.is_given_so settings.now request message.now outs.now }
+{
+    is_given(request, message, outs)
+        || (settings.serves_stale() && is_failing(message) && is_marked(request, outs))
 }
 
 /// Whether a message answers its request and, if it is a datagram, has TC clear.
@@ -90,7 +120,7 @@ impl<'a> Judged<'a> {
         {
             return Ok(true);
         }
-        if is_given(coming.request, &coming.message, self.outs) {
+        if is_given_so(self.settings, coming.request, &coming.message, self.outs) {
             return Ok(true);
         }
         Ok(is_overdue(
@@ -127,14 +157,20 @@ fn is_stream(places: &NumberTable<Place>, place: u64) -> bool
 }
 
 /// Whether what came in the row may be passed over.
-fn is_excused(past: &Ledger, timers: &Timers, ledger: &Ledger, here: &Here) -> bool
-    ensures { result ≡ plain.excused_in ledger.now.frames.brought ledger.now.books.requests.clock past.now timers.now ledger.now here.now }
+fn is_excused(
+    conf: &TraceConf,
+    past: &Ledger,
+    timers: &Timers,
+    ledger: &Ledger,
+    here: &Here,
+) -> bool
+    ensures { result ≡ plain.excused_in conf.now ledger.now.frames.brought ledger.now.books.requests.clock past.now timers.now ledger.now here.now }
 {
     match &ledger.frames.brought {
         None => false,
         Some(brought) => {
             let moment = ledger.books.requests.clock;
-            is_passed_over(past, timers, here, brought.place, moment)
+            is_passed_over(conf, past, timers, here, brought.place, moment)
                 && is_stream(&ledger.books.places, brought.place)
         }
     }
@@ -153,7 +189,7 @@ fn find(
 ) -> Result<bool, NoMemory>
     ensures { IfOk result (λ b. b ≡ plain.prompt_seen conf.now settings.now past.now timers.now heard.now ledger.now here.now row.now.outs comings.now) }
 {
-    if is_excused(past, timers, ledger, here) {
+    if is_excused(conf, past, timers, ledger, here) {
         return Ok(true);
     }
     let judged = Judged {

@@ -1,6 +1,6 @@
 //! The settings of which a trace is judged.
 
-ghost use Rattle.std.specs.Prelude.{◌≡◌, IfOk, is_some};
+ghost use Rattle.std.specs.Prelude.{◌≡◌, IfOk, is_some, nat_lt};
 ghost use Rattle.number_table.specs.Entries.{entry_at};
 ghost use Rattle.right_trace.specs.Validity.{is_deferred, is_final, validity_of_message};
 ghost use Rattle.trace_promptness.specs.Settings as plain;
@@ -8,7 +8,7 @@ ghost use Rattle.trace_promptness.specs.Settings as plain;
 use cache_rules::validity;
 use client_request::RequestMessage;
 use client_settings::cache;
-use dns_base::{Message, NoMemory, OptRcode};
+use dns_base::{Duration, Message, NoMemory, OptRcode};
 use number_table::NumberTable;
 use request_validity::RequestValidity;
 use std::marker::Model;
@@ -55,6 +55,13 @@ impl TraceSettings {
         ensures { result ≡ self.now.defers_errors }
     {
         self.defers_errors
+    }
+
+    /// Whether a message that has expired may be given.
+    pub fn serves_stale(&self) -> bool
+        ensures { result ≡ nat_lt 0 self.now.stale_for }
+    {
+        self.cache.stale_for() > Duration::ZERO
     }
 
     /// Whether a message may be replaced by one of another server.

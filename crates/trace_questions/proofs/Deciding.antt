@@ -8,6 +8,7 @@ use Rattle.client_request.specs.declared.event.Via.{Via}
 use Rattle.client_request.specs.declared.event.Via.TheVariants.{Dgram, Stream}
 use Rattle.right_trace.specs.Trace.{History, Conf}
 use Rattle.right_trace.specs.Messages.{Octets, CarriesBy}
+use Rattle.right_trace.specs.Time.{max_tries}
 use Rattle.right_trace.specs.Requests.{Asking, asking, replied, same_via, started}
 use Rattle.right_trace.specs.Places.{Site, site, is_site, is_at, stand, is_alive, Unused, Opening, Alive, Gone}
 use Rattle.right_trace.specs.Causes.{sends}
@@ -121,34 +122,34 @@ none_used [] e = refl
 none_used (x ∷ xs) e = absurd (let z : Some (record { request = x.request; moment = x.moment }) ≡ None = e in cc)
 
 -- sends
-module _ (past h : History) (bp bh : Books) (k p id : ℕ) (o : Octets) (kp : Known past bp) (kh : Known h bh) where
-  asked_there : (a : Option Asking) → asking k h ≡ a → carried Dgram o id a ≡ true → (r : Request) × ((t : ℕ) × (asking k h ≡ Some (record { request = r; moment = t }))) × CarriesBy Dgram o r id
+module _ (conf : Conf) (past h : History) (bp bh : Books) (k p id : ℕ) (o : Octets) (kp : Known past bp) (kh : Known h bh) where
+  asked_there : (a : Option Asking) → asking k h ≡ a → carried conf Dgram o id a ≡ true → (r : Request) × ((t : ℕ) × (asking k h ≡ Some (record { request = r; moment = t }))) × CarriesBy conf Dgram o r id
   asked_there None i e = absurd (cc)
-  asked_there (Some a) i e = (a.request, (a.moment, i), carries_so Dgram o a.request id e)
+  asked_there (Some a) i e = (a.request, (a.moment, i), carries_so conf Dgram o a.request id e)
 
   used_none : used_seen p bh.sends ≡ false → sending p h ≡ None
   used_none e = sym (kh.sends.sendings p) ∙ unused (listed p bh.sends.sent) e
 
-  few_at : (s t : ℕ) → is_at Dgram t p h ≡ true → site p h ≡ Some (record { via = Dgram; server = s }) → nat_lt (sends_seen k s bh.sends) 6 ≡ true → sends k t h < 6
+  few_at : (s t : ℕ) → is_at Dgram t p h ≡ true → site p h ≡ Some (record { via = Dgram; server = s }) → nat_lt (sends_seen k s bh.sends) (max_tries conf) ≡ true → sends k t h < max_tries conf
   few_at s t at here lt =
       let z : (s == t) ≡ true = sym (ap (is_site Dgram t) here) ∙ at in
       let same : s ≡ t = grind (arith, nat_tests) in
       let c : sends_seen k s bh.sends ≡ sends k t h = kh.sends.counts k s ∙ ap (λ s. sends k s h) same in
-      less (sends_seen k s bh.sends) (sends k t h) c lt
+      less (sends_seen k s bh.sends) (sends k t h) (max_tries conf) c lt
     where
-      less : (a b : ℕ) → a ≡ b → nat_lt a 6 ≡ true → b < 6
-      less a b e f = grind (arith, nat_tests)
+      less : (a b n : ℕ) → a ≡ b → nat_lt a n ≡ true → b < n
+      less a b n e f = grind (arith, nat_tests)
 
-  sends_so : (s : Option ℕ) → alive_server Dgram (entry_at p bh.places) ≡ s → sends_to bp bh k p id o s ≡ true → SendIsRight k p id o past h
+  sends_so : (s : Option ℕ) → alive_server Dgram (entry_at p bh.places) ≡ s → sends_to conf bp bh k p id o s ≡ true → SendIsRight conf k p id o past h
   sends_so None i e = absurd (cc)
   sends_so (Some s) i e =
       let a = both (not (replied_seen k bp.requests)) _ e in
       let b = both (started_seen k s Dgram bh.requests) _ a.1 in
       let c = both (not (used_seen p bh.sends)) _ b.1 in
-      let d = both (nat_lt (sends_seen k s bh.sends) 6) (carried Dgram o id (entry_at k bh.requests.askings)) c.1 in
+      let d = both (nat_lt (sends_seen k s bh.sends) (max_tries conf)) (carried conf Dgram o id (entry_at k bh.requests.askings)) c.1 in
       let there = server_there Dgram s (entry_at p bh.places) i in
       let at : site p h ≡ Some (record { via = Dgram; server = s }) = sym (kh.places.sites p) ∙ there.0 in
-      let r = asked_there (asking k h) refl (ap (carried Dgram o id) (sym (kh.requests.askings k)) ∙ d.1) in (
+      let r = asked_there (asking k h) refl (ap (carried conf Dgram o id) (sym (kh.requests.askings k)) ∙ d.1) in (
         (λ t here. few_at s t here at d.0),
         record {
           waits = sym (kp.requests.replies k) ∙ not_true (replied_seen k bp.requests) a.0;
@@ -163,23 +164,23 @@ module _ (past h : History) (bp bh : Books) (k p id : ℕ) (o : Octets) (kp : Kn
         },
       )
 
-  so_sends : SendIsRight k p id o past h → send_seen bp bh k p id o ≡ true
+  so_sends : SendIsRight conf k p id o past h → send_seen conf bp bh k p id o ≡ true
   so_sends f =
       let m = f.1 in
       let s = m.server in
-      ap (sends_to bp bh k p id o) (there_server Dgram s (entry_at p bh.places) (kh.places.sites p ∙ m.at) (kh.places.stands p ∙ m.alive))
+      ap (sends_to conf bp bh k p id o) (there_server Dgram s (entry_at p bh.places) (kh.places.sites p ∙ m.at) (kh.places.stands p ∙ m.alive))
       ∙ all (not (replied_seen k bp.requests)) _ (ap not (kp.requests.replies k ∙ m.waits))
       (all (started_seen k s Dgram bh.requests) _ (ap is_some (kh.requests.starts k s Dgram) ∙ m.begun)
       (all (not (used_seen p bh.sends)) _ (ap not (none_used (listed p bh.sends.sent) (kh.sends.sendings p ∙ m.first)))
-      (all (nat_lt (sends_seen k s bh.sends) 6) (carried Dgram o id (entry_at k bh.requests.askings))
-      (ap (λ n. nat_lt n 6) (kh.sends.counts k s) ∙ less (sends k s h) (f.0 s (ap (is_site Dgram s) m.at ∙ own s)))
-      (ap (carried Dgram o id) (kh.requests.askings k ∙ m.asked.1) ∙ so_carries Dgram o m.request id m.carries))))
+      (all (nat_lt (sends_seen k s bh.sends) (max_tries conf)) (carried conf Dgram o id (entry_at k bh.requests.askings))
+      (ap (λ n. nat_lt n (max_tries conf)) (kh.sends.counts k s) ∙ less (sends k s h) (max_tries conf) (f.0 s (ap (is_site Dgram s) m.at ∙ own s)))
+      (ap (carried conf Dgram o id) (kh.requests.askings k ∙ m.asked.1) ∙ so_carries conf Dgram o m.request id m.carries))))
     where
       own : (n : ℕ) → (n == n) ≡ true
       own n = grind (arith, nat_tests)
 
-      less : (n : ℕ) → n < 6 → nat_lt n 6 ≡ true
-      less n lt = grind (arith, nat_tests)
+      less : (n m : ℕ) → n < m → nat_lt n m ≡ true
+      less n m lt = grind (arith, nat_tests)
 
 -- openings
 opening : (c : Conf) (h : History) (b : Books) (p s : ℕ) → Known h b → opens_seen c p s b ≡ true → OpenIsRight c p s h
@@ -208,8 +209,8 @@ opening_seen c h b p s is f = all (nat_lt s (length c.servers)) (is_none (entry_
 pub tells_first : (k : ℕ) (b : Books) (t : Bool) → t ≡ first_seen k b → TellsFirst k b t
 tells_first k b t e h is = ((λ u. first h b k is (sym e ∙ u)), (λ f. e ∙ is_first h b k is f))
 
-pub tells_send : (past here : Books) (k p id : ℕ) (o : Octets) (t : Bool) → t ≡ send_seen past here k p id o → TellsSend past here k p id o t
-tells_send past here k p id o t e x h kx kh = ((λ u. sends_so x h past here k p id o kx kh (alive_server Dgram (entry_at p here.places)) refl (sym e ∙ u)), (λ f. e ∙ so_sends x h past here k p id o kx kh f))
+pub tells_send : (conf : Conf) (past here : Books) (k p id : ℕ) (o : Octets) (t : Bool) → t ≡ send_seen conf past here k p id o → TellsSend conf past here k p id o t
+tells_send conf past here k p id o t e x h kx kh = ((λ u. sends_so conf x h past here k p id o kx kh (alive_server Dgram (entry_at p here.places)) refl (sym e ∙ u)), (λ f. e ∙ so_sends conf x h past here k p id o kx kh f))
 
 pub tells_opening : (c : Conf) (p s : ℕ) (b : Books) (t : Bool) → t ≡ opens_seen c p s b → TellsOpening c p s b t
 tells_opening c p s b t e h is = ((λ u. opening c h b p s is (sym e ∙ u)), (λ f. e ∙ opening_seen c h b p s is f))

@@ -6,8 +6,8 @@
 //! `may_open`, `first_replied_again`, `marks_stand`, `has_one_fault_at_most`.
 //!
 //! Of an out it is asked, from the books before the row (`past`) and those up to the out, whether a reply is the first
-//! (`is_first`), whether what is sent may be (`may_send`: at most six times, at a place that is alive, opened for its
-//! server and had no send, to a request that was handed there, had no reply in an earlier row, and is carried), and whether
+//! (`is_first`), whether what is sent may be (`may_send`: as often as is set at most, at a place that is alive, opened for
+//! its server and had no send, to a request that was handed there, had no reply in an earlier row, and is carried), and whether
 //! a datagram place may be opened (`may_open`); each says so of every history that the books know, both ways (`TellsSend`
 //! and its like). `may_write` is the same of a stream. `search_decides`: whether some stream place of a server opens is
 //! found by a walk over the table. `marks_stand` and `has_one_fault_at_most` are the two clauses on the outs of a row

@@ -8,7 +8,6 @@ use crate::configured::TraceConf;
 use client_request::Via;
 use dns_base::{NoMemory, Octets};
 use message_matching::carries;
-use std::alloc::Global;
 use trace_tables::{Books, Place, Stand, same_via};
 
 /// Whether a reply to a request would be its first: it was asked, and has none.
@@ -34,24 +33,27 @@ pub(crate) fn alive_server(place: Option<&Place>, via: Via) -> Option<u32>
 
 /// Whether octets carry a request that was asked.
 pub(crate) fn is_carried(
-    alloc: Global,
+    conf: &TraceConf,
     books: &Books,
     via: Via,
     octets: &Octets,
     request: u64,
     id: u16,
 ) -> Result<bool, NoMemory>
-    ensures { IfOk result (λ b. b ≡ plain.carried via octets.now id (entry_at request books.now.requests.askings)) }
+    ensures { IfOk result (λ b. b ≡ plain.carried conf.now via octets.now id (entry_at request books.now.requests.askings)) }
 {
     match books.requests.askings.get(request) {
         None => Ok(false),
-        Some(asked) => carries(alloc, via, octets, &asked.request, id),
+        Some(asked) => {
+            let payload_size = conf.udp_payload_size();
+            carries(conf.alloc(), payload_size, via, octets, &asked.request, id)
+        }
     }
 }
 
 /// Whether what is kept of a send tells that it may be.
 fn is_send_right(
-    alloc: Global,
+    conf: &TraceConf,
     past: &Books,
     here: &Books,
     request: u64,
@@ -59,25 +61,26 @@ fn is_send_right(
     id: u16,
     octets: &Octets,
 ) -> Result<bool, NoMemory>
-    ensures { IfOk result (λ b. b ≡ plain.send_seen past.now here.now request place id octets.now) }
+    ensures { IfOk result (λ b. b ≡ plain.send_seen conf.now past.now here.now request place id octets.now) }
 {
     let Some(server) = alive_server(here.places.get(place), Via::Dgram) else {
         return Ok(false);
     };
+    let most = u64::from(conf.max_tries());
     if past.requests.is_replied(request)
         || !here.requests.is_started(request, server, Via::Dgram)
         || here.sends.is_used(place)
-        || here.sends.count(request, server) >= 6
+        || here.sends.count(request, server, most) >= most
     {
         return Ok(false);
     }
-    is_carried(alloc, here, Via::Dgram, octets, request, id)
+    is_carried(conf, here, Via::Dgram, octets, request, id)
 }
 
 /// Whether a request may be sent at a place: `past` is what was known before the row, and `here` what is known where it is
 /// sent.
 pub fn may_send(
-    alloc: Global,
+    conf: &TraceConf,
     past: &Books,
     here: &Books,
     request: u64,
@@ -85,9 +88,9 @@ pub fn may_send(
     id: u16,
     octets: &Octets,
 ) -> Result<bool, NoMemory>
-    ensures { IfOk result (plain.TellsSend past.now here.now request place id octets.now) }
+    ensures { IfOk result (plain.TellsSend conf.now past.now here.now request place id octets.now) }
 {
-    is_send_right(alloc, past, here, request, place, id, octets)
+    is_send_right(conf, past, here, request, place, id, octets)
 }
 
 /// Whether a datagram place may be opened to a server.

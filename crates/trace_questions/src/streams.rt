@@ -3,16 +3,16 @@
 ghost use Rattle.std.specs.Prelude.{◌≡◌, IfOk};
 ghost use Rattle.trace_questions.specs.Streams as plain;
 
+use crate::configured::TraceConf;
 use crate::outs::{alive_server, is_carried};
 use client_request::Via;
 use dns_base::{NoMemory, Octets};
-use std::alloc::Global;
 use trace_frames::{Ledger, is_free};
 use trace_tables::Books;
 
 /// Whether what is kept of a write tells that it may be.
 fn is_write_right(
-    alloc: Global,
+    conf: &TraceConf,
     past: &Books,
     here: &Ledger,
     request: u64,
@@ -20,7 +20,7 @@ fn is_write_right(
     id: u16,
     octets: &Octets,
 ) -> Result<bool, NoMemory>
-    ensures { IfOk result (λ b. b ≡ plain.write_seen past.now here.now request place id octets.now) }
+    ensures { IfOk result (λ b. b ≡ plain.write_seen conf.now past.now here.now request place id octets.now) }
 {
     let Some(server) = alive_server(here.books.places.get(place), Via::Stream) else {
         return Ok(false);
@@ -31,13 +31,13 @@ fn is_write_right(
     {
         return Ok(false);
     }
-    is_carried(alloc, &here.books, Via::Stream, octets, request, id)
+    is_carried(conf, &here.books, Via::Stream, octets, request, id)
 }
 
 /// Whether a request may be written at a place: `past` is what was known before the row, and `here` what is known where it is
 /// written.
 pub fn may_write(
-    alloc: Global,
+    conf: &TraceConf,
     past: &Books,
     here: &Ledger,
     request: u64,
@@ -45,7 +45,7 @@ pub fn may_write(
     id: u16,
     octets: &Octets,
 ) -> Result<bool, NoMemory>
-    ensures { IfOk result (plain.TellsWrite past.now here.now request place id octets.now) }
+    ensures { IfOk result (plain.TellsWrite conf.now past.now here.now request place id octets.now) }
 {
-    is_write_right(alloc, past, here, request, place, id, octets)
+    is_write_right(conf, past, here, request, place, id, octets)
 }

@@ -131,13 +131,13 @@ le_so a b e = grind (arith, nat_tests)
 so_le : (a b : ℕ) → a ≤ b → nat_le a b ≡ true
 so_le a b le = grind (arith, nat_tests)
 
-due_so : (m n : ℕ) → nat_le (m + 5000000) n ≡ true → m + read_timeout ≤ n
+due_so : (c : Conf) (m n : ℕ) → nat_le (m + read_timeout c) n ≡ true → m + read_timeout c ≤ n
 unfolding read_timeout
-due_so m n e = le_so (m + 5000000) n e
+due_so c m n e = le_so (m + read_timeout c) n e
 
-so_due : (m n : ℕ) → m + read_timeout ≤ n → nat_le (m + 5000000) n ≡ true
+so_due : (c : Conf) (m n : ℕ) → m + read_timeout c ≤ n → nat_le (m + read_timeout c) n ≡ true
 unfolding read_timeout
-so_due m n le = so_le (m + 5000000) n le
+so_due c m n le = so_le (m + read_timeout c) n le
 
 abbrev request_or : Option Sending → ℕ
 request_or None = 0
@@ -192,18 +192,18 @@ module _ (c : Conf) (x h end : History) (t : Point) (known : Known c x h end t) 
   begun_is k s = ap is_some (known.here.books.requests.starts k s Dgram)
 
   -- a place at which something was sent
-  sent_so : (k n : ℕ) → sending p h ≡ Some (record { request = k; moment = n }) → sent_closes p t k n ≡ true → MayCloseDgram c p x t.row.now.event.what h end
+  sent_so : (k n : ℕ) → sending p h ≡ Some (record { request = k; moment = n }) → sent_closes c p t k n ≡ true → MayCloseDgram c p x t.row.now.event.what h end
   sent_so k n is e = go (either (some_answer_at p k t.comings.now) _ e)
     where
-      last : (nat_le (n + 5000000) t.here.now.books.requests.clock ≡ true) ⊎ (replied_here k t.past.now.books.requests t.row.now.outs ≡ true) → MayCloseDgram c p x t.row.now.event.what h end
-      last (inl e) = ItsTimeout (record { request = k; moment = n }) is (due_so n (now h) (ap (nat_le (n + 5000000)) (sym known.here.books.requests.time) ∙ e))
+      last : (nat_le (n + read_timeout c) t.here.now.books.requests.clock ≡ true) ⊎ (replied_here k t.past.now.books.requests t.row.now.outs ≡ true) → MayCloseDgram c p x t.row.now.event.what h end
+      last (inl e) = ItsTimeout (record { request = k; moment = n }) is (due_so c n (now h) (ap (nat_le (n + read_timeout c)) (sym known.here.books.requests.time) ∙ e))
       last (inr e) =
           let q = both (not (replied_seen k t.past.now.books.requests)) _ e in
           ItsReply (record { request = k; moment = n }) is (here_so k q.1 (not_true (replied_seen k t.past.now.books.requests) q.0))
 
-      go : (some_answer_at p k t.comings.now ≡ true) ⊎ ((nat_le (n + 5000000) t.here.now.books.requests.clock || replied_here k t.past.now.books.requests t.row.now.outs) ≡ true) → MayCloseDgram c p x t.row.now.event.what h end
+      go : (some_answer_at p k t.comings.now ≡ true) ⊎ ((nat_le (n + read_timeout c) t.here.now.books.requests.clock || replied_here k t.past.now.books.requests t.row.now.outs) ≡ true) → MayCloseDgram c p x t.row.now.event.what h end
       go (inl e) = ItsAnswer (record { request = k; moment = n }) is (answered k e)
-      go (inr e) = last (either (nat_le (n + 5000000) t.here.now.books.requests.clock) _ e)
+      go (inr e) = last (either (nat_le (n + read_timeout c) t.here.now.books.requests.clock) _ e)
 
   unsent_so : (s : ℕ) → site p h ≡ Some (record { via = Dgram; server = s }) → sending p h ≡ None → unsent_closes s t ≡ true → MayCloseDgram c p x t.row.now.event.what h end
   unsent_so s at none e = go (either (invalid_seen Dgram s t.timers.now.invalid) _ e)
@@ -216,48 +216,48 @@ module _ (c : Conf) (x h end : History) (t : Point) (known : Known c x h end t) 
           let r = there_so s t t.row.now.outs e in
           ReplyBeforeItsSend (record { via = Dgram; server = s }) at none r.request (sym (begun_is r.request s) ∙ r.has_it) (here_so r.request r.there r.none)
 
-  by_so : (s : ℕ) → site p h ≡ Some (record { via = Dgram; server = s }) → (ys : List Sent) → sending p h ≡ last_of ys → by_sends p s t ys ≡ true → MayCloseDgram c p x t.row.now.event.what h end
+  by_so : (s : ℕ) → site p h ≡ Some (record { via = Dgram; server = s }) → (ys : List Sent) → sending p h ≡ last_of ys → by_sends c p s t ys ≡ true → MayCloseDgram c p x t.row.now.event.what h end
   by_so s at [] is e = unsent_so s at is e
   by_so s at (y ∷ ys) is e = sent_so y.request y.moment is e
 
-  dgram_so : (s : ℕ) → site p h ≡ Some (record { via = Dgram; server = s }) → dgram_closes p s t ≡ true → MayCloseDgram c p x t.row.now.event.what h end
+  dgram_so : (s : ℕ) → site p h ≡ Some (record { via = Dgram; server = s }) → dgram_closes c p s t ≡ true → MayCloseDgram c p x t.row.now.event.what h end
   dgram_so s at e = go (either (told_seen p t.row.now.event.what) _ e)
     where
-      go : (told_seen p t.row.now.event.what ≡ true) ⊎ (by_sends p s t (listed p t.here.now.books.sends.sent) ≡ true) → MayCloseDgram c p x t.row.now.event.what h end
+      go : (told_seen p t.row.now.event.what ≡ true) ⊎ (by_sends c p s t (listed p t.here.now.books.sends.sent) ≡ true) → MayCloseDgram c p x t.row.now.event.what h end
       go (inl e) = ItsFault (sym (told_is p t.row.now.event.what) ∙ e)
       go (inr e) = by_so s at (listed p t.here.now.books.sends.sent) (sym (known.here.books.sends.sendings p)) e
 
   -- and the other way
-  sent_is : (z : Sending) (ys : List Sent) → sending p h ≡ last_of ys → sending p h ≡ Some z → (s : ℕ) → sent_closes p t z.request z.moment ≡ true → by_sends p s t ys ≡ true
+  sent_is : (z : Sending) (ys : List Sent) → sending p h ≡ last_of ys → sending p h ≡ Some z → (s : ℕ) → sent_closes c p t z.request z.moment ≡ true → by_sends c p s t ys ≡ true
   sent_is z [] is e s closes = absurd (let w : None ≡ Some z = sym is ∙ e in cc)
   sent_is z (y ∷ ys) is e s closes =
       let w : Some (record { request = y.request; moment = y.moment }) ≡ Some z = sym is ∙ e in
       let i : y.request ≡ z.request = ap request_or w in
       let j : y.moment ≡ z.moment = ap moment_or w in
-      ap₂ (sent_closes p t) i j ∙ closes
+      ap₂ (sent_closes c p t) i j ∙ closes
 
-  none_is : (ys : List Sent) → sending p h ≡ last_of ys → sending p h ≡ None → (s : ℕ) → unsent_closes s t ≡ true → by_sends p s t ys ≡ true
+  none_is : (ys : List Sent) → sending p h ≡ last_of ys → sending p h ≡ None → (s : ℕ) → unsent_closes s t ≡ true → by_sends c p s t ys ≡ true
   none_is [] is e s closes = closes
   none_is (y ∷ ys) is e s closes = absurd (let w : None ≡ Some (record { request = y.request; moment = y.moment }) = sym e ∙ is in cc)
 
-  so_dgram : (s : ℕ) → site p h ≡ Some (record { via = Dgram; server = s }) → MayCloseDgram c p x t.row.now.event.what h end → dgram_closes p s t ≡ true
+  so_dgram : (s : ℕ) → site p h ≡ Some (record { via = Dgram; server = s }) → MayCloseDgram c p x t.row.now.event.what h end → dgram_closes c p s t ≡ true
   so_dgram s at may = go may
     where
       is : sending p h ≡ last_of (listed p t.here.now.books.sends.sent)
       is = sym (known.here.books.sends.sendings p)
 
-      behind : by_sends p s t (listed p t.here.now.books.sends.sent) ≡ true → dgram_closes p s t ≡ true
+      behind : by_sends c p s t (listed p t.here.now.books.sends.sent) ≡ true → dgram_closes c p s t ≡ true
       behind e = second_true (told_seen p t.row.now.event.what) _ e
 
       server_is : (z : Site) → site p h ≡ Some z → z.server ≡ s
       server_is z e = ap server_or (sym e ∙ at)
 
-      go : MayCloseDgram c p x t.row.now.event.what h end → dgram_closes p s t ≡ true
+      go : MayCloseDgram c p x t.row.now.event.what h end → dgram_closes c p s t ≡ true
       go (ItsFault e) = first_true (told_seen p t.row.now.event.what) _ (told_is p t.row.now.event.what ∙ e)
       go (ItsAnswer z e a) = behind (sent_is z (listed p t.here.now.books.sends.sent) is e s (first_true (some_answer_at p z.request t.comings.now) _ (was_answered z.request a)))
-      go (ItsTimeout z e le) = behind (sent_is z (listed p t.here.now.books.sends.sent) is e s (second_true (some_answer_at p z.request t.comings.now) _ (first_true (nat_le (z.moment + 5000000) t.here.now.books.requests.clock) _ (ap (nat_le (z.moment + 5000000)) known.here.books.requests.time ∙ so_due z.moment (now h) le))))
+      go (ItsTimeout z e le) = behind (sent_is z (listed p t.here.now.books.sends.sent) is e s (second_true (some_answer_at p z.request t.comings.now) _ (first_true (nat_le (z.moment + read_timeout c) t.here.now.books.requests.clock) _ (ap (nat_le (z.moment + read_timeout c)) known.here.books.requests.time ∙ so_due c z.moment (now h) le))))
       go (ItsReply z e r) =
-          behind (sent_is z (listed p t.here.now.books.sends.sent) is e s (second_true (some_answer_at p z.request t.comings.now) _ (second_true (nat_le (z.moment + 5000000) t.here.now.books.requests.clock) _
+          behind (sent_is z (listed p t.here.now.books.sends.sent) is e s (second_true (some_answer_at p z.request t.comings.now) _ (second_true (nat_le (z.moment + read_timeout c) t.here.now.books.requests.clock) _
           (all (not (replied_seen z.request t.past.now.books.requests)) _ (ap not (past_is z.request ∙ r.not_before)) (so_here z.request r)))))
       go (ReplyBeforeItsSend z e none k begun r) =
           behind (none_is (listed p t.here.now.books.sends.sent) is none s (second_true (invalid_seen Dgram s t.timers.now.invalid) _
@@ -296,14 +296,17 @@ module _ (p : ℕ) (t : Point) where
       go (OfDgram s at m) = absurd (nowhere Dgram s at)
       go (OfStream s at m) = absurd (nowhere Stream s at)
 
-  pub tells_dgram : (b : Bool) (y : Place) → entry_at p t.here.now.books.places ≡ Some y → y.via ≡ Dgram → b ≡ dgram_closes p y.server t → TellsReason p t b
-  tells_dgram b y there v e c x h end known = ((λ u. OfDgram y.server (sited Dgram y.server p h at) (dgram_so c x h end t known p y.server at (sym e ∙ u))), go)
+  pub tells_dgram : (b : Bool) (y : Place) → entry_at p t.here.now.books.places ≡ Some y → y.via ≡ Dgram → b ≡ dgram_closes t.conf.now p y.server t → TellsReason p t b
+  tells_dgram b y there v e c x h end known = ((λ u. OfDgram y.server (sited Dgram y.server p h at) (dgram_so c x h end t known p y.server at (sym closes ∙ u))), go)
     where
+      closes : b ≡ dgram_closes c p y.server t
+      closes = e ∙ ap (λ (v : Conf). dgram_closes v p y.server t) known.conf
+
       at : site p h ≡ Some (record { via = Dgram; server = y.server })
       at = sym (known.here.books.places.sites p) ∙ (ap site_seen there ∙ ap (λ (v : Via). Some (record { via = v; server = y.server })) v)
 
       go : MayClose c p x t.row.now.event.what h end → b ≡ true
-      go (OfDgram s is m) = e ∙ so_dgram c x h end t known p y.server at m
+      go (OfDgram s is m) = closes ∙ so_dgram c x h end t known p y.server at m
       go (OfStream s is m) = absurd (other_kind y.server s (site p h) (sited Dgram y.server p h at) is)
 
   pub tells_stream_reason : (b : Bool) (y : Place) → entry_at p t.here.now.books.places ≡ Some y → y.via ≡ Stream → TellsStreamClose p t b → TellsReason p t b

@@ -64,33 +64,39 @@ module _ (c : Conf) (x h end : History) (t : Point) (known : Known c x h end t) 
   pub bad_there : bad_at p t.here.now.frames.brought ≡ has_bad (came p t.row.now.event.what x)
   bad_there = bad_of p t.here.now.frames.brought ∙ ap has_bad (known.here.frames.here p ∙ came_is)
 
-  read : (read_due p t.here.now.books.requests.clock t.past.now t.past_timers.now ≡ true → ReadTimerIsDue p (now h) x) × (ReadTimerIsDue p (now h) x → read_due p t.here.now.books.requests.clock t.past.now t.past_timers.now ≡ true)
-  read = subst (λ (n : ℕ). (read_due p t.here.now.books.requests.clock t.past.now t.past_timers.now ≡ true → ReadTimerIsDue p n x) × (ReadTimerIsDue p n x → read_due p t.here.now.books.requests.clock t.past.now t.past_timers.now ≡ true)) known.here.books.requests.time
-      (tells_read_timer p t.here.now.books.requests.clock t.past.now t.past_timers.now (read_due p t.here.now.books.requests.clock t.past.now t.past_timers.now) refl x known.past known.past_timers)
+  read : (read_due c p t.here.now.books.requests.clock t.past.now t.past_timers.now ≡ true → ReadTimerIsDue c p (now h) x) × (ReadTimerIsDue c p (now h) x → read_due c p t.here.now.books.requests.clock t.past.now t.past_timers.now ≡ true)
+  read = subst (λ (n : ℕ). (read_due c p t.here.now.books.requests.clock t.past.now t.past_timers.now ≡ true → ReadTimerIsDue c p n x) × (ReadTimerIsDue c p n x → read_due c p t.here.now.books.requests.clock t.past.now t.past_timers.now ≡ true)) known.here.books.requests.time
+      (tells_read_timer c p t.here.now.books.requests.clock t.past.now t.past_timers.now (read_due c p t.here.now.books.requests.clock t.past.now t.past_timers.now) refl x known.past known.past_timers)
 
-  stream_so : (idle : Bool) → TellsIdleTimer p t.here.now t.timers.now idle → (stream_closes p t || idle) ≡ true → MayCloseStream p x t.row.now.event.what h
-  stream_so idle tells e = go (either (stream_closes p t) idle e)
+  stream_so : (idle : Bool) → TellsIdleTimer c p t.here.now t.timers.now idle → (stream_closes c p t || idle) ≡ true → MayCloseStream c p x t.row.now.event.what h
+  stream_so idle tells e = go (either (stream_closes c p t) idle e)
     where
-      bad : (bad_at p t.here.now.frames.brought ≡ true) ⊎ (read_due p t.here.now.books.requests.clock t.past.now t.past_timers.now ≡ true) → MayCloseStream p x t.row.now.event.what h
+      bad : (bad_at p t.here.now.frames.brought ≡ true) ⊎ (read_due c p t.here.now.books.requests.clock t.past.now t.past_timers.now ≡ true) → MayCloseStream c p x t.row.now.event.what h
       bad (inl e) = BadFrame (sym bad_there ∙ e)
       bad (inr e) = ReadTimer (read.0 e)
 
-      early : (told_seen p t.row.now.event.what ≡ true) ⊎ ((bad_at p t.here.now.frames.brought || read_due p t.here.now.books.requests.clock t.past.now t.past_timers.now) ≡ true) → MayCloseStream p x t.row.now.event.what h
+      early : (told_seen p t.row.now.event.what ≡ true) ⊎ ((bad_at p t.here.now.frames.brought || read_due c p t.here.now.books.requests.clock t.past.now t.past_timers.now) ≡ true) → MayCloseStream c p x t.row.now.event.what h
       early (inl e) = StreamFault (sym (told_is p t.row.now.event.what) ∙ e)
       early (inr e) = bad (either (bad_at p t.here.now.frames.brought) _ e)
 
-      go : (stream_closes p t ≡ true) ⊎ (idle ≡ true) → MayCloseStream p x t.row.now.event.what h
+      go : (stream_closes c p t ≡ true) ⊎ (idle ≡ true) → MayCloseStream c p x t.row.now.event.what h
       go (inl e) = early (either (told_seen p t.row.now.event.what) _ e)
       go (inr e) = IdleTimer ((tells h known.here known.timers).0 e)
 
-  so_stream : (idle : Bool) → TellsIdleTimer p t.here.now t.timers.now idle → MayCloseStream p x t.row.now.event.what h → (stream_closes p t || idle) ≡ true
-  so_stream idle tells (StreamFault e) = first_true (stream_closes p t) idle (first_true (told_seen p t.row.now.event.what) _ (told_is p t.row.now.event.what ∙ e))
-  so_stream idle tells (BadFrame e) = first_true (stream_closes p t) idle (second_true (told_seen p t.row.now.event.what) _ (first_true (bad_at p t.here.now.frames.brought) _ (bad_there ∙ e)))
-  so_stream idle tells (ReadTimer d) = first_true (stream_closes p t) idle (second_true (told_seen p t.row.now.event.what) _ (second_true (bad_at p t.here.now.frames.brought) _ (read.1 d)))
-  so_stream idle tells (IdleTimer d) = second_true (stream_closes p t) idle ((tells h known.here known.timers).1 d)
+  so_stream : (idle : Bool) → TellsIdleTimer c p t.here.now t.timers.now idle → MayCloseStream c p x t.row.now.event.what h → (stream_closes c p t || idle) ≡ true
+  so_stream idle tells (StreamFault e) = first_true (stream_closes c p t) idle (first_true (told_seen p t.row.now.event.what) _ (told_is p t.row.now.event.what ∙ e))
+  so_stream idle tells (BadFrame e) = first_true (stream_closes c p t) idle (second_true (told_seen p t.row.now.event.what) _ (first_true (bad_at p t.here.now.frames.brought) _ (bad_there ∙ e)))
+  so_stream idle tells (ReadTimer d) = first_true (stream_closes c p t) idle (second_true (told_seen p t.row.now.event.what) _ (second_true (bad_at p t.here.now.frames.brought) _ (read.1 d)))
+  so_stream idle tells (IdleTimer d) = second_true (stream_closes c p t) idle ((tells h known.here known.timers).1 d)
 
-pub tells_stream : (p : ℕ) (t : Point) (idle b : Bool) → TellsIdleTimer p t.here.now t.timers.now idle → b ≡ (stream_closes p t || idle) → TellsStreamClose p t b
-tells_stream p t idle b tells e c x h end known = ((λ u. stream_so c x h end t known p idle tells (sym e ∙ u)), (λ m. e ∙ so_stream c x h end t known p idle tells m))
+pub tells_stream : (p : ℕ) (t : Point) (idle b : Bool) → TellsIdleTimer t.conf.now p t.here.now t.timers.now idle → b ≡ (stream_closes t.conf.now p t || idle) → TellsStreamClose p t b
+tells_stream p t idle b tells e c x h end known = ((λ u. stream_so c x h end t known p idle told (sym is ∙ u)), (λ m. is ∙ so_stream c x h end t known p idle told m))
+  where
+    told : TellsIdleTimer c p t.here.now t.timers.now idle
+    told = subst (λ (v : Conf). TellsIdleTimer v p t.here.now t.timers.now idle) known.conf tells
+
+    is : b ≡ (stream_closes c p t || idle)
+    is = e ∙ ap (λ (v : Conf). stream_closes v p t || idle) known.conf
 
 -- connections that end badly
 
@@ -101,14 +107,14 @@ module _ (c : Conf) (x h end : History) (t : Point) (known : Known c x h end t) 
   is_unwritten_here : unwritten_seen p t.timers.now.writing ≡ is_unwritten p h
   is_unwritten_here = leaving.goes_on.tells h t.timers.now.writing p known.timers.writes
 
-  end_so : (idle : Bool) → TellsIdleTimer p t.here.now t.timers.now idle → bad_end p t idle ≡ true → EndsBadly p h
-  end_so idle tells e = go (either (stream_closes p t) _ e)
+  end_so : (idle : Bool) → TellsIdleTimer c p t.here.now t.timers.now idle → bad_end c p t idle ≡ true → EndsBadly c p h
+  end_so idle tells e = go (either (stream_closes c p t) _ e)
     where
-      bad : (bad_at p t.here.now.frames.brought ≡ true) ⊎ (read_due p t.here.now.books.requests.clock t.past.now t.past_timers.now ≡ true) → EndsBadly p h
+      bad : (bad_at p t.here.now.frames.brought ≡ true) ⊎ (read_due c p t.here.now.books.requests.clock t.past.now t.past_timers.now ≡ true) → EndsBadly c p h
       bad (inl e) = ByBadFrame (ap has_bad (came_is c x h end t known p) ∙ (sym (bad_there c x h end t known p) ∙ e))
-      bad (inr e) = ByReadTimer (subst (ReadTimerIsDue p (now h)) (sym known.before) ((read c x h end t known p).0 e))
+      bad (inr e) = ByReadTimer (subst (ReadTimerIsDue c p (now h)) (sym known.before) ((read c x h end t known p).0 e))
 
-      early : (told_seen p t.row.now.event.what ≡ true) ⊎ ((bad_at p t.here.now.frames.brought || read_due p t.here.now.books.requests.clock t.past.now t.past_timers.now) ≡ true) → EndsBadly p h
+      early : (told_seen p t.row.now.event.what ≡ true) ⊎ ((bad_at p t.here.now.frames.brought || read_due c p t.here.now.books.requests.clock t.past.now t.past_timers.now) ≡ true) → EndsBadly c p h
       early (inl e) = ByFault (ap (is_told p) known.event ∙ (sym (told_is p t.row.now.event.what) ∙ e))
       early (inr e) = bad (either (bad_at p t.here.now.frames.brought) _ e)
 
@@ -116,18 +122,24 @@ module _ (c : Conf) (x h end : History) (t : Point) (known : Known c x h end t) 
       amid (inl e) = inl (sym was_unwritten ∙ e)
       amid (inr e) = inr (sym is_unwritten_here ∙ e)
 
-      go : (stream_closes p t ≡ true) ⊎ ((idle && (unwritten_seen p t.past_timers.now.writing || unwritten_seen p t.timers.now.writing)) ≡ true) → EndsBadly p h
+      go : (stream_closes c p t ≡ true) ⊎ ((idle && (unwritten_seen p t.past_timers.now.writing || unwritten_seen p t.timers.now.writing)) ≡ true) → EndsBadly c p h
       go (inl e) = early (either (told_seen p t.row.now.event.what) _ e)
       go (inr e) =
           let q = both idle _ e in
           IdleAmidWriting ((tells h known.here known.timers).0 q.0) (amid (either (unwritten_seen p t.past_timers.now.writing) _ q.1))
 
-  so_end : (idle : Bool) → TellsIdleTimer p t.here.now t.timers.now idle → EndsBadly p h → bad_end p t idle ≡ true
-  so_end idle tells (ByFault e) = first_true (stream_closes p t) _ (first_true (told_seen p t.row.now.event.what) _ (told_is p t.row.now.event.what ∙ (ap (is_told p) (sym known.event) ∙ e)))
-  so_end idle tells (ByBadFrame e) = first_true (stream_closes p t) _ (second_true (told_seen p t.row.now.event.what) _ (first_true (bad_at p t.here.now.frames.brought) _ (bad_there c x h end t known p ∙ (ap has_bad (sym (came_is c x h end t known p)) ∙ e))))
-  so_end idle tells (ByReadTimer d) = first_true (stream_closes p t) _ (second_true (told_seen p t.row.now.event.what) _ (second_true (bad_at p t.here.now.frames.brought) _ ((read c x h end t known p).1 (subst (ReadTimerIsDue p (now h)) known.before d))))
-  so_end idle tells (IdleAmidWriting d (inl e)) = second_true (stream_closes p t) _ (all idle _ ((tells h known.here known.timers).1 d) (first_true (unwritten_seen p t.past_timers.now.writing) _ (was_unwritten ∙ e)))
-  so_end idle tells (IdleAmidWriting d (inr e)) = second_true (stream_closes p t) _ (all idle _ ((tells h known.here known.timers).1 d) (second_true (unwritten_seen p t.past_timers.now.writing) _ (is_unwritten_here ∙ e)))
+  so_end : (idle : Bool) → TellsIdleTimer c p t.here.now t.timers.now idle → EndsBadly c p h → bad_end c p t idle ≡ true
+  so_end idle tells (ByFault e) = first_true (stream_closes c p t) _ (first_true (told_seen p t.row.now.event.what) _ (told_is p t.row.now.event.what ∙ (ap (is_told p) (sym known.event) ∙ e)))
+  so_end idle tells (ByBadFrame e) = first_true (stream_closes c p t) _ (second_true (told_seen p t.row.now.event.what) _ (first_true (bad_at p t.here.now.frames.brought) _ (bad_there c x h end t known p ∙ (ap has_bad (sym (came_is c x h end t known p)) ∙ e))))
+  so_end idle tells (ByReadTimer d) = first_true (stream_closes c p t) _ (second_true (told_seen p t.row.now.event.what) _ (second_true (bad_at p t.here.now.frames.brought) _ ((read c x h end t known p).1 (subst (ReadTimerIsDue c p (now h)) known.before d))))
+  so_end idle tells (IdleAmidWriting d (inl e)) = second_true (stream_closes c p t) _ (all idle _ ((tells h known.here known.timers).1 d) (first_true (unwritten_seen p t.past_timers.now.writing) _ (was_unwritten ∙ e)))
+  so_end idle tells (IdleAmidWriting d (inr e)) = second_true (stream_closes c p t) _ (all idle _ ((tells h known.here known.timers).1 d) (second_true (unwritten_seen p t.past_timers.now.writing) _ (is_unwritten_here ∙ e)))
 
-pub tells_end : (p : ℕ) (t : Point) (idle b : Bool) → TellsIdleTimer p t.here.now t.timers.now idle → b ≡ bad_end p t idle → TellsBadEnd p t b
-tells_end p t idle b tells e c x h end known = ((λ u. end_so c x h end t known p idle tells (sym e ∙ u)), (λ m. e ∙ so_end c x h end t known p idle tells m))
+pub tells_end : (p : ℕ) (t : Point) (idle b : Bool) → TellsIdleTimer t.conf.now p t.here.now t.timers.now idle → b ≡ bad_end t.conf.now p t idle → TellsBadEnd p t b
+tells_end p t idle b tells e c x h end known = ((λ u. end_so c x h end t known p idle told (sym is ∙ u)), (λ m. is ∙ so_end c x h end t known p idle told m))
+  where
+    told : TellsIdleTimer c p t.here.now t.timers.now idle
+    told = subst (λ (v : Conf). TellsIdleTimer v p t.here.now t.timers.now idle) known.conf tells
+
+    is : b ≡ bad_end c p t idle
+    is = e ∙ ap (λ (v : Conf). bad_end v p t idle) known.conf

@@ -54,10 +54,10 @@ moved c r s p k id m x w w' h h' e n is = record {
   is_open = record {
     stands = is.is_open.stands;
     octets = is.is_open.octets;
-    sent = subst (λ (n : ℕ). IsAmong is.is_open.octets (unanswered r p k id n x)) n is.is_open.sent;
+    sent = subst (λ (n : ℕ). IsAmong is.is_open.octets (unanswered c r p k id n x)) n is.is_open.sent;
     carries = is.is_open.carries;
   };
-  first = ap (λ (w : What). first_of Dgram id (came p w x)) (sym e) ∙ is.first;
+  first = ap (λ (w : What). first_of c Dgram id (came p w x)) (sym e) ∙ is.first;
 }
 
 module _ (c : Conf) (x h end : History) (t : Point) (known : Known c x h end t) where

@@ -5,6 +5,7 @@ use Rattle.client_request.specs.declared.event.What.{What}
 use Rattle.client_request.specs.declared.event.What.TheVariants.{SendFailed, ShortSend, RecvFailed, Wrote, WriteFailed, ReadFailed, Ended}
 use Rattle.client_request.specs.declared.event.Out.{Out}
 use Rattle.client_request.specs.declared.event.Out.TheVariants.{Reply}
+use Rattle.right_trace.specs.Time.{read_timeout}
 use Rattle.right_trace.specs.Trace.{History, Conf}
 use Rattle.right_trace.specs.Messages.{Octets}
 use Rattle.right_trace.specs.Requests.{same_via, is_reply}
@@ -62,21 +63,21 @@ some_reply_there s past here [] = false
 some_reply_there s past here (o ∷ os) = is_reply_there s past here o || some_reply_there s past here os
 
 -- why a place is closed at which request k was sent last
-abbrev pub sent_closes : (p : ℕ) → Point → (k moment : ℕ) → Bool
-sent_closes p t k n =
+abbrev pub sent_closes : (c : Conf) (p : ℕ) → Point → (k moment : ℕ) → Bool
+sent_closes c p t k n =
     some_answer_at p k t.comings.now
-    || (nat_le (n + 5000000) t.here.now.books.requests.clock || replied_here k t.past.now.books.requests t.row.now.outs)
+    || (nat_le (n + read_timeout c) t.here.now.books.requests.clock || replied_here k t.past.now.books.requests t.row.now.outs)
 
 -- why a place of server s is closed at which nothing was sent
 abbrev pub unsent_closes : (s : ℕ) → Point → Bool
 unsent_closes s t = invalid_seen Dgram s t.timers.now.invalid || some_reply_there s t.past.now.books.requests t.here.now.books.requests t.row.now.outs
 
-abbrev pub by_sends : (p s : ℕ) → Point → List Sent → Bool
-by_sends p s t [] = unsent_closes s t
-by_sends p s t (y ∷ ys) = sent_closes p t y.request y.moment
+abbrev pub by_sends : (c : Conf) (p s : ℕ) → Point → List Sent → Bool
+by_sends c p s t [] = unsent_closes s t
+by_sends c p s t (y ∷ ys) = sent_closes c p t y.request y.moment
 
-abbrev pub dgram_closes : (p s : ℕ) → Point → Bool
-dgram_closes p s t = told_seen p t.row.now.event.what || by_sends p s t (listed p t.here.now.books.sends.sent)
+abbrev pub dgram_closes : (c : Conf) (p s : ℕ) → Point → Bool
+dgram_closes c p s t = told_seen p t.row.now.event.what || by_sends c p s t (listed p t.here.now.books.sends.sent)
 
 abbrev pub bad_in : List Octets → Bool
 bad_in [] = false
@@ -87,21 +88,21 @@ bad_at p None = false
 bad_at p (Some b) = (b.place == p) && bad_in b.frames
 
 -- why a stream place is closed, but for its idle timer
-abbrev pub stream_closes : (p : ℕ) → Point → Bool
-stream_closes p t =
+abbrev pub stream_closes : (c : Conf) (p : ℕ) → Point → Bool
+stream_closes c p t =
     told_seen p t.row.now.event.what
-    || (bad_at p t.here.now.frames.brought || read_due p t.here.now.books.requests.clock t.past.now t.past_timers.now)
+    || (bad_at p t.here.now.frames.brought || read_due c p t.here.now.books.requests.clock t.past.now t.past_timers.now)
 
 -- the answer, of all that is known at the point
 abbrev pub TellsStreamClose : (p : ℕ) → Point → Bool → Type 0
-TellsStreamClose p t b = (c : Conf) (x h end : History) → Known c x h end t → Tells (MayCloseStream p x t.row.now.event.what h) b
+TellsStreamClose p t b = (c : Conf) (x h end : History) → Known c x h end t → Tells (MayCloseStream c p x t.row.now.event.what h) b
 
 -- why a connection that is closed makes its requests back off, with an answer for the idle timer
-abbrev pub bad_end : (p : ℕ) → Point → (idle : Bool) → Bool
-bad_end p t idle = stream_closes p t || (idle && (unwritten_seen p t.past_timers.now.writing || unwritten_seen p t.timers.now.writing))
+abbrev pub bad_end : (c : Conf) (p : ℕ) → Point → (idle : Bool) → Bool
+bad_end c p t idle = stream_closes c p t || (idle && (unwritten_seen p t.past_timers.now.writing || unwritten_seen p t.timers.now.writing))
 
 abbrev pub TellsBadEnd : (p : ℕ) → Point → Bool → Type 0
-TellsBadEnd p t b = (c : Conf) (x h end : History) → Known c x h end t → Tells (EndsBadly p h) b
+TellsBadEnd p t b = (c : Conf) (x h end : History) → Known c x h end t → Tells (EndsBadly c p h) b
 
 -- the answer of why a place may be closed, of all that is known at the point
 abbrev pub TellsReason : (p : ℕ) → Point → Bool → Type 0

@@ -19,13 +19,14 @@ pub record Comings (c : Conf) (x h : History) (p : Point) : Type 0 where
 -- `x` is what happened before the row, `h` what happened up to here, and `end` what happened when the row is done
 pub record Known (c : Conf) (x h end : History) (p : Point) : Type 0 where
   pub past : ledger.Known x p.past.now
-  pub past_timers : timers.Known x p.past_timers.now
+  pub past_timers : timers.Known c x p.past_timers.now
   pub here : ledger.Known h p.here.now
-  pub timers : timers.Known h p.timers.now
+  pub timers : timers.Known c h p.timers.now
   pub made : here_outs.Known p.past.now.books.places h p.made.now
   pub before : row_before h ≡ x
   pub event : newest h ≡ p.row.now.event.what
   pub behind : end ≡ after p.row.now x
+  pub conf : p.conf.now ≡ c
   pub servers : c.servers ≡ map use_of p.servers.now
   pub comings : Comings c x h p
 

@@ -122,11 +122,11 @@ fn has_bad_at(brought: &Option<Brought>, place: u64) -> bool
 
 /// Whether a place at which a request was sent last, at a moment, may be closed for it.
 fn sent_closes(point: &Point<'_>, place: u64, request: u64, moment: u64) -> bool
-    ensures { result ≡ plain.sent_closes place point.now request moment }
+    ensures { result ≡ plain.sent_closes point.now.conf.now place point.now request moment }
 {
     let now = point.here.books.requests.clock;
     some_answer_at(place, request, point.comings)
-        || u128::from(moment) + 5_000_000 <= u128::from(now)
+        || u128::from(moment) + point.conf.read_timeout().as_micros() <= u128::from(now)
         || !point.past.books.requests.is_replied(request)
             && some_reply(request, point.row.outs.as_slice())
 }
@@ -146,7 +146,7 @@ fn unsent_closes(point: &Point<'_>, server: u32) -> bool
 
 /// The one or the other, by what was sent.
 fn by_sends(point: &Point<'_>, place: u64, server: u32, sends: &Newest<Sent>) -> bool
-    ensures { result ≡ plain.by_sends place server point.now sends.now }
+    ensures { result ≡ plain.by_sends point.now.conf.now place server point.now sends.now }
 {
     match sends.into_iter().next() {
         None => unsent_closes(point, server),
@@ -156,7 +156,7 @@ fn by_sends(point: &Point<'_>, place: u64, server: u32, sends: &Newest<Sent>) ->
 
 /// Whether a datagram place of a server may be closed.
 fn dgram_closes(point: &Point<'_>, place: u64, server: u32) -> bool
-    ensures { result ≡ plain.dgram_closes place server point.now }
+    ensures { result ≡ plain.dgram_closes point.now.conf.now place server point.now }
 {
     if is_told(place, &point.row.event.what) {
         return true;
@@ -169,11 +169,12 @@ fn dgram_closes(point: &Point<'_>, place: u64, server: u32) -> bool
 
 /// Whether a stream place may be closed for another reason than its idle timer.
 fn stream_closes(point: &Point<'_>, place: u64) -> bool
-    ensures { result ≡ plain.stream_closes place point.now }
+    ensures { result ≡ plain.stream_closes point.now.conf.now place point.now }
 {
     is_told(place, &point.row.event.what)
         || has_bad_at(&point.here.frames.brought, place)
         || is_read_timer_due(
+            point.conf,
             point.past,
             point.past_timers,
             place,
@@ -183,7 +184,7 @@ fn stream_closes(point: &Point<'_>, place: u64) -> bool
 
 /// The same, with an answer for its idle timer.
 fn stream_closes_or(point: &Point<'_>, place: u64, is_idle: bool) -> bool
-    ensures { result ≡ (plain.stream_closes place point.now || is_idle) }
+    ensures { result ≡ (plain.stream_closes point.now.conf.now place point.now || is_idle) }
 {
     stream_closes(point, place) || is_idle
 }
@@ -193,7 +194,7 @@ fn stream_closes_or(point: &Point<'_>, place: u64, is_idle: bool) -> bool
 pub fn may_close_stream(alloc: Global, point: &Point<'_>, place: u64) -> Result<bool, NoMemory>
     ensures { IfOk result (plain.TellsStreamClose place point.now) }
 {
-    let is_idle = is_idle_timer_due(alloc, point.here, point.timers, place)?;
+    let is_idle = is_idle_timer_due(point.conf, alloc, point.here, point.timers, place)?;
     Ok(stream_closes_or(point, place, is_idle))
 }
 
@@ -206,7 +207,7 @@ fn is_amid_writing(point: &Point<'_>, place: u64) -> bool
 
 /// Whether a connection ends badly, with an answer for its idle timer.
 fn is_bad_end(point: &Point<'_>, place: u64, is_idle: bool) -> bool
-    ensures { result ≡ plain.bad_end place point.now is_idle }
+    ensures { result ≡ plain.bad_end point.now.conf.now place point.now is_idle }
 {
     stream_closes(point, place) || is_idle && is_amid_writing(point, place)
 }
@@ -216,7 +217,7 @@ fn is_bad_end(point: &Point<'_>, place: u64, is_idle: bool) -> bool
 pub fn ends_badly(alloc: Global, point: &Point<'_>, place: u64) -> Result<bool, NoMemory>
     ensures { IfOk result (plain.TellsBadEnd place point.now) }
 {
-    let is_idle = is_idle_timer_due(alloc, point.here, point.timers, place)?;
+    let is_idle = is_idle_timer_due(point.conf, alloc, point.here, point.timers, place)?;
     Ok(is_bad_end(point, place, is_idle))
 }
 

@@ -7,10 +7,11 @@ use client_request::Row;
 use trace_due::Timers;
 use trace_exchanges::Coming;
 use trace_frames::{Here, Ledger};
-use trace_questions::ServerUse;
+use trace_questions::{ServerUse, TraceConf};
 
 /// What is known at a point within a row, and what was known before the row.
 pub struct Point<'a> {
+    pub conf: &'a TraceConf,
     /// How each server is used, in order.
     pub servers: &'a [ServerUse],
     pub row: &'a Row,
@@ -29,6 +30,7 @@ pub struct Point<'a> {
 impl Drop for Point<'_> {
     fn drop(self) {
         let Point {
+            conf: _,
             servers: _,
             row: _,
             past: _,

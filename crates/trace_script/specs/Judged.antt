@@ -1,6 +1,7 @@
 -- By what a trace is judged: what its script says of servers and settings.
 use Rattle.std.specs.Prelude.{Bool, true, false, ◌||◌, map}
 use Rattle.client_settings.specs.Settings.{RedundantSettings, CacheSettings}
+use Rattle.client_settings.specs.declared.settings.Transports.{Transports}
 use Rattle.right_trace.specs.Settings.{Settings}
 use Rattle.right_trace.specs.Trace.{Conf}
 use Rattle.resolv_conf.specs.declared.conf.ResolvConf.{ResolvConf}
@@ -24,9 +25,9 @@ use_if false = uses.Datagrams
 abbrev pub use_of : (use_vc : Bool) → ServerConf → ServerUse
 use_of use_vc server = use_if (is_by_streams use_vc server.transport)
 
--- each server by how it is asked, and the timeout in microseconds
-abbrev pub conf_of : ResolvConf → Conf
-conf_of conf = configured.conf_of (map (use_of conf.options.use_vc) conf.servers) conf.options.timeout
+-- each server by how it is asked, the timeout in microseconds, and the settings of transports
+abbrev pub conf_of : ResolvConf → Transports → Conf
+conf_of conf t = configured.conf_of (map (use_of conf.options.use_vc) conf.servers) conf.options.timeout t
 
 -- what is deferred, and how long what may be kept
 abbrev pub settings_of : RedundantSettings → CacheSettings → Settings

@@ -3,7 +3,7 @@
 ghost use Rattle.std.specs.Prelude.{◌≡◌, map, IfOk};
 ghost use Rattle.trace_script.specs.Judged as plain;
 
-use client_settings::{cache, redundant};
+use client_settings::{Transports, cache, redundant};
 use dns_base::NoMemory;
 use resolv_conf::{ResolvConf, ServerConf, Transport};
 use std::alloc::Global;
@@ -35,12 +35,16 @@ pub fn uses_of(
     Ok(uses)
 }
 
-/// How each server of a configuration is used, and the timeout of a request.
-pub fn conf_of(alloc: Global, conf: &ResolvConf) -> Result<TraceConf, NoMemory>
-    ensures { IfOk result (λ c. c ≡ plain.conf_of conf.now) }
+/// How each server of a configuration is used, the timeout of a request, and the settings of transports.
+pub fn conf_of(
+    alloc: Global,
+    conf: &ResolvConf,
+    transports: Transports,
+) -> Result<TraceConf, NoMemory>
+    ensures { IfOk result (λ c. c ≡ plain.conf_of conf.now transports) }
 {
     let uses = uses_of(alloc, conf.options.use_vc, conf.servers.as_slice())?;
-    Ok(TraceConf::new(uses, conf.options.timeout))
+    Ok(TraceConf::new(alloc, uses, conf.options.timeout, transports))
 }
 
 /// What the settings of the choice among servers defer, and how long the cache may keep what.

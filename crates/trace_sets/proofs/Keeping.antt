@@ -5,7 +5,7 @@ use Rattle.std.specs.Prelude.{Result, Ok, Err, OnOk}
 use Rattle.std.proofs.lemmas.Bool.Decides.{nat_tests}
 use Rattle.number_table.specs.Entries.{puts, frees, entry_at}
 use Rattle.right_trace.specs.Time.{count_below}
-use Rattle.trace_sets.specs.Sets.{Members, Sets, members_or_none, members, has, size, joins, leaves, some_of, Rise, AreSets, Holds, SetsGoOn}
+use Rattle.trace_sets.specs.Sets.{Members, Sets, members_or_none, members, has, size, joins, leaves, some_of, count_of, Rise, AreSets, Holds, SetsGoOn}
 use Rattle.trace_sets.proofs.Counting.{count_same, none_counted, one_more}
 
 -- what holds once a call went well
@@ -157,38 +157,70 @@ leave_rise key n t are = record { rise = λ k. subst (Rise 0) (sym (members_put 
 abbrev pub is_in : Members → ℕ → Bool
 is_in es m = is_some (entry_at m es)
 
+-- of a first one, and of the others
+module _ (e : ℕ × Unit {0}) (es : Members) where
+  in_first : is_in (e ∷ es) e.0 ≡ true
+  in_first = ap (λ b. is_some (cond b (Some e.1) (entry_at e.0 es))) (equal e.0)
+    where
+      equal : (a : ℕ) → is_eq (nat_cmp a a) ≡ true
+      equal a = grind (arith, nat_tests)
+
+  in_more : (m : ℕ) → is_in es m ≡ true → is_in (e ∷ es) m ≡ true
+  in_more m i = go (is_eq (nat_cmp m e.0))
+    where
+      go : (b : Bool) → is_some (cond b (Some e.1) (entry_at m es)) ≡ true
+      go true = refl
+      go false = i
+
+  in_other : (m : ℕ) → (m == e.0) ≡ false → is_in (e ∷ es) m ≡ is_in es m
+  in_other m h = ap (λ b. is_some (cond b (Some e.1) (entry_at m es))) (unequal m e.0 h)
+    where
+      unequal : (m a : ℕ) → (m == a) ≡ false → is_eq (nat_cmp m a) ≡ false
+      unequal m a h = grind (arith, nat_tests)
+
+  not_in_rest : Rise (suc e.0) es → is_in es e.0 ≡ false
+  not_in_rest r = ap is_some (none_above e.0 (suc e.0) es (own e.0) r)
+    where
+      own : (a : ℕ) → a < suc a
+      own a = omega arith
+
 as_many : (least n : ℕ) (es : Members) → Rise least es → ((m : ℕ) → is_in es m ≡ true → m < n) → length es ≡ count_below (is_in es) n
 as_many least n [] r below = sym (none_counted (is_in []) n (λ m. refl))
 as_many least n (e ∷ es) r below =
-    ap suc (as_many (suc e.0) n es r.1 (λ m i. below m (more m i)))
-    ∙ sym (one_more (is_in es) (is_in (e ∷ es)) e.0 n (below e.0 here) here (ap is_some (none_above e.0 (suc e.0) es (own e.0) r.1)) other)
-  where
-    own : (a : ℕ) → a < suc a
-    own a = omega arith
-
-    equal : (a : ℕ) → is_eq (nat_cmp a a) ≡ true
-    equal a = grind (arith, nat_tests)
-
-    unequal : (m a : ℕ) → (m == a) ≡ false → is_eq (nat_cmp m a) ≡ false
-    unequal m a h = grind (arith, nat_tests)
-
-    here : is_in (e ∷ es) e.0 ≡ true
-    here = ap (λ b. is_some (cond b (Some e.1) (entry_at e.0 es))) (equal e.0)
-
-    more : (m : ℕ) → is_in es m ≡ true → is_in (e ∷ es) m ≡ true
-    more m i = go (is_eq (nat_cmp m e.0))
-      where
-        go : (b : Bool) → is_some (cond b (Some e.1) (entry_at m es)) ≡ true
-        go true = refl
-        go false = i
-
-    other : (m : ℕ) → (m == e.0) ≡ false → is_in (e ∷ es) m ≡ is_in es m
-    other m h = ap (λ b. is_some (cond b (Some e.1) (entry_at m es))) (unequal m e.0 h)
+    ap suc (as_many (suc e.0) n es r.1 (λ m i. below m (in_more e es m i)))
+    ∙ sym (one_more (is_in es) (is_in (e ∷ es)) e.0 n (below e.0 (in_first e es)) (in_first e es) (not_in_rest e es r.1) (in_other e es))
 
 counted : (key n : ℕ) (f : ℕ → Bool) (t : Sets) → AreSets t → Holds key n f t → size key t ≡ count_below f n
 counted key n f t are is =
     as_many 0 n (members key t) (are.rise key) (λ m i. is.below m (sym (is.same m) ∙ i))
     ∙ count_same (is_in (members key t)) f n is.same
+
+-- how many pass
+neither : (a b c : Bool) → c ≡ false → (a && c) ≡ (b && c)
+neither true true c e = refl
+neither true false c e = e
+neither false true c e = sym e
+neither false false c e = refl
+
+as_many_pass : (g : ℕ → Bool) (least n : ℕ) (es : Members) → Rise least es → ((m : ℕ) → is_in es m ≡ true → m < n) → count_of g es ≡ count_below (λ m. is_in es m && g m) n
+as_many_pass g least n [] r below = sym (none_counted (λ m. is_in [] m && g m) n (λ m. refl))
+as_many_pass g least n (e ∷ es) r below = go (g e.0) refl (as_many_pass g (suc e.0) n es r.1 (λ m i. below m (in_more e es m i)))
+  where
+    same : (m : ℕ) (b : Bool) → (m == e.0) ≡ b → g e.0 ≡ false → (is_in (e ∷ es) m && g m) ≡ (is_in es m && g m)
+    same m true h i = neither (is_in (e ∷ es) m) (is_in es m) (g m) (ap g (same_number m e.0 h) ∙ i)
+    same m false h i = ap (λ a. a && g m) (in_other e es m h)
+
+    go : (b : Bool) → g e.0 ≡ b → count_of g es ≡ count_below (λ m. is_in es m && g m) n → (if b then suc (count_of g es) else count_of g es) ≡ count_below (λ m. is_in (e ∷ es) m && g m) n
+    go true i rest =
+        ap suc rest
+        ∙ sym (one_more (λ m. is_in es m && g m) (λ m. is_in (e ∷ es) m && g m) e.0 n (below e.0 (in_first e es)) (ap₂ (λ a b. a && b) (in_first e es) i)
+        (ap (λ a. a && g e.0) (not_in_rest e es r.1)) (λ m h. ap (λ a. a && g m) (in_other e es m h)))
+    go false i rest = rest ∙ sym (count_same (λ m. is_in (e ∷ es) m && g m) (λ m. is_in es m && g m) n (λ m. same m (m == e.0) refl i))
+
+passing : (key n : ℕ) (f g : ℕ → Bool) (t : Sets) → AreSets t → Holds key n f t → count_of g (members key t) ≡ count_below (λ m. f m && g m) n
+passing key n f g t are is =
+    as_many_pass g 0 n (members key t) (are.rise key) (λ m i. is.below m (sym (is.same m) ∙ i))
+    ∙ count_same (λ m. is_in (members key t) m && g m) (λ m. f m && g m) n (λ m. ap (λ a. a && g m) (is.same m))
 
 -- what a walk finds
 pub found_in : (f : ℕ → Bool) (es : Members) → some_of f es ≡ true → (n : ℕ) × (is_in es n ≡ true) × (f n ≡ true)
@@ -232,6 +264,7 @@ goes_on = record {
   joined = joined;
   left = left;
   counted = counted;
+  passing = passing;
   found = λ key f t e. found_in f (members key t) e;
   finds = λ key n f t i g. finds_in f n (members key t) i g;
 }

@@ -1,5 +1,5 @@
 -- Sets of numbers, each under a key, and how many numbers each has.
-use Rattle.std.specs.Prelude.{◌≡◌, ℕ, suc, ◌+◌, ◌<◌, ◌≤◌, ◌==◌, ◌&&◌, ◌||◌, not, Bool, true, false, is_some, length, List, [], ◌∷◌, Option, Some, None}
+use Rattle.std.specs.Prelude.{◌≡◌, ℕ, suc, ◌+◌, ◌<◌, ◌≤◌, ◌==◌, ◌&&◌, ◌||◌, not, Bool, true, false, if◌then◌else◌, is_some, length, List, [], ◌∷◌, Option, Some, None}
 use Rattle.number_table.specs.Entries.{puts, frees, entry_at}
 use Rattle.right_trace.specs.Time.{count_below}
 
@@ -37,6 +37,11 @@ abbrev pub some_of : (ℕ → Bool) → Members → Bool
 some_of f [] = false
 some_of f (e ∷ es) = f e.0 || some_of f es
 
+-- how many of these pass
+abbrev pub count_of : (ℕ → Bool) → Members → ℕ
+count_of f [] = 0
+count_of f (e ∷ es) = if f e.0 then suc (count_of f es) else count_of f es
+
 -- numbers rise, from the least that may be the first on
 abbrev pub Rise : (least : ℕ) → Members → Type 0
 Rise least [] = Unit {0}
@@ -59,5 +64,6 @@ pub record SetsGoOn : Type 0 where
   pub joined : (key n k m : ℕ) (t : Sets) → has k m (joins key n t) ≡ ((key == k && n == m) || has k m t)
   pub left : (key n k m : ℕ) (t : Sets) → AreSets t → has k m (leaves key n t) ≡ (not (key == k && n == m) && has k m t)
   pub counted : (key n : ℕ) (f : ℕ → Bool) (t : Sets) → AreSets t → Holds key n f t → size key t ≡ count_below f n
+  pub passing : (key n : ℕ) (f g : ℕ → Bool) (t : Sets) → AreSets t → Holds key n f t → count_of g (members key t) ≡ count_below (λ m. f m && g m) n
   pub found : (key : ℕ) (f : ℕ → Bool) (t : Sets) → some_of f (members key t) ≡ true → (n : ℕ) × (has key n t ≡ true) × (f n ≡ true)
   pub finds : (key n : ℕ) (f : ℕ → Bool) (t : Sets) → has key n t ≡ true → f n ≡ true → some_of f (members key t) ≡ true

@@ -53,13 +53,13 @@ impl Drop for Sends {
     }
 }
 
-/// How many of these went to a server. Seven are as many as more.
-fn count_at(tries: &Newest<Tried>, server: u32) -> u8
-    ensures { result ≡ min 7 (plain.count_at server tries.now) }
+/// How many of these went to a server. As many as `most` are as many as more.
+fn count_at(tries: &Newest<Tried>, server: u32, most: u64) -> u64
+    ensures { result ≡ min most (plain.count_at server tries.now) }
 {
     let mut count = 0;
     for tried in tries {
-        if tried.server == server && count < 7 {
+        if tried.server == server && count < most {
             count += 1;
         }
     }
@@ -131,13 +131,13 @@ impl Sends {
         add(&mut self.sent, alloc, *place, sent)
     }
 
-    /// How often a request was sent to a server. Seven times are as many as more.
-    pub fn count(&self, request: u64, server: u32) -> u8
-        ensures { result ≡ min 7 (plain.sends_seen request server self.now) }
+    /// How often a request was sent to a server. `most` times are as many as more.
+    pub fn count(&self, request: u64, server: u32, most: u64) -> u64
+        ensures { result ≡ min most (plain.sends_seen request server self.now) }
     {
         match self.tries.get(request) {
             None => 0,
-            Some(tries) => count_at(tries, server),
+            Some(tries) => count_at(tries, server, most),
         }
     }
 

@@ -134,7 +134,7 @@ module _ (c : Conf) (s : Settings) (compose : Request → Result Octets Error) (
         let g = done.goes_on k (b.0) b.1 in
         P.busy (g.0) k a past w (x.ups g.0) h g.1 (kept.parts (g.0) g.1) (done.rests (g.0) g.1) g.2 asked valid waiting
 
-    pub places_here : PlacesAreMet s h
+    pub places_here : PlacesAreMet c s h
     places_here i = elim (cases_lt i (length c.servers)) [
       | inl lt ↦ (
         P.few_places i past w (x.ups i) h lt (kept.parts i lt) (done.rests i lt) (λ k e. held_waits i k lt e),
@@ -277,7 +277,7 @@ module _ (c : Conf) (s : Settings) (compose : Request → Result Octets Error) (
               let b = f.came in
               no_told f.came.server f.came.place f.message f.came.matches.comes.is_open.stands.known f.counts (kept.told b.request b.via b.server b.place k b.id f.message a b.matches q)
             where
-              no_told : (i p : ℕ) (m : Octets) → i < length c.servers → (IsExcused p past w h → ⊥) → IsTold c s P past w x.ups x.board i p k m a h → ⊥
+              no_told : (i p : ℕ) (m : Octets) → i < length c.servers → (IsExcused c p past w h → ⊥) → IsTold c s P past w x.ups x.board i p k m a h → ⊥
               no_told i p m lt counts (IsExpected z) = P.rested (x.ups i) p k m (done.rests i lt) z
               no_told i p m lt counts (IsPosted z) = nothing_in (record { server = i; request = k; result = Ok m }) x.board done.board z
               no_told i p m lt counts (IsKeptBack g l z) = no_message a.kept_back g m l z n

@@ -150,7 +150,7 @@ same_server s t w h a b =
 event_on : (s : ℕ) (w : What) (xs : List Out) (h : History) → IsEventOf s w h → IsEventOf s w (put_all xs h)
 event_on s w xs h a = record { place = a.place; names = a.names; via = a.via; at = site_all a.place xs (record { via = a.via; server = s }) h a.at }
 
-module _ (c : Conf) (s : Settings) (compose : Request → Result Octets Error) (composes : Composes compose) (P : Part c) (past : History) (w : What) (quiet : defers_nothing s ≡ true) where
+module _ (c : Conf) (s : Settings) (compose : Request → Result Octets Error) (composes : Composes c compose) (P : Part c) (past : History) (w : What) (quiet : defers_nothing s ≡ true) where
   -- faults that are on their way
   abbrev on_board : List Posted → ℕ
   on_board = total (λ x. fault_in x.result)
@@ -260,8 +260,8 @@ module _ (c : Conf) (s : Settings) (compose : Request → Result Octets Error) (
       fewer n (n + 0) x (leave z (record x { board = before ++ after })) h f (omega arith) (omega arith) refl
   move_faults n x h _ kept f (Concludes k a y z held tried free none is out) = (let g = best_given a.kept_back y is in absurd (waits_not s (g.0).result quiet ((kept.back k a (g.0) held g.1).waits)))
   move_faults n x h _ kept f (Times_out k a held late) =
-      let l = left x.leaving (record { request = k; asked = a.request; result = Err errors.TimedOut; is_stored = false; stale = None }) in
-      fewer n (n + 0) x (leave (record { request = k; asked = a.request; result = Err errors.TimedOut; is_stored = false; stale = None }) x) h f (omega arith) (omega arith) refl
+      let l = left x.leaving (record { request = k; asked = a.request; result = Err errors.TimedOut; given = Err errors.TimedOut; is_stored = false; stale = None }) in
+      fewer n (n + 0) x (leave (record { request = k; asked = a.request; result = Err errors.TimedOut; given = Err errors.TimedOut; is_stored = false; stale = None }) x) h f (omega arith) (omega arith) refl
   move_faults n x h _ kept f (Replies before after y is) =
       let b : on_leave x.leaving ≡ on_leave (before ++ after) + fault_in y.result = ap on_leave is ∙ total_but (λ z. fault_in z.result) before y after in
       let r = told_faults y.request y.result y.stale in

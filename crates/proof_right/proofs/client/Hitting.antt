@@ -1,6 +1,6 @@
 -- A run with its cache hits.
 use Rattle.right_trace.specs.Parts.{known_parts, Says, IsIn, Parts}
-use Rattle.proof_right.proofs.PartLaws.{machine_of, Part}
+use Rattle.proof_right.proofs.PartLaws.{PostRight, machine_of, Part}
 use Rattle.std.proofs.Common.{◌≡◌, ℕ, suc, ◌+◌, ◌*◌, ◌<◌, ◌≤◌, ◌≢◌, Bool, true, false, ◌⊎◌, inl, inr, Option, Some, None, List, [], ◌∷◌, ◌++◌, refl, arith, sym, ◌∙◌, ap, ap₂, subst, subst₂, ◌==◌, ◌&&◌, ◌||◌}
 use Rattle.std.specs.Prelude.{Result, Ok, Err, if◌then◌else◌, not, map, ◌-◌}
 use Rattle.std.specs.Map.{lookup}
@@ -25,12 +25,15 @@ use Rattle.right_trace.specs.Settings.{Settings}
 use Rattle.right_trace.specs.Keys.{Key, key_of, is_cacheable, spelled_name, TellsKeys}
 use Rattle.right_trace.specs.Validity.{validity_of_message, validity_of_parts}
 use Rattle.right_trace.specs.Views.{viewed, view_of, view_validity, tells_of_name}
-use Rattle.proof_right.proofs.client.Unhanded.{moves_untried, Untried, server_calm, move_calm, move_untried}
+use Rattle.proof_right.proofs.client.Unread.{Came_so, unread_of, unread_all}
+use Rattle.proof_right.proofs.client.Unhanded.{none_yet, moves_untried, Untried, server_calm, move_calm, move_untried, outcome_request}
+use Rattle.proof_right.proofs.client.Outcomes.{best_given, failing_so}
+use Rattle.right_trace.specs.Validity.{waits_for_others}
 use Rattle.right_trace.specs.Replies.{IsFresh, IsFreshReply}
 use Rattle.proof_right.specs.machine.Cache.{Between, Ended, RepliedUnstored}
 use Rattle.right_trace.specs.Hit.{asks_since, replies_since, is_some_reply, other_replies, IsViewOf, OutIsView, AllAreViews, IsHit, Views, Hits, AllHit}
 use Rattle.proof_right.specs.machine.Exact.{Value, value_of, RunCached, Serves, ServedBy, Viewing, Looks, Looked, LeftAlone, Cached, AllCached, entry_under, MayRevive}
-use Rattle.proof_right.specs.machine.Client.{unmade, Leaving, Upper, Made, Move, Server_moves, Hands_on, Gives_up, Drops, Keeps_back, Delivers, Concludes, Times_out, Replies, Forgets, Derives, Answers, Takes_on, Moves, Rests, Goes, IsDone, IsStep, IsRun, Ends, Goes_on, row_begins, begun, answer, Entry, moved, hand, take_on, with_expired, is_failing, told_of, revive, Revives}
+use Rattle.proof_right.specs.machine.Client.{Waiting, IsOutcome, unmade, Leaving, Upper, Made, Move, Server_moves, Hands_on, Gives_up, Drops, Keeps_back, Delivers, Concludes, Times_out, Replies, Forgets, Derives, Answers, Takes_on, Moves, Rests, Goes, IsDone, IsStep, IsRun, Ends, Goes_on, row_begins, begun, answer, Entry, moved, hand, take_on, with_expired, is_failure_of, told_of, revive, Revives}
 use Rattle.proof_right.proofs.client.Kept.{Kept, MayStore, LeavingFits}
 use Rattle.proof_right.proofs.client.Later.{put_more, now_all, asking_all, ever_all}
 use Rattle.proof_right.proofs.client.Lists.{decide, in_left, in_right, in_here, in_but, in_either, in_more}
@@ -44,12 +47,12 @@ use Rattle.proof_right.proofs.client.Hit.{hit}
 use Rattle.proof_right.proofs.client.Among.{fresh_not_here, ever_replied, NoReply, no_reply, same_ask, others_more, among_left, among_right, among_either}
 use Rattle.proof_right.proofs.client.Between.{snoc_ask, snoc_store}
 use Rattle.right_trace.proofs.Valid.{own_view_valid, valid_is_read}
-use Rattle.right_trace.specs.Errors.{is_failure}
-use Rattle.right_trace.specs.StaleServed.{NeverFails, ServesStale, AllServeStale}
+use Rattle.right_trace.specs.Errors.{is_failing, HereOrEarlier}
+use Rattle.right_trace.specs.StaleServed.{CameUnread, FailsBy, NoneFails, NeverFails, ServesStale, AllServeStale}
 use Rattle.dns_base.specs.Data.{Data}
 use Rattle.client_request.specs.declared.error.Error.TheVariants as errors
 
-module _ (c : Conf) (s : Settings) (compose : Request → Result Octets Error) (composes : Composes compose) (P : Part c) (eq : Key → Key → Bool) (cap : ℕ)
+module _ (c : Conf) (s : Settings) (compose : Request → Result Octets Error) (composes : Composes c compose) (P : Part c) (eq : Key → Key → Bool) (cap : ℕ)
     (eq_refl : (k : Key) → eq k k ≡ true) (eq_sym : (a b : Key) → eq a b ≡ true → eq b a ≡ true) (eq_trans : (a b d : Key) → eq a b ≡ true → eq b d ≡ true → eq a d ≡ true) (eq_same : (a b : Key) → eq a b ≡ true → a ≡ b) where
   abbrev Cache : Type 0
   Cache = List (Key × Value)
@@ -130,9 +133,9 @@ module _ (c : Conf) (s : Settings) (compose : Request → Result Octets Error) (
 
   module _ (past : History) (w : What) (x : Upper P.State) (h : History) (kept : Kept c s P past w x h) where
     -- a reply is put
-    fits_reply : (first last : List Leaving) (y : Leaving) → x.leaving ≡ first ++ y ∷ last → (es fs : Cache) → fs ≡ (if y.is_stored then put_entries eq (lru_cache es cap) (key_of y.asked) (value_of x.now y) else es)
+    fits_reply : (first last : List Leaving) (y : Leaving) → x.leaving ≡ first ++ y ∷ last → y.stale ≡ None → (es fs : Cache) → fs ≡ (if y.is_stored then put_entries eq (lru_cache es cap) (key_of y.asked) (value_of x.now y) else es)
         → HitFits (one_if (is_ask x.pending)) es h → HitFits (one_if (is_ask x.pending)) fs (Put (Reply y.request y.result) ∷ h)
-    fits_reply first last y is es fs cached f q j t m moment n but ask ever val pos ca un views = elim ever [ inl z ↦ new z | inr z ↦ old z ]
+    fits_reply first last y is plain es fs cached f q j t m moment n but ask ever val pos ca un views = elim ever [ inl z ↦ new z | inr z ↦ old z ]
       where
         fit : LeavingFits c s P past w x.held x.ups x.asked y h
         fit = kept.leaves y (subst (IsIn y) (sym is) (in_here y first last))
@@ -174,7 +177,7 @@ module _ (c : Conf) (s : Settings) (compose : Request → Result Octets Error) (
             tail a b g k e = cc
 
             stored_now : y.request ≡ j → y.result ≡ Ok m → y.asked ≡ q → x.now ≡ moment → IsFresh c s y.request m past w h → (b : Bool) → y.is_stored ≡ b → Kept_since q j m moment (one_if (is_ask x.pending)) fs (Put (Reply y.request y.result) ∷ h)
-            stored_now k res same at fr false e = absurd (no_ask (fit.unstored e m res (subst (λ q. is_cacheable q ≡ true) (sym same) ca) n val pos) m fr)
+            stored_now k res same at fr false e = absurd (no_ask (fit.unstored plain e m res (subst (λ q. is_cacheable q ≡ true) (sym same) ca) n val pos) m fr)
             stored_now k res same at fr true e =
                 let v : value_of x.now y ≡ value q j m moment = cc in
                 let kk : key_of y.asked ≡ key_of q = ap key_of same in
@@ -272,7 +275,7 @@ module _ (c : Conf) (s : Settings) (compose : Request → Result Octets Error) (
         there = subst (IsIn y) (sym is) (in_here y first last)
 
         go : (o : Option Octets) → y.stale ≡ o → HitFits (one_if (is_ask x.pending)) fs (put_all (told_of y.request y.result o) h)
-        go None e = fits_reply first last y is es fs cached f
+        go None e = fits_reply first last y is e es fs cached f
         go (Some o) e = subst (λ z. HitFits (one_if (is_ask x.pending)) z (Put (Reply y.request (Ok o)) ∷ Put (Stale y.request) ∷ h)) (sym (cached ∙ ap (λ b. if b then put_entries eq (lru_cache es cap) (key_of y.asked) (value_of x.now y) else es) (kept.revived y o there e).unstored)) (fits_stale first last y o is e es f)
 
     -- one move
@@ -298,25 +301,44 @@ module _ (c : Conf) (s : Settings) (compose : Request → Result Octets Error) (
     move_fits _ (Takes_on r o old pend composed lt there) es fs e f = fits_looks r es fs h e.0 (subst (λ p. HitFits (one_if (is_ask p)) es h) pend f)
 
   -- what leaves is put
-  leaving_put : (y : Leaving) (x : Upper P.State) (d : Made P.State) → y.stale ≡ None → is_failing y.result ≡ false → IsIn y x.leaving → Moves c s compose (machine_of P) x d → Among (Reply y.request y.result) d.outs
-  leaving_put y _ _ plain calm i (Rests x done) = absurd (subst (IsIn y) done.leaving i)
-  leaving_put y _ _ plain calm i (Goes x d e move more) = elim (still x d i move) [ inl j ↦ among_right (Reply y.request y.result) d.outs e.outs (leaving_put y d.state e plain calm j more) | inr a ↦ among_left (Reply y.request y.result) d.outs e.outs a ]
+  leaving_put : (y : Leaving) (x : Upper P.State) (d : Made P.State) → y.stale ≡ None → (x.expired y.request ≡ None) × (y.request < x.asked) → IsIn y x.leaving → Moves c s compose (machine_of P) x d → Among (Reply y.request y.result) d.outs
+  leaving_put y _ _ plain none i (Rests x done) = absurd (subst (IsIn y) done.leaving i)
+  leaving_put y _ _ plain none i (Goes x d e move more) = elim (still x d i move none) [ inl j ↦ among_right (Reply y.request y.result) d.outs e.outs (leaving_put y d.state e plain (none_on x d move none) j more) | inr a ↦ among_left (Reply y.request y.result) d.outs e.outs a ]
     where
-      still : (x : Upper P.State) (d : Made P.State) → IsIn y x.leaving → Move c s compose (machine_of P) x d → IsIn y d.state.leaving ⊎ Among (Reply y.request y.result) d.outs
-      still x _ i (Server_moves j d lt act) = inl i
-      still x _ i (Hands_on j k a d lt held untried st) = inl i
-      still x _ i (Gives_up j k d lt held holds can) = inl i
-      still x _ i (Drops before after z is held) = inl i
-      still x _ i (Keeps_back before after z a is held waits) = inl i
-      still x _ i (Delivers before after z a l is held waits out) = inl (in_left y x.leaving (l ∷ []) i)
-      still x _ i (Concludes k a z l held tried free none is out) = inl (in_left y x.leaving (l ∷ []) i)
-      still x _ i (Times_out k a held late) = inl (in_left y x.leaving (record { request = k; asked = a.request; result = Err errors.TimedOut; is_stored = false; stale = None } ∷ []) i)
-      still x _ i (Revives before after z e m is fails old revived) = elim (in_but y z before after (subst (IsIn y) is i)) [ inl same ↦ absurd (clash (is_failing z.result) fails (ap (λ (v : Leaving). is_failing v.result) same ∙ calm)) | inr l ↦ inl (in_more y (revive m z) before after l) ]
-      still x _ i (Replies before after z is) = elim (in_but y z before after (subst (IsIn y) is i)) [ inl same ↦ inr (subst (λ o. Among (Reply y.request y.result) (told_of z.request z.result o)) (sym (ap (λ (v : Leaving). v.stale) same ∙ plain)) (inl (ap (λ (v : Leaving). Reply v.request v.result) same))) | inr l ↦ inl l ]
-      still x _ i (Forgets before after z is) = inl i
-      still x _ i (Derives z k j co) = inl i
-      still x _ i (Answers r z pend at) = inl (in_left y x.leaving (z ∷ []) i)
-      still x _ i (Takes_on r o old pend composed lt there) = inl i
+      still : (x : Upper P.State) (d : Made P.State) → IsIn y x.leaving → Move c s compose (machine_of P) x d → (x.expired y.request ≡ None) × (y.request < x.asked) → IsIn y d.state.leaving ⊎ Among (Reply y.request y.result) d.outs
+      still x _ i (Server_moves j d lt act) none = inl i
+      still x _ i (Hands_on j k a d lt held untried st) none = inl i
+      still x _ i (Gives_up j k d lt held holds can) none = inl i
+      still x _ i (Drops before after z is held) none = inl i
+      still x _ i (Keeps_back before after z a is held waits) none = inl i
+      still x _ i (Delivers before after z a l is held waits out) none = inl (in_left y x.leaving (l ∷ []) i)
+      still x _ i (Concludes k a z l held tried free bare is out) none = inl (in_left y x.leaving (l ∷ []) i)
+      still x _ i (Times_out k a held late) none = inl (in_left y x.leaving (record { request = k; asked = a.request; result = Err errors.TimedOut; given = Err errors.TimedOut; is_stored = false; stale = None } ∷ []) i)
+      still x _ i (Revives before after z e m is fails old revived) none = elim (in_but y z before after (subst (IsIn y) is i)) [ inl same ↦ absurd (let q : Path (Option Entry) None (Some e) = sym none.0 ∙ (ap x.expired (sym (ap (λ (v : Leaving). v.request) same)) ∙ old) in cc) | inr l ↦ inl (in_more y (revive m z) before after l) ]
+      still x _ i (Replies before after z is) none = elim (in_but y z before after (subst (IsIn y) is i)) [ inl same ↦ inr (subst (λ o. Among (Reply y.request y.result) (told_of z.request z.result o)) (sym (ap (λ (v : Leaving). v.stale) same ∙ plain)) (inl (ap (λ (v : Leaving). Reply v.request v.result) same))) | inr l ↦ inl l ]
+      still x _ i (Forgets before after z is) none = inl i
+      still x _ i (Derives z k j co) none = inl i
+      still x _ i (Answers r z pend at) none = inl (in_left y x.leaving (z ∷ []) i)
+      still x _ i (Takes_on r o old pend composed lt there) none = inl i
+
+      none_on : (x : Upper P.State) (d : Made P.State) → Move c s compose (machine_of P) x d → (x.expired y.request ≡ None) × (y.request < x.asked) → (d.state.expired y.request ≡ None) × (y.request < d.state.asked)
+      none_on x _ (Server_moves j d lt act) n = n
+      none_on x _ (Hands_on j k a d lt held untried st) n = n
+      none_on x _ (Gives_up j k d lt held holds can) n = n
+      none_on x _ (Drops before after z is held) n = n
+      none_on x _ (Keeps_back before after z a is held waits) n = n
+      none_on x _ (Delivers before after z a l is held waits out) n = n
+      none_on x _ (Concludes k a z l held tried free none is out) n = n
+      none_on x _ (Times_out k a held late) n = n
+      none_on x _ (Revives before after z e m is fails old revived) n = n
+      none_on x _ (Replies before after z is) n = n
+      none_on x _ (Forgets before after z is) n = n
+      none_on x _ (Derives z k j co) n = n
+      none_on x _ (Answers r z pend at) n = (n.0, (let lt = n.1 in omega arith))
+      none_on x _ (Takes_on r o old pend composed lt there) n = (other old (λ same. (let b = n.1 in omega arith)) n.0, (let b = n.1 in omega arith))
+        where
+          other : (v : Option Entry) → x.asked ≢ y.request → x.expired y.request ≡ None → with_expired x.asked v x.expired y.request ≡ None
+          other v ne e = (let z : (x.asked == y.request) ≡ false = grind (arith, nat_tests) in ap (λ b. if b then v else x.expired y.request) z ∙ e)
 
   moves_fit : (past : History) (w : What) (x : Upper P.State) (h : History) (d : Made P.State) (moves : Moves c s compose (machine_of P) x d) (es fs : Cache) → Kept c s P past w x h → AllCached c s compose (machine_of P) eq cap x d moves es fs → HitFits (one_if (is_ask x.pending)) es h → HitFits 0 fs (put_all d.outs h)
   moves_fit past w _ h _ (Rests x done) es fs kept is f = subst (λ z. HitFits 0 z h) (sym is) (subst (λ b. HitFits (one_if b) es h) done.taken f)
@@ -345,12 +367,31 @@ module _ (c : Conf) (s : Settings) (compose : Request → Result Octets Error) (
       go (Stale l) r (inl e) = absurd (cc)
       go (Close p) r (inl e) = absurd (cc)
 
-  -- no failure of request k is put
+  -- no reply to request k is put
   abbrev pub Never : (k : ℕ) → List Out → Type 0
-  Never k outs = (e : Error) → is_failure e ≡ true → Among (Reply k (Err e)) outs → ⊥
+  Never k outs = (v : Result Octets Error) → Among (Reply k v) outs → ⊥
 
-  never_more : (k : ℕ) (xs ys : List Out) → Never k xs → Never k ys → Never k (xs ++ ys)
-  never_more k xs ys a b e f i = elim (among_either (Reply k (Err e)) xs ys i) [ inl l ↦ a e f l | inr r ↦ b e f r ]
+  -- so it does not fail by them
+  none_of : (past : History) (w : What) (k : ℕ) (xs : List Out) (h : History) → Never k xs → NoneFails c s k past w h xs
+  none_of past w k [] h n = tt
+  none_of past w k (o ∷ os) h n = (λ x e f. n x (inl e), none_of past w k os (Put o ∷ h) (λ v i. n v (inr i)))
+
+  fails_more : (past : History) (w : What) (k : ℕ) (xs ys : List Out) (h : History) → NoneFails c s k past w h xs → NoneFails c s k past w (put_all xs h) ys → NoneFails c s k past w h (xs ++ ys)
+  fails_more past w k [] ys h a b = b
+  fails_more past w k (o ∷ os) ys h a b = (a.0, fails_more past w k os ys (Put o ∷ h) a.1 b)
+
+  -- nor in its asking's own row by a reply that is no such error
+  own_row_calm : (past : History) (w : What) (k : ℕ) (xs : List Out) (h : History) → is_asked_here k h ≡ true → ((v : Result Octets Error) → is_failure_of v ≡ true → Among (Reply k v) xs → ⊥) → NoneFails c s k past w h xs
+  own_row_calm past w k [] h here n = tt
+  own_row_calm past w k (o ∷ os) h here n = (λ x e f. this x e f, own_row_calm past w k os (Put o ∷ h) here (λ v f i. n v f (inr i)))
+    where
+      this : (x : Result Octets Error) → o ≡ Reply k x → FailsBy c s k past w h x → ⊥
+      this (Ok m) e f = clash (is_asked_here k h) here f.2
+      this (Err z) e f = elim f [ inl q ↦ n (Err z) q (inl e) | inr q ↦ clash (is_asked_here k h) here q.1 ]
+
+  here_all : (k : ℕ) (xs : List Out) (h : History) → is_asked_here k (put_all xs h) ≡ is_asked_here k h
+  here_all k [] h = refl
+  here_all k (o ∷ os) h = here_all k os (Put o ∷ h)
 
   -- what outs add to the counts
   record Counts (j k : ℕ) (h h' : History) (outs : List Out) : Type 0 where
@@ -361,7 +402,7 @@ module _ (c : Conf) (s : Settings) (compose : Request → Result Octets Error) (
     pub calm : Never k outs
 
   counts_none : (j k : ℕ) (h : History) → replied j h ≡ true → Counts j k h h []
-  counts_none j k h r = record { is_replied = r; asks = refl; replies = omega arith; unmarked = λ a. a; calm = λ e f a. a }
+  counts_none j k h r = record { is_replied = r; asks = refl; replies = omega arith; unmarked = λ a. a; calm = λ v a. a }
 
   counts_silent : (j k : ℕ) (past : History) (w : What) (end : History) (xs : List Out) (h : History) → ServerOutsRight c past w end h xs → replied j h ≡ true → Counts j k h (put_all xs h) xs
   counts_silent j k past w end [] h r rep = counts_none j k h rep
@@ -371,7 +412,7 @@ module _ (c : Conf) (s : Settings) (compose : Request → Result Octets Error) (
       let a : asks_since j (Put x ∷ h) ≡ asks_since j h = ap (λ b. if b then one_if (is_ask (newest h)) else asks_since j h) (none.0 j) in
       let b : replies_since j (Put x ∷ h) ≡ 0 + replies_since j h = ap (λ b. if b then 0 else (if replied j h then one_if (is_some_reply x) + replies_since j h else 0)) (none.0 j) ∙ (ap (λ b. if b then one_if (is_some_reply x) + replies_since j h else 0) rep ∙ ap (λ b. one_if b + replies_since j h) none.1) in
       let z = i.replies in
-      record { is_replied = i.is_replied; asks = i.asks ∙ a; replies = omega arith; unmarked = λ m. elim m [ inl is ↦ subst (ServerOutRight c past w h end) is r.0 | inr b ↦ i.unmarked b ]; calm = λ e f m. elim m [ inl is ↦ subst (ServerOutRight c past w h end) is r.0 | inr b ↦ i.calm e f b ] }
+      record { is_replied = i.is_replied; asks = i.asks ∙ a; replies = omega arith; unmarked = λ m. elim m [ inl is ↦ subst (ServerOutRight c past w h end) is r.0 | inr b ↦ i.unmarked b ]; calm = λ v m. elim m [ inl is ↦ subst (ServerOutRight c past w h end) is r.0 | inr b ↦ i.calm v b ] }
 
   counts_reply : (j k l : ℕ) (v : Result Octets Error) (h : History) → replied j h ≡ true → l ≢ j → l ≢ k → Counts j k h (Put (Reply l v) ∷ h) (Reply l v ∷ [])
   counts_reply j k l v h rep nj nk =
@@ -379,7 +420,7 @@ module _ (c : Conf) (s : Settings) (compose : Request → Result Octets Error) (
       let ek : (l == k) ≡ false = grind (arith, nat_tests) in
       let b : replies_since j (Put (Reply l v) ∷ h) ≡ 1 + replies_since j h = ap (λ b. if b then 0 else (if replied j h then 1 + replies_since j h else 0)) ej ∙ ap (λ b. if b then 1 + replies_since j h else 0) rep in
       let o : other_replies k (Reply l v ∷ []) ≡ 1 = ap (λ b. one_if (true && not b) + 0) ek in
-      record { is_replied = or_right (l == j) (replied j h) rep; asks = ap (λ b. if b then one_if (is_ask (newest h)) else asks_since j h) ej; replies = omega arith; unmarked = λ a. elim a [ inl is ↦ absurd (cc) | inr b ↦ b ]; calm = λ e f a. elim a [ inl is ↦ nk (cc) | inr b ↦ b ] }
+      record { is_replied = or_right (l == j) (replied j h) rep; asks = ap (λ b. if b then one_if (is_ask (newest h)) else asks_since j h) ej; replies = omega arith; unmarked = λ a. elim a [ inl is ↦ absurd (cc) | inr b ↦ b ]; calm = λ v a. elim a [ inl is ↦ nk (cc) | inr b ↦ b ] }
 
   counts_told : (j k l : ℕ) (v : Result Octets Error) (o : Option Octets) (h : History) → replied j h ≡ true → l ≢ j → l ≢ k → Counts j k h (put_all (told_of l v o) h) (told_of l v o)
   counts_told j k l v None h rep nj nk = counts_reply j k l v h rep nj nk
@@ -387,7 +428,7 @@ module _ (c : Conf) (s : Settings) (compose : Request → Result Octets Error) (
       let i = counts_reply j k l (Ok m) (Put (Stale l) ∷ h) rep nj nk in
       let g : replies_since j (Put (Stale l) ∷ h) ≡ 0 + replies_since j h = ap (λ b. if b then 0 + replies_since j h else 0) rep in
       let z = i.replies in
-      record { is_replied = i.is_replied; asks = i.asks; replies = omega arith; unmarked = λ a. elim a [ inl is ↦ other is | inr b ↦ i.unmarked b ]; calm = λ e f a. elim a [ inl is ↦ absurd (cc) | inr b ↦ i.calm e f b ] }
+      record { is_replied = i.is_replied; asks = i.asks; replies = omega arith; unmarked = λ a. elim a [ inl is ↦ other is | inr b ↦ i.unmarked b ]; calm = λ v a. elim a [ inl is ↦ absurd (cc) | inr b ↦ i.calm v b ] }
     where
       other : Stale l ≡ Stale k → ⊥
       other is = nk (cc)
@@ -431,7 +472,7 @@ module _ (c : Conf) (s : Settings) (compose : Request → Result Octets Error) (
         same_age : (a : ℕ) → moment + a ≡ now → a ≡ age
         same_age a e = omega arith
 
-    served_calm : (now : ℕ) (u : Result Octets Error) → ServedBy v r now u → is_failing u ≡ false
+    served_calm : (now : ℕ) (u : Result Octets Error) → ServedBy v r now u → is_failure_of u ≡ false
     served_calm now _ (Viewing m' y x age' e known is' says) = refl
 
     -- the hit, no server has the request, and it is not marked as stale
@@ -468,16 +509,17 @@ module _ (c : Conf) (s : Settings) (compose : Request → Result Octets Error) (
         let who : y.request ≡ k = (at_once c s compose composes P past w x h kept r' y pend' at).request ∙ is_k in
         let plain = at_once_plain c s compose x.now x.asked x.stored r' y at in
         let calm = served_calm x.now y.result served in
-        let put = leaving_put y (answer y x) e plain calm (in_right y x.leaving (y ∷ []) (inl refl)) more in
+        let put = leaving_put y (answer y x) e plain (subst (λ k. x.expired k ≡ None) (sym who) (none_yet c s P past w x h kept k is_k), (let w = (at_once c s compose composes P past w x h kept r' y pend' at).request in omega arith)) (in_right y x.leaving (y ∷ []) (inl refl)) more in
         let t = kept.to_come x.asked (omega arith) in
         let a' = move_does c s compose composes P past w x h kept (unmade (answer y x)) (Answers r' y pend' at) in
-        let alone = moves_untried c s compose composes P k past w (answer y x) h e a'.leaves more (record {
+        let alone = moves_untried c s compose composes P is_failure_of k past w (answer y x) h e a'.leaves more (record {
           unheld = subst (λ k. x.held k ≡ None) is_k t.unheld;
           below = omega arith;
           unhanded = λ i. subst (λ k. handed k i h ≡ false) is_k (t.unhanded i);
+          no_old = none_yet c s P past w x h kept k is_k;
           calm = λ z l q. elim (in_either z x.leaving (y ∷ []) l) [
             | inl o ↦ absurd (let lt = (kept.leaves z o).below in omega arith)
-            | inr n ↦ elim n [ inl e ↦ subst (λ (z : Leaving). (z.stale ≡ None) × (is_failing z.result ≡ false)) e (plain, calm) | inr v ↦ absurd v ]
+            | inr n ↦ elim n [ inl e ↦ subst (λ (z : Leaving). (z.stale ≡ None) × (is_failure_of z.result ≡ false)) e (plain, calm) | inr v ↦ absurd v ]
           ];
         }) in
         (served_hit x.now e.outs is y.result served (subst (λ k. Among (Reply k y.result) e.outs) who put), alone.0, alone.1.0)
@@ -515,10 +557,21 @@ module _ (c : Conf) (s : Settings) (compose : Request → Result Octets Error) (
     abbrev old : Entry
     old = entry_under (key_of r) (value q j m moment)
 
-    -- It was taken on with what had expired; or it was answered at once, and not by a failure.
-    data Spared (x : Upper P.State) (h : History) : Type 0 where
-      HasOld : x.expired k ≡ Some old → k < x.asked → asking k h ≡ Some (record { request = r; moment = u }) → u ≤ x.now → Spared x h
-      IsAnswered : Untried c s compose composes P k x h → Spared x h
+    -- What fails was given so; and what leaves as the error of a message without a validity fails, or such a message came that does not.
+    abbrev Shows : (past : History) (w : What) (h : History) → Leaving → Type 0
+    Shows past w h y = (is_failing y.result ≡ true → is_failing y.given ≡ true) × (y.result ≡ Err errors.MessageParseError → (is_failing y.given ≡ true) ⊎ CameUnread c s k past w h)
+
+    abbrev Unread : (past : History) (w : What) (x : Upper P.State) (h : History) → Type 0
+    Unread past w x h = (y : Leaving) → IsIn y x.leaving → y.request ≡ k → Shows past w h y
+
+    shows_on : (past : History) (w : What) (outs : List Out) (h : History) (y : Leaving) → Shows past w h y → Shows past w (put_all outs h) y
+    shows_on past w outs h y x = (x.0, λ e. elim (x.1 e) [ inl f ↦ inl f | inr u ↦ inr (unread_all c s k past w outs h u) ])
+
+    -- It was taken on with what had expired; or it was answered at once, and not by an error that is a failure; or it has its reply.
+    data Spared (past : History) (w : What) (x : Upper P.State) (h : History) : Type 0 where
+      HasOld : x.expired k ≡ Some old → k < x.asked → asking k h ≡ Some (record { request = r; moment = u }) → u ≤ x.now → Unread past w x h → Spared past w x h
+      IsAnswered : Untried c s compose composes P is_failure_of k x h → is_asked_here k h ≡ true → Spared past w x h
+      IsGone : Untried c s compose composes P (λ v. true) k x h → Spared past w x h
 
     -- it may serve at this moment
     may : (now : ℕ) → u ≤ now → now ≤ limit → (o : Option Entry) → o ≡ Some old → MayRevive s now r o
@@ -532,51 +585,96 @@ module _ (c : Conf) (s : Settings) (compose : Request → Result Octets Error) (
         between now ge le = (now - moment, (omega arith), (omega arith), (omega arith))
 
     -- a reply that is put
-    reply_never : (past : History) (w : What) (x : Upper P.State) (h : History) → Kept c s P past w x h → x.now ≤ limit → x.expired k ≡ Some old → asking k h ≡ Some (record { request = r; moment = u }) → u ≤ x.now → (y : Leaving) → IsIn y x.leaving
-        → (y.stale ≡ None → is_failing y.result ≡ true → MayRevive s x.now y.asked (x.expired y.request) → ⊥) → Never k (told_of y.request y.result y.stale)
-    reply_never past w x h kept le there asked ge y i exact e fails = go y.stale refl
+    reply_never : (past : History) (w : What) (x : Upper P.State) (h : History) → Kept c s P past w x h → x.now ≤ limit → x.expired k ≡ Some old → asking k h ≡ Some (record { request = r; moment = u }) → u ≤ x.now → Unread past w x h → (y : Leaving) → IsIn y x.leaving
+        → (y.stale ≡ None → is_failing y.given ≡ true → MayRevive s x.now y.asked (x.expired y.request) → ⊥) → NoneFails c s k past w h (told_of y.request y.result y.stale)
+    reply_never past w x h kept le there asked ge unread y i exact = go y.stale refl
       where
-        put : y.request ≡ k → y.result ≡ Err e → y.stale ≡ None → ⊥
-        put who res plain =
+        put : y.request ≡ k → is_failing y.given ≡ true → y.stale ≡ None → ⊥
+        put who fails plain =
             let f = kept.leaves y i in
             let same : y.asked ≡ r = same_ask y.asked r (f.asked.0) u (sym f.asked.1 ∙ (ap (λ k. asking k h) who ∙ asked)) in
-            exact plain (ap is_failing res ∙ fails) (subst (λ q. MayRevive s x.now q (x.expired y.request)) (sym same) (may x.now ge le (x.expired y.request) (ap x.expired who ∙ there)))
+            exact plain fails (subst (λ q. MayRevive s x.now q (x.expired y.request)) (sym same) (may x.now ge le (x.expired y.request) (ap x.expired who ∙ there)))
 
-        go : (o : Option Octets) → y.stale ≡ o → Among (Reply k (Err e)) (told_of y.request y.result o) → ⊥
-        go None plain a = elim a [ inl is ↦ (let who : y.request ≡ k = cc in let res : y.result ≡ Err e = cc in put who res plain) | inr b ↦ b ]
-        go (Some o) plain a = elim a [ inl is ↦ absurd (cc) | inr b ↦ elim b [ inl is ↦ (let z : Path (Result Octets Error) (Ok o) (Err e) = cc in absurd (cc)) | inr d ↦ d ] ]
+        plainly : (v : Result Octets Error) → Reply y.request y.result ≡ Reply k v → y.stale ≡ None → FailsBy c s k past w h v → ⊥
+        plainly (Ok m) e plain f = (let who : y.request ≡ k = cc in let res : y.result ≡ Ok m = cc in put who ((unread y i who).0 (ap is_failing res ∙ f.0)) plain)
+        plainly (Err z) e plain f =
+            let who : y.request ≡ k = cc in
+            let res : y.result ≡ Err z = cc in
+            elim f [ inl q ↦ put who ((unread y i who).0 (ap is_failing res ∙ q)) plain | inr q ↦ elim ((unread y i who).1 (res ∙ ap Err q.0)) [ inl fails ↦ put who fails plain | inr came ↦ q.2 came ] ]
 
-    stays : (x y : Upper P.State) (h : History) (outs : List Out) → x.expired k ≡ Some old → k < x.asked → asking k h ≡ Some (record { request = r; moment = u }) → u ≤ x.now → y.expired k ≡ x.expired k → x.asked ≤ y.asked → y.now ≡ x.now → Spared y (put_all outs h)
-    stays x y h outs o b a ge same more now_is = HasOld (same ∙ o) (omega arith) (asking_all k outs h ∙ a) (omega arith)
+        marked : (o : Octets) (v : Result Octets Error) → Reply y.request (Ok o) ≡ Reply k v → FailsBy c s k past w (Put (Stale y.request) ∷ h) v → ⊥
+        marked o (Ok m) e f = (let who : y.request ≡ k = cc in let z : (y.request == k) ≡ true = grind (arith, nat_tests) in clash (y.request == k) z f.1)
+        marked o (Err q) e f = (let z : Path (Result Octets Error) (Ok o) (Err q) = cc in absurd (cc))
 
-    server_never : (past : History) (w : What) (end : History) (xs : List Out) (h : History) → ServerOutsRight c past w end h xs → Never k xs
-    server_never past w end xs h r = (server_calm c s compose composes P k past w end xs h r).1
+        go : (o : Option Octets) → y.stale ≡ o → NoneFails c s k past w h (told_of y.request y.result o)
+        go None plain = (λ v e f. plainly v e plain f, tt)
+        go (Some o) plain = (λ v e f. absurd (let z : Stale y.request ≡ Reply k v = e in cc), (λ v e f. marked o v e f, tt))
 
-    none_never : Never k []
-    none_never e f a = a
+    stays : (past : History) (w : What) (x y : Upper P.State) (h : History) (outs : List Out) → x.expired k ≡ Some old → k < x.asked → asking k h ≡ Some (record { request = r; moment = u }) → u ≤ x.now → Unread past w x h → y.expired k ≡ x.expired k → x.asked ≤ y.asked → y.now ≡ x.now
+        → ((z : Leaving) → IsIn z y.leaving → z.request ≡ k → IsIn z x.leaving) → Spared past w y (put_all outs h)
+    stays past w x y h outs o b a ge unread same more now_is was = HasOld (same ∙ o) (omega arith) (asking_all k outs h ∙ a) (omega arith) (λ z i q. shows_on past w outs h z (unread z (was z i q) q))
 
-    move_spared : (past : History) (w : What) (x : Upper P.State) (h : History) → Kept c s P past w x h → (d : Made P.State) (move : Move c s compose (machine_of P) x d) (es fs : Cache) → Cached c s compose (machine_of P) eq cap x d move es fs → Spared x h → Spared d.state (put_all d.outs h) × (x.now ≤ limit → Never k d.outs)
-    move_spared past w x h kept d move es fs cached (IsAnswered un) = (IsAnswered (move_untried c s compose composes P k past w x h kept d move un), λ le. (move_calm c s compose composes P k past w x h kept d move un.calm).1)
-    move_spared past w x h kept _ (Server_moves i d lt act) es fs cached (HasOld o b a ge) = (stays x (moved i d x) h d.outs o b a ge refl (omega arith) refl, λ le. server_never past w (put_all d.outs h) d.outs h (acts_right_here c s P past w x h kept i lt d act (put_all d.outs h) (λ k e. e)))
-    move_spared past w x h kept _ (Hands_on i l g d lt held untried st) es fs cached (HasOld o b a ge) = (stays x (moved i d (hand l i g x)) h d.outs o b a ge refl (omega arith) refl, λ le. server_never past w (put_all d.outs h) d.outs h (starts_right_here c s P past w x h kept i lt l g held untried d st (put_all d.outs h) (λ k e. e)))
-    move_spared past w x h kept _ (Gives_up i l d lt held holds can) es fs cached (HasOld o b a ge) =
+    server_never : (past : History) (w : What) (end : History) (xs : List Out) (h : History) → ServerOutsRight c past w end h xs → NoneFails c s k past w h xs
+    server_never past w end xs h r = none_of past w k xs h (λ v. (server_calm c s compose composes P (λ v. true) k past w end xs h r).1 v refl)
+
+    none_never : (past : History) (w : What) (h : History) → NoneFails c s k past w h []
+    none_never past w h = tt
+
+    -- a result of it becomes what leaves
+    leaves_unread : (past : History) (w : What) (x : Upper P.State) (h : History) → Kept c s P past w x h → asking k h ≡ Some (record { request = r; moment = u }) → Unread past w x h → (n : ℕ) (g : Waiting) (v : Result Octets Error) (l : Leaving) → x.held n ≡ Some g → IsOutcome s n g.request v l
+        → (n ≡ k → Came_so c s n v past w h) → (z : Leaving) → IsIn z (x.leaving ++ l ∷ []) → z.request ≡ k → Shows past w h z
+    leaves_unread past w x h kept asked unread n g v l held out gave z i q = elim (in_either z x.leaving (l ∷ []) i) [
+      | inl o ↦ unread z o q
+      | inr j ↦ elim j [ inl is ↦ subst (Shows past w h) is (new (ap (λ (l : Leaving). l.request) is ∙ q)) | inr bad ↦ absurd bad ]
+    ]
+      where
+        new : l.request ≡ k → Shows past w h l
+        new lk =
+            let nk : n ≡ k = sym (outcome_request c s compose composes P is_failure_of k s n g.request v l out) ∙ lk in
+            let a = (kept.reqs n g held).asked in
+            let same : g.request ≡ r = same_ask g.request r g.moment u (sym a ∙ (ap (λ k. asking k h) nk ∙ asked)) in (
+              failing_so s n g.request v l out,
+              unread_of c s k u r past w h asked ca_r (λ b e. kept.known k b e) n g.request v l out same (subst (λ n. Came_so c s n v past w h) nk (gave nk)),
+            )
+
+    move_spared : (past : History) (w : What) (x : Upper P.State) (h : History) → Kept c s P past w x h → (d : Made P.State) (move : Move c s compose (machine_of P) x d) (es fs : Cache) → Cached c s compose (machine_of P) eq cap x d move es fs → Spared past w x h → Spared past w d.state (put_all d.outs h) × (x.now ≤ limit → NoneFails c s k past w h d.outs)
+    move_spared past w x h kept d move es fs cached (IsAnswered un here) = (IsAnswered (move_untried c s compose composes P is_failure_of k past w x h kept d move un) (here_all k d.outs h ∙ here), λ le. own_row_calm past w k d.outs h here (move_calm c s compose composes P is_failure_of k past w x h kept d move un.calm).1)
+    move_spared past w x h kept d move es fs cached (IsGone un) = (IsGone (move_untried c s compose composes P (λ v. true) k past w x h kept d move un), λ le. none_of past w k d.outs h (λ v. (move_calm c s compose composes P (λ v. true) k past w x h kept d move un.calm).1 v refl))
+    move_spared past w x h kept _ (Server_moves i d lt act) es fs cached (HasOld o b a ge ur) = (stays past w x (moved i d x) h d.outs o b a ge ur refl (omega arith) refl (λ z i q. i), λ le. server_never past w (put_all d.outs h) d.outs h (acts_right_here c s P past w x h kept i lt d act (put_all d.outs h) (λ k e. e)))
+    move_spared past w x h kept _ (Hands_on i l g d lt held untried st) es fs cached (HasOld o b a ge ur) = (stays past w x (moved i d (hand l i g x)) h d.outs o b a ge ur refl (omega arith) refl (λ z i q. i), λ le. server_never past w (put_all d.outs h) d.outs h (starts_right_here c s P past w x h kept i lt l g held untried d st (put_all d.outs h) (λ k e. e)))
+    move_spared past w x h kept _ (Gives_up i l d lt held holds can) es fs cached (HasOld o b a ge ur) =
         let end : History = Put (Reply l (Err errors.TimedOut)) ∷ put_all d.outs h in
-        (stays x (moved i d x) h d.outs o b a ge refl (omega arith) refl, λ le. server_never past w end d.outs h (cancels_right_here c s P past w x h kept i lt l held holds d can end (λ j e. or_right (l == j) (replied j (put_all d.outs h)) e) (replied_now l (put_all d.outs h))))
+        (stays past w x (moved i d x) h d.outs o b a ge ur refl (omega arith) refl (λ z i q. i), λ le. server_never past w end d.outs h (cancels_right_here c s P past w x h kept i lt l held holds d can end (λ j e. or_right (l == j) (replied j (put_all d.outs h)) e) (replied_now l (put_all d.outs h))))
       where
         replied_now : (k : ℕ) (g : History) → replied k (Put (Reply k (Err errors.TimedOut)) ∷ g) ≡ true
         replied_now k g = grind (arith, nat_tests)
-    move_spared past w x h kept _ (Drops before after y is held) es fs cached (HasOld o b a ge) = (stays x (record x { board = before ++ after }) h [] o b a ge refl (omega arith) refl, λ le. none_never)
-    move_spared past w x h kept _ (Keeps_back before after y g is held waits) es fs cached (HasOld o b a ge) = (HasOld o b a ge, λ le. none_never)
-    move_spared past w x h kept _ (Delivers before after y g l is held waits out) es fs cached (HasOld o b a ge) = (HasOld o b a ge, λ le. none_never)
-    move_spared past w x h kept _ (Concludes l g y z held tried free none is out) es fs cached (HasOld o b a ge) = (HasOld o b a ge, λ le. none_never)
-    move_spared past w x h kept _ (Times_out l g held late) es fs cached (HasOld o b a ge) = (HasOld o b a ge, λ le. none_never)
-    move_spared past w x h kept _ (Revives before after y z m' is fails there revived) es fs cached (HasOld o b a ge) = (HasOld o b a ge, λ le. none_never)
-    move_spared past w x h kept _ (Replies before after y is) es fs cached (HasOld o b a ge) =
-        (HasOld o b (asking_all k (told_of y.request y.result y.stale) h ∙ a) ge, λ le. reply_never past w x h kept le o a ge y (subst (IsIn y) (sym is) (in_here y before after)) cached.1)
-    move_spared past w x h kept _ (Forgets before after z is) es fs cached (HasOld o b a ge) = (HasOld o b a ge, λ le. none_never)
-    move_spared past w x h kept _ (Derives z l i co) es fs cached (HasOld o b a ge) = (HasOld o b a ge, λ le. none_never)
-    move_spared past w x h kept _ (Answers g y pend at) es fs cached (HasOld o b a ge) = (stays x (answer y x) h [] o b a ge refl (omega arith) refl, λ le. none_never)
-    move_spared past w x h kept _ (Takes_on g z there pend composed lt stored) es fs cached (HasOld o b a ge) = (stays x (take_on g there x) h [] o b a ge (other there (λ same. (omega arith))) (omega arith) refl, λ le. none_never)
+    move_spared past w x h kept _ (Drops before after y is held) es fs cached (HasOld o b a ge ur) = (stays past w x (record x { board = before ++ after }) h [] o b a ge ur refl (omega arith) refl (λ z i q. i), λ le. none_never past w h)
+    move_spared past w x h kept _ (Keeps_back before after y g is held waits) es fs cached (HasOld o b a ge ur) = (HasOld o b a ge ur, λ le. none_never past w h)
+    move_spared past w x h kept _ (Delivers before after y g l is held waits out) es fs cached (HasOld o b a ge ur) = (HasOld o b a ge (leaves_unread past w x h kept a ur y.request g y.result l held out (λ nk. inl ((kept.posts y (subst (IsIn y) (sym is) (in_here y before after))).right))), λ le. none_never past w h)
+    move_spared past w x h kept _ (Concludes l g y z held tried free none is out) es fs cached (HasOld o b a ge ur) =
+        let n = best_given g.kept_back y is in
+        let v = kept.back l g (n.0) held n.1 in
+        (HasOld o b a ge (leaves_unread past w x h kept a ur l g y z held out (λ nk. inr (subst (λ y. waits_for_others s y ≡ true) n.2 v.waits, subst (λ y. HereOrEarlier true (PostRight c l y) past w h) n.2 v.right))), λ le. none_never past w h)
+    move_spared past w x h kept _ (Times_out l g held late) es fs cached (HasOld o b a ge ur) = (HasOld o b a ge (λ z i q. elim (in_either z x.leaving (record { request = l; asked = g.request; result = Err errors.TimedOut; given = Err errors.TimedOut; is_stored = false; stale = None } ∷ []) i) [ inl j ↦ ur z j q | inr j ↦ elim j [ inl is ↦ subst (Shows past w h) is (λ f. f, λ e. absurd (let p : Path (Result Octets Error) (Err errors.TimedOut) (Err errors.MessageParseError) = e in cc)) | inr bad ↦ absurd bad ] ]), λ le. none_never past w h)
+    move_spared past w x h kept _ (Revives before after y z m' is fails there revived) es fs cached (HasOld o b a ge ur) = (
+      HasOld o b a ge (λ v i q. elim (in_but v (revive m' y) before after i) [
+        | inl same ↦ subst (Shows past w h) same (ur y (subst (IsIn y) (sym is) (in_here y before after)) (ap (λ (z : Leaving). z.request) same ∙ q))
+        | inr j ↦ ur v (subst (IsIn v) (sym is) (in_more v y before after j)) q
+      ]),
+      λ le. none_never past w h,
+    )
+    move_spared past w x h kept _ (Replies before after y is) es fs cached (HasOld o b a ge ur) =
+        (HasOld o b (asking_all k (told_of y.request y.result y.stale) h ∙ a) ge (λ z i q. shows_on past w (told_of y.request y.result y.stale) h z (ur z (subst (IsIn z) (sym is) (in_more z y before after i)) q)), λ le. reply_never past w x h kept le o a ge ur y (subst (IsIn y) (sym is) (in_here y before after)) cached.1)
+    move_spared past w x h kept _ (Forgets before after z is) es fs cached (HasOld o b a ge ur) = (HasOld o b a ge ur, λ le. none_never past w h)
+    move_spared past w x h kept _ (Derives z l i co) es fs cached (HasOld o b a ge ur) = (HasOld o b a ge ur, λ le. none_never past w h)
+    move_spared past w x h kept _ (Answers g y pend at) es fs cached (HasOld o b a ge ur) = (
+      stays past w x (answer y x) h [] o b a ge ur refl (omega arith) refl (λ z i q. elim (in_either z x.leaving (y ∷ []) i) [
+        | inl j ↦ j
+        | inr j ↦ elim j [ inl is ↦ absurd (let e : y.request ≡ x.asked = (at_once c s compose composes P past w x h kept g y pend at).request in let f : y.request ≡ k = ap (λ (z : Leaving). z.request) is ∙ q in omega arith) | inr bad ↦ absurd bad ]
+      ]),
+      λ le. none_never past w h,
+    )
+    move_spared past w x h kept _ (Takes_on g z there pend composed lt stored) es fs cached (HasOld o b a ge ur) = (stays past w x (take_on g there x) h [] o b a ge ur (other there (λ same. (omega arith))) (omega arith) refl (λ z i q. i), λ le. none_never past w h)
       where
         other : (v : Option Entry) → x.asked ≢ k → with_expired x.asked v x.expired k ≡ x.expired k
         other v ne = (let e : (x.asked == k) ≡ false = grind (arith, nat_tests) in ap (λ b. if b then v else x.expired k) e)
@@ -585,31 +683,31 @@ module _ (c : Conf) (s : Settings) (compose : Request → Result Octets Error) (
     now_on : (past : History) (w : What) (x y : Upper P.State) (h : History) (outs : List Out) → Kept c s P past w x h → Kept c s P past w y (put_all outs h) → y.now ≡ x.now
     now_on past w x y h outs a b = b.clock ∙ (now_all outs h ∙ sym a.clock)
 
-    moves_spared : (past : History) (w : What) (x : Upper P.State) (h : History) (d : Made P.State) (moves : Moves c s compose (machine_of P) x d) (es fs : Cache) → Kept c s P past w x h → AllCached c s compose (machine_of P) eq cap x d moves es fs → Spared x h → Spared d.state (put_all d.outs h) × (x.now ≤ limit → Never k d.outs)
-    moves_spared past w _ h _ (Rests x done) es fs kept cached sp = (sp, λ le. none_never)
+    moves_spared : (past : History) (w : What) (x : Upper P.State) (h : History) (d : Made P.State) (moves : Moves c s compose (machine_of P) x d) (es fs : Cache) → Kept c s P past w x h → AllCached c s compose (machine_of P) eq cap x d moves es fs → Spared past w x h → Spared past w d.state (put_all d.outs h) × (x.now ≤ limit → NoneFails c s k past w h d.outs)
+    moves_spared past w _ h _ (Rests x done) es fs kept cached sp = (sp, λ le. none_never past w h)
     moves_spared past w _ h _ (Goes x d e move more) es fs kept cached sp =
         let a = move_spared past w x h kept d move es (cached.0) cached.1 sp in
         let k' = (move_does c s compose composes P past w x h kept d move).leaves in
         let b = moves_spared past w d.state (put_all d.outs h) e more (cached.0) fs k' cached.2 a.0 in
-        (subst (Spared e.state) (sym (put_more d.outs e.outs h)) b.0, λ le. never_more k d.outs e.outs (a.1 le) (b.1 (subst (λ n. n ≤ limit) (sym (now_on past w x d.state h d.outs kept k')) le)))
+        (subst (Spared past w e.state) (sym (put_more d.outs e.outs h)) b.0, λ le. fails_more past w k d.outs e.outs h (a.1 le) (b.1 (subst (λ n. n ≤ limit) (sym (now_on past w x d.state h d.outs kept k')) le)))
 
-    abbrev Spares : (x : Upper P.State) (d : Made P.State) → History → Type 0
-    Spares x d h = Spared d.state (put_all d.outs h) × (x.now ≤ limit → Never k d.outs)
+    abbrev Spares : (past : History) (w : What) (x : Upper P.State) (d : Made P.State) → History → Type 0
+    Spares past w x d h = Spared past w d.state (put_all d.outs h) × (x.now ≤ limit → NoneFails c s k past w h d.outs)
 
     -- in the row that asks it
     step_spared : (past : History) (w : What) (x : Upper P.State) (h : History) (es gs fs : Cache) → Kept c s P past w x h → (d : Made P.State) (move : Move c s compose (machine_of P) x d) → Cached c s compose (machine_of P) eq cap x d move es gs → x.pending ≡ Ask r → x.asked ≡ k → x.now ≡ u → lookup (eq (key_of r)) es ≡ Some (value q j m moment) → replied j h ≡ true
         → (e : Made P.State) (more : Moves c s compose (machine_of P) d.state e) → AllCached c s compose (machine_of P) eq cap d.state e more gs fs → Kept c s P past w d.state (put_all d.outs h)
-        → (d.state.pending ≡ x.pending → d.state.asked ≡ x.asked → Counts j k h (put_all d.outs h) d.outs → Spares d.state e (put_all d.outs h)) → Spared e.state (put_all e.outs (put_all d.outs h)) × (x.now ≤ limit → Never k (d.outs ++ e.outs))
+        → (d.state.pending ≡ x.pending → d.state.asked ≡ x.asked → Counts j k h (put_all d.outs h) d.outs → Spares past w d.state e (put_all d.outs h)) → Spared past w e.state (put_all e.outs (put_all d.outs h)) × (x.now ≤ limit → NoneFails c s k past w h (d.outs ++ e.outs))
     step_spared past w x h es gs fs kept d move cached pend is_k is_u found rep e more cached' kept' rest = go d move cached e more cached' kept' rest
       where
-        with_counts : (d e : Made P.State) → Kept c s P past w d.state (put_all d.outs h) → Counts j k h (put_all d.outs h) d.outs → Spares d.state e (put_all d.outs h) → Spared e.state (put_all e.outs (put_all d.outs h)) × (x.now ≤ limit → Never k (d.outs ++ e.outs))
-        with_counts d e kept' counts b = (b.0, λ le. never_more k d.outs e.outs counts.calm (b.1 (subst (λ n. n ≤ limit) (sym (now_on past w x d.state h d.outs kept kept')) le)))
+        with_counts : (d e : Made P.State) → Kept c s P past w d.state (put_all d.outs h) → Counts j k h (put_all d.outs h) d.outs → Spares past w d.state e (put_all d.outs h) → Spared past w e.state (put_all e.outs (put_all d.outs h)) × (x.now ≤ limit → NoneFails c s k past w h (d.outs ++ e.outs))
+        with_counts d e kept' counts b = (b.0, λ le. fails_more past w k d.outs e.outs h (none_of past w k d.outs h counts.calm) (b.1 (subst (λ n. n ≤ limit) (sym (now_on past w x d.state h d.outs kept kept')) le)))
 
         replied_now : (k : ℕ) (g : History) → replied k (Put (Reply k (Err errors.TimedOut)) ∷ g) ≡ true
         replied_now k g = grind (arith, nat_tests)
 
         go : (d : Made P.State) (move : Move c s compose (machine_of P) x d) → Cached c s compose (machine_of P) eq cap x d move es gs → (e : Made P.State) (more : Moves c s compose (machine_of P) d.state e) → AllCached c s compose (machine_of P) eq cap d.state e more gs fs → Kept c s P past w d.state (put_all d.outs h)
-            → (d.state.pending ≡ x.pending → d.state.asked ≡ x.asked → Counts j k h (put_all d.outs h) d.outs → Spares d.state e (put_all d.outs h)) → Spared e.state (put_all e.outs (put_all d.outs h)) × (x.now ≤ limit → Never k (d.outs ++ e.outs))
+            → (d.state.pending ≡ x.pending → d.state.asked ≡ x.asked → Counts j k h (put_all d.outs h) d.outs → Spares past w d.state e (put_all d.outs h)) → Spared past w e.state (put_all e.outs (put_all d.outs h)) × (x.now ≤ limit → NoneFails c s k past w h (d.outs ++ e.outs))
         go _ (Server_moves i d lt act) cached e more cached' kept' rest =
             let counts = counts_silent j k past w (put_all d.outs h) d.outs h (acts_right_here c s P past w x h kept i lt d act (put_all d.outs h) (λ k e. e)) rep in
             with_counts (record { state = moved i d x; outs = d.outs }) e kept' counts (rest refl refl counts)
@@ -635,20 +733,21 @@ module _ (c : Conf) (s : Settings) (compose : Request → Result Octets Error) (
         go d (Answers r' y pend' at) cached e more cached' kept' rest =
             let asked : Ask r' ≡ Ask r = sym pend' ∙ pend in
             let same : r' ≡ r = cc in
-            let exact : is_cacheable r ≡ true → (v : Value) (m : Octets) → lookup (eq (key_of r)) es ≡ Some v → v.result ≡ Ok m → is_failing y.result ≡ false = subst (λ r. is_cacheable r ≡ true → (v : Value) (m : Octets) → lookup (eq (key_of r)) es ≡ Some v → v.result ≡ Ok m → is_failing y.result ≡ false) same cached.2 in
+            let exact : is_cacheable r ≡ true → (v : Value) (m : Octets) → lookup (eq (key_of r)) es ≡ Some v → v.result ≡ Ok m → is_failure_of y.result ≡ false = subst (λ r. is_cacheable r ≡ true → (v : Value) (m : Octets) → lookup (eq (key_of r)) es ≡ Some v → v.result ≡ Ok m → is_failure_of y.result ≡ false) same cached.2 in
             let calm = exact ca_r (value q j m moment) m found refl in
             let plain = at_once_plain c s compose x.now x.asked x.stored r' y at in
             let t = kept.to_come x.asked (omega arith) in
-            let un : Untried c s compose composes P k (answer y x) h = record {
+            let un : Untried c s compose composes P is_failure_of k (answer y x) h = record {
               unheld = subst (λ k. x.held k ≡ None) is_k t.unheld;
               below = omega arith;
               unhanded = λ i. subst (λ k. handed k i h ≡ false) is_k (t.unhanded i);
+              no_old = none_yet c s P past w x h kept k is_k;
               calm = λ z l q. elim (in_either z x.leaving (y ∷ []) l) [
                 | inl o ↦ absurd (let lt = (kept.leaves z o).below in omega arith)
-                | inr n ↦ elim n [ inl e ↦ subst (λ (z : Leaving). (z.stale ≡ None) × (is_failing z.result ≡ false)) e (plain, calm) | inr v ↦ absurd v ]
+                | inr n ↦ elim n [ inl e ↦ subst (λ (z : Leaving). (z.stale ≡ None) × (is_failure_of z.result ≡ false)) e (plain, calm) | inr v ↦ absurd v ]
               ];
             } in
-            moves_spared past w (answer y x) h e more gs fs kept' cached' (IsAnswered un)
+            moves_spared past w (answer y x) h e more gs fs kept' cached' (IsAnswered un (subst (λ k. is_asked_here k h ≡ true) is_k ((kept.pending r pend).here)))
         go d (Takes_on r' o' there pend' comp lt stored) cached e more cached' kept' rest =
             let asked : Ask r' ≡ Ask r = sym pend' ∙ pend in
             let same : r' ≡ r = cc in
@@ -656,13 +755,13 @@ module _ (c : Conf) (s : Settings) (compose : Request → Result Octets Error) (
             let is_old : there ≡ Some old = exact ca_r (value q j m moment) m found refl in
             let p = kept.pending r pend in
             let a : asking k h ≡ Some (record { request = r; moment = u }) = subst (λ k. asking k h ≡ Some (record { request = r; moment = u })) is_k (p.asked ∙ ap (λ n. Some (record { request = r; moment = n })) is_u) in
-            moves_spared past w (take_on r' there x) h e more gs fs kept' cached' (HasOld (this there is_k ∙ is_old) (omega arith) a (omega arith))
+            moves_spared past w (take_on r' there x) h e more gs fs kept' cached' (HasOld (this there is_k ∙ is_old) (omega arith) a (omega arith) (λ z i q. absurd (let lt = (kept.leaves z i).below in omega arith)))
           where
             this : (v : Option Entry) → x.asked ≡ k → with_expired x.asked v x.expired k ≡ v
             this v is = (let e : (x.asked == k) ≡ true = grind (arith, nat_tests) in ap (λ b. if b then v else x.expired k) e)
 
     asking_spared : (past : History) (w : What) (x : Upper P.State) (h : History) (d : Made P.State) (moves : Moves c s compose (machine_of P) x d) (es fs : Cache) → Kept c s P past w x h → AllCached c s compose (machine_of P) eq cap x d moves es fs → HitFits (one_if (is_ask x.pending)) es h → x.pending ≡ Ask r → x.asked ≡ k → x.now ≡ u
-        → asking j h ≡ Some (record { request = q; moment = t }) → Ever (IsFreshReply c s j m moment) h → AllAreViews q m j moment k (put_all d.outs h) → asks_since j h ≡ suc few → replies_since j h + other_replies k d.outs ≤ few_r → Spares x d h
+        → asking j h ≡ Some (record { request = q; moment = t }) → Ever (IsFreshReply c s j m moment) h → AllAreViews q m j moment k (put_all d.outs h) → asks_since j h ≡ suc few → replies_since j h + other_replies k d.outs ≤ few_r → Spares past w x d h
     asking_spared past w _ h _ (Rests x done) es fs kept cached f pend is_k is_u ask ever views a b = absurd (clash (is_ask x.pending) (ap is_ask pend) done.taken)
     asking_spared past w _ h _ (Goes x d e move more) es fs kept cached f pend is_k is_u ask ever views a b =
         let all : OutsRight c s past w (put_all (d.outs ++ e.outs) h) h (d.outs ++ e.outs) = (moves_do c s compose composes P past w x h (record { state = e.state; outs = d.outs ++ e.outs }) kept (Goes x d e move more)).right (put_all (d.outs ++ e.outs) h) (λ k r. r) in
@@ -676,10 +775,10 @@ module _ (c : Conf) (s : Settings) (compose : Request → Result Octets Error) (
         let z = step_spared past w x h es (cached.0) fs kept d move cached.1 pend is_k is_u found rep e more cached.2 a'.leaves (λ p n' counts.
         asking_spared past w d.state (put_all d.outs h) e more (cached.0) fs a'.leaves cached.2 g (p ∙ pend) (n' ∙ is_k) (now_on past w x d.state h d.outs kept a'.leaves ∙ is_u) (asking_all j d.outs h ∙ ask) (ever_all (IsFreshReply c s j m moment) d.outs h ever)
         (subst (AllAreViews q m j moment k) (put_more d.outs e.outs h) views) (counts.asks ∙ a) (let z = counts.replies in omega arith)) in
-        (subst (Spared e.state) (sym (put_more d.outs e.outs h)) z.0, z.1)
+        (subst (Spared past w e.state) (sym (put_more d.outs e.outs h)) z.0, z.1)
 
     -- the rows behind it
-    rows_spared : (x : Upper P.State) (rows : List Row) (run : IsRun c s compose (machine_of P) x rows) (old' past : History) (w : What) (es : Cache) → Kept c s P old' w x past → IsDone c s compose (machine_of P) x → AllAskedInOctets (map (λ row. row.event) rows) → RunCached c s compose (machine_of P) eq cap x rows run es → Spared x past → NeverFails k limit past rows
+    rows_spared : (x : Upper P.State) (rows : List Row) (run : IsRun c s compose (machine_of P) x rows) (old' past : History) (w : What) (es : Cache) → Kept c s P old' w x past → IsDone c s compose (machine_of P) x → AllAskedInOctets (map (λ row. row.event) rows) → RunCached c s compose (machine_of P) eq cap x rows run es → Spared old' w x past → NeverFails c s k limit past rows
     rows_spared _ _ (Ends x) old' past w es kept done octets cached sp = tt
     rows_spared _ _ (Goes_on x row x' rows step more) old' past w es kept done octets cached sp =
         let e = row.event in
@@ -689,13 +788,14 @@ module _ (c : Conf) (s : Settings) (compose : Request → Result Octets Error) (
         let all = moves_do c s compose composes P past e.what (row_begins c s compose (machine_of P) e x) h d k0 step.moves in
         let b = moves_spared past e.what (row_begins c s compose (machine_of P) e x) h d step.moves es (cached.0) k0 cached.1 (begins e sp) in
         let same_outs : after row past ≡ put_all d.outs h = ap (λ o. put_all o h) step.outs in (
-          λ le. subst (Never k) (sym step.outs) (b.1 (subst (λ n. n ≤ limit) (sym k0.clock) le)),
-          rows_spared x' rows more past (after row past) e.what (cached.0) (subst₂ (λ z g. Kept c s P past e.what z g) (sym step.leaves) (sym same_outs) all.leaves) (subst (λ z. IsDone c s compose (machine_of P) z) (sym step.leaves) all.done) octets.1 cached.2 (subst₂ Spared (sym step.leaves) (sym same_outs) b.0),
+          λ le. subst (NoneFails c s k past e.what h) (sym step.outs) (b.1 (subst (λ n. n ≤ limit) (sym k0.clock) le)),
+          rows_spared x' rows more past (after row past) e.what (cached.0) (subst₂ (λ z g. Kept c s P past e.what z g) (sym step.leaves) (sym same_outs) all.leaves) (subst (λ z. IsDone c s compose (machine_of P) z) (sym step.leaves) all.done) octets.1 cached.2 (subst₂ (Spared past e.what) (sym step.leaves) (sym same_outs) b.0),
         )
       where
-        begins : (e : Event) → Spared x past → Spared (row_begins c s compose (machine_of P) e x) (Came e ∷ past)
-        begins e (HasOld o b a ge) = HasOld o b (asking_came k (record { request = r; moment = u }) e past a) (omega arith)
-        begins e (IsAnswered un) = IsAnswered (record { unheld = un.unheld; below = un.below; unhanded = un.unhanded; calm = un.calm })
+        begins : (e : Event) → Spared old' w x past → Spared past e.what (row_begins c s compose (machine_of P) e x) (Came e ∷ past)
+        begins e (HasOld o b a ge ur) = HasOld o b (asking_came k (record { request = r; moment = u }) e past a) (omega arith) (λ y i. absurd (subst (IsIn y) done.leaving i))
+        begins e (IsAnswered un here) = IsGone (record { unheld = un.unheld; below = un.below; unhanded = un.unhanded; no_old = un.no_old; calm = λ y i. absurd (subst (IsIn y) done.leaving i) })
+        begins e (IsGone un) = IsGone (record { unheld = un.unheld; below = un.below; unhanded = un.unhanded; no_old = un.no_old; calm = λ y i. absurd (subst (IsIn y) done.leaving i) })
 
   row_hits : (old past : History) (u : What) (x : Upper P.State) (row : Row) (x' : Upper P.State) (es fs : Cache) → Kept c s P old u x past → IsDone c s compose (machine_of P) x → IsAskedInOctets row.event.what → (step : IsStep c s compose (machine_of P) x row x') → AllCached c s compose (machine_of P) eq cap (row_begins c s compose (machine_of P) row.event x) step.made step.moves es fs → HitFits 0 es past
       → Hits c s compose cap past row × (Kept c s P past row.event.what x' (after row past) × IsDone c s compose (machine_of P) x' × HitFits 0 fs (after row past))
@@ -755,8 +855,8 @@ module _ (c : Conf) (s : Settings) (compose : Request → Result Octets Error) (
       (asking_came j (record { request = q; moment = t }) e past ask) (inr ever) (subst (AllAreViews q m j moment (asks past)) same_outs views)
       (ap (λ b. if b then one_if (is_ask e.what) + asks_since j past else 0) rep ∙ (ap (λ w. one_if (is_ask w) + asks_since j past) what ∙ one_more (asks_since j past)))
       (let z : replies_since j h ≡ replies_since j past = ap (λ b. if b then replies_since j past else 0) rep in let y : other_replies (asks past) row.outs ≡ other_replies (asks past) d.outs = ap (other_replies (asks past)) step.outs in omega arith) in (
-        λ le. subst (Never (asks past)) (sym step.outs) (b.1 (subst (λ n'. n' ≤ moment + n + s.stale_for) (sym k0.clock) le)),
-        rows_spared q r j t (asks past) moment n (now h) m known val pos is_known tells ca_q ca_r keys past_it (asks_since j past) few_r room x' rows more past (after row past) e.what fs kept' done' octets.1 cached' (subst₂ (Spared q r j t (asks past) moment n (now h) m known val pos is_known tells ca_q ca_r keys past_it (asks_since j past) few_r room) (sym step.leaves) (sym same_outs) b.0),
+        λ le. subst (NoneFails c s (asks past) past e.what h) (sym step.outs) (b.1 (subst (λ n'. n' ≤ moment + n + s.stale_for) (sym k0.clock) le)),
+        rows_spared q r j t (asks past) moment n (now h) m known val pos is_known tells ca_q ca_r keys past_it (asks_since j past) few_r room x' rows more past (after row past) e.what fs kept' done' octets.1 cached' (subst₂ (Spared q r j t (asks past) moment n (now h) m known val pos is_known tells ca_q ca_r keys past_it (asks_since j past) few_r room past e.what) (sym step.leaves) (sym same_outs) b.0),
       )
     where
       counted : x.asked ≡ asks past
@@ -782,7 +882,7 @@ module _ (c : Conf) (s : Settings) (compose : Request → Result Octets Error) (
 -- In every run whose cache is exact, over any servers' parts, an asking that the cache must answer is answered in its own row.
 abbrev pub EveryCachedRunOverPartsHits : Type 1
 EveryCachedRunOverPartsHits = (c : Conf) (s : Settings) (compose : Request → Result Octets Error) (P : Part c) (eq : Key → Key → Bool) (cap : ℕ) (rows : List Row)
-    → Composes compose → TellsKeys eq → AllAskedInOctets (map (λ row. row.event) rows) → (run : IsRun c s compose (machine_of P) (begun c s compose (machine_of P)) rows) → RunCached c s compose (machine_of P) eq cap (begun c s compose (machine_of P)) rows run [] → AllHit c s compose cap [] rows
+    → Composes c compose → TellsKeys eq → AllAskedInOctets (map (λ row. row.event) rows) → (run : IsRun c s compose (machine_of P) (begun c s compose (machine_of P)) rows) → RunCached c s compose (machine_of P) eq cap (begun c s compose (machine_of P)) rows run [] → AllHit c s compose cap [] rows
 
 pub cached_run_hits : EveryCachedRunOverPartsHits
 cached_run_hits c s compose P eq cap rows composes same octets run cached = run_hits c s compose composes P eq cap same.itself same.back same.on same.equal rows run octets cached
@@ -790,7 +890,7 @@ cached_run_hits c s compose P eq cap rows composes same octets run cached = run_
 -- and a request for which a message that is kept had expired does not fail while that message may serve.
 abbrev pub EveryCachedRunOverPartsServesStale : Type 1
 EveryCachedRunOverPartsServesStale = (c : Conf) (s : Settings) (compose : Request → Result Octets Error) (P : Part c) (eq : Key → Key → Bool) (cap : ℕ) (rows : List Row)
-    → Composes compose → TellsKeys eq → AllAskedInOctets (map (λ row. row.event) rows) → (run : IsRun c s compose (machine_of P) (begun c s compose (machine_of P)) rows) → RunCached c s compose (machine_of P) eq cap (begun c s compose (machine_of P)) rows run [] → AllServeStale c s cap [] rows
+    → Composes c compose → TellsKeys eq → AllAskedInOctets (map (λ row. row.event) rows) → (run : IsRun c s compose (machine_of P) (begun c s compose (machine_of P)) rows) → RunCached c s compose (machine_of P) eq cap (begun c s compose (machine_of P)) rows run [] → AllServeStale c s cap [] rows
 
 pub cached_run_serves_stale : EveryCachedRunOverPartsServesStale
 cached_run_serves_stale c s compose P eq cap rows composes same octets run cached = run_serves_stale c s compose composes P eq cap same.itself same.back same.on same.equal rows run octets cached

@@ -1,5 +1,5 @@
 -- What ties the upper machine's state to the history, at each point between two moves.
-use Rattle.std.proofs.Common.{◌≡◌, ℕ, ◌+◌, ◌<◌, ◌≤◌, Bool, true, false, ◌⊎◌, Option, Some, None, List, [], ◌∷◌, length, is_some, ◌&&◌}
+use Rattle.std.proofs.Common.{◌≡◌, ℕ, ◌+◌, ◌<◌, ◌≤◌, Bool, true, false, ◌⊎◌, Option, Some, None, List, [], ◌∷◌, length, is_some, ◌&&◌, ◌||◌}
 use Rattle.std.specs.Prelude.{Result, Ok, Err}
 use Rattle.client_request.specs.Request.{Request}
 use Rattle.client_request.specs.Carries.{IsOfOctets}
@@ -20,7 +20,7 @@ use Rattle.right_trace.specs.Validity.{validity_of_message, is_deferred, waits_f
 use Rattle.right_trace.specs.Owed.{IsOwed}
 use Rattle.right_trace.specs.Coming.{IsExcused, SomeCame, CameFirst}
 use Rattle.right_trace.specs.Replies.{IsFresh, IsFreshReply, Supplies}
-use Rattle.right_trace.specs.Errors.{HereOrEarlier, DirectCause, OwnCause, IsErrorReply, is_deadline, is_of_server, is_failure}
+use Rattle.right_trace.specs.Errors.{HereOrEarlier, DirectCause, IsErrorReply, is_deadline, is_of_server, is_failing, FailsSo}
 use Rattle.right_trace.specs.Right.{ReplyRight, HasServer}
 use Rattle.right_trace.specs.Views.{stale_of, IsValidStale}
 use Rattle.dns_base.specs.Data.{Data}
@@ -32,6 +32,10 @@ use Rattle.right_trace.specs.Parts.{IsIn, Parts, Says}
 abbrev pub needs_all : Settings → Result Octets Error → Bool
 needs_all s (Ok m) = is_deferred s m
 needs_all s (Err e) = is_of_server e && s.defers_errors
+
+-- so it is with what leaves, or with what was given
+abbrev pub needs_for : Settings → Leaving → Bool
+needs_for s y = needs_all s y.result || needs_all s y.given
 
 -- the history tells of request k what is held of it
 pub record RequestFits (k : ℕ) (a : Waiting) (n : ℕ) (h : History) : Type 0 where
@@ -84,9 +88,7 @@ pub record OldFits (c : Conf) (s : Settings) (k : ℕ) (e : Entry) (n : ℕ) (h 
 -- what is put in the place of a result that fails is what an expired message says
 pub record StaleFits (c : Conf) (s : Settings) (expired : ℕ → Option Entry) (y : Leaving) (m : Octets) (h : History) : Type 0 where
   pub unstored : y.is_stored ≡ false
-  pub error : Error
-  pub is : y.result ≡ Err error
-  pub fails : is_failure error ≡ true
+  pub fails : is_failing y.given ≡ true
   pub old : is_some (expired y.request) ≡ true
   pub server : HasServer c
   pub first : Request
@@ -141,9 +143,9 @@ module _ (c : Conf) (s : Settings) (P : Part c) where
     pub asked : (t : ℕ) × (asking y.request h ≡ Some (record { request = y.asked; moment = t }))
     pub unreplied : replied y.request h ≡ false
     pub right : ReplyRight c s past w h y.request y.result
-    pub free : needs_all s y.result ≡ true → (i : ℕ) → i < length c.servers → P.holds (ups i) y.request ≡ false
+    pub free : needs_for s y ≡ true → (i : ℕ) → i < length c.servers → P.holds (ups i) y.request ≡ false
     pub stores : y.is_stored ≡ true → (is_cacheable y.asked ≡ true) × MayStore c s y.request past w h y.result
-    pub unstored : y.is_stored ≡ false → (m : Octets) → y.result ≡ Ok m → is_cacheable y.asked ≡ true → (n : ℕ) → validity_of_message s m ≡ Some n → 0 < n → is_asked_here y.request h ≡ true
+    pub unstored : y.stale ≡ None → y.is_stored ≡ false → (m : Octets) → y.result ≡ Ok m → is_cacheable y.asked ≡ true → (n : ℕ) → validity_of_message s m ≡ Some n → 0 < n → is_asked_here y.request h ≡ true
 
   -- of what was kept back the first message came first
   pub record IsFirstOf (k : ℕ) (a : Waiting) (past : History) (w : What) (h : History) : Type 0 where
@@ -155,7 +157,7 @@ module _ (c : Conf) (s : Settings) (P : Part c) where
     IsExpected : P.Expects (ups i) p k m → IsTold past w ups board i p k m a h
     IsPosted : IsIn (record { server = i; request = k; result = Ok m }) board → IsTold past w ups board i p k m a h
     IsKeptBack : (g : Given) → IsIn g a.kept_back → g.result ≡ Ok m → IsTold past w ups board i p k m a h
-    IsPassedOver : IsExcused p past w h → IsTold past w ups board i p k m a h
+    IsPassedOver : IsExcused c p past w h → IsTold past w ups board i p k m a h
 
   -- Everything.
   pub record Kept (past : History) (w : What) (x : Upper P.State) (h : History) : Type 0 where
@@ -180,7 +182,7 @@ module _ (c : Conf) (s : Settings) (P : Part c) where
     pub waited : (k : ℕ) → waits k h ≡ true → (is_some (x.held k) ≡ true) ⊎ (Leaves k x.leaving ⊎ ((is_ask x.pending ≡ true) × (k ≡ x.asked)))
     pub entries : (e : Entry) → IsIn e x.stored → EntryFits c s e x.asked h
     pub olds : (k : ℕ) (e : Entry) → x.expired k ≡ Some e → OldFits c s k e x.asked h
-    pub own : (y : Leaving) → IsIn y x.leaving → is_some (x.expired y.request) ≡ true → (e : Error) → y.result ≡ Err e → is_failure e ≡ true → OwnCause c s e y.request past w h
+    pub own : (y : Leaving) → IsIn y x.leaving → is_some (x.expired y.request) ≡ true → is_failing y.given ≡ true → FailsSo c s y.request past w h y.given
     pub revived : (y : Leaving) (m : Octets) → IsIn y x.leaving → y.stale ≡ Some m → StaleFits c s x.expired y m h
     pub unmarked : (k : ℕ) → is_marked k h ≡ false
     pub parts : (i : ℕ) → i < length c.servers → P.Fits i past w (x.ups i) h

@@ -1,7 +1,8 @@
 -- What stays true when a row goes on.
+use Rattle.proof_right.proofs.Received.{waits_on}
 use Rattle.std.proofs.Common.{◌≡◌, ℕ, ◌+◌, ◌<◌, ◌≤◌, Bool, true, false, inl, inr, Option, Some, None, List, [], ◌∷◌, ◌++◌, is_some, refl, arith, sym, ◌∙◌, ap, subst, ◌==◌, ◌&&◌}
 use Rattle.std.specs.Prelude.{Result, Ok, Err, if◌then◌else◌}
-use Rattle.std.proofs.lemmas.Bool.{or_right}
+use Rattle.std.proofs.lemmas.Bool.{or_right, lt-ltb}
 use Rattle.std.proofs.lemmas.Bool.Decides.{nat_tests}
 use Rattle.client_request.specs.Request.{Request}
 use Rattle.client_request.specs.declared.error.Error.{Error}
@@ -11,7 +12,7 @@ use Rattle.client_request.specs.declared.event.Out.TheVariants.{Start, OpenDgram
 use Rattle.client_request.specs.declared.event.Via.{Via}
 use Rattle.client_request.specs.declared.event.Via.TheVariants.{Dgram, Stream}
 use Rattle.right_trace.specs.Trace.{History, Conf, Put, put_all}
-use Rattle.right_trace.specs.Time.{now, newest, stream_timeout, row_before, Ever, EarlierRow, OfRow}
+use Rattle.right_trace.specs.Time.{now, newest, stream_timeout, row_before, Ever, EarlierRow, OfRow, max_tries}
 use Rattle.right_trace.specs.Messages.{Octets}
 use Rattle.right_trace.specs.Requests.{asks, asking, is_asked_here, replied, is_reply, start, started, is_start}
 use Rattle.right_trace.specs.Places.{Site, site, is_at, is_site, stand, Gone, is_close, closed_here}
@@ -24,7 +25,7 @@ use Rattle.right_trace.specs.Owed.{AllAreDone}
 use Rattle.proof_right.proofs.server.Coming.{kind_on}
 use Rattle.right_trace.specs.Coming.{CameFor, IsExcused, SomeCame, CameFirst, FirstHere, FirstEarlier, NoneCame}
 use Rattle.right_trace.specs.Replies.{IsFresh, InThisRow, Deferred, IsFreshReply, CoversLater, Supplies, IsView, Fresh, View}
-use Rattle.right_trace.specs.Errors.{OwnCause, HereOrEarlier, Here, Earlier, CameWithoutValidity, DirectCause, Deadline, NoServer, ByServer, NoValidity, IsErrorReply, IsKeptError, Own, Kept}
+use Rattle.right_trace.specs.Errors.{OwnCause, FailsSo, HereOrEarlier, Here, Earlier, CameWithoutValidity, DirectCause, Deadline, NoServer, ByServer, NoValidity, IsErrorReply, IsKeptError, Own, Kept}
 use Rattle.right_trace.specs.Right.{ReplyRight, ServerOutRight, ServerOutsRight}
 use Rattle.proof_right.proofs.PartLaws.{PostRight, Later}
 use Rattle.proof_right.proofs.client.Kept.{needs_all, WasReply, EntryFits, OldFits, StaleFits}
@@ -123,24 +124,24 @@ gone_put p (Close q) h e = rw e (if_gone (q == p))
 gone_put p (Reply k r) h e = e
 
 -- six sends stay six, with the same last one
-abbrev pub SixStay : History → Out → Type 0
-SixStay h o = (k i : ℕ) → sends k i h ≡ 6 → (sends k i (Put o ∷ h) ≡ 6) × (last_try k i (Put o ∷ h) ≡ last_try k i h)
+abbrev pub SixStay : (c : Conf) → History → Out → Type 0
+SixStay c h o = (k i : ℕ) → sends k i h ≡ max_tries c → (sends k i (Put o ∷ h) ≡ max_tries c) × (last_try k i (Put o ∷ h) ≡ last_try k i h)
 
 and_left : (a b : Bool) → (a && b) ≡ true → b ≡ true
 and_left true b e = e
 and_left false b e = absurd (cc)
 
-pub six_stay : (c : Conf) (past : History) (w : What) (h end : History) (o : Out) → ServerOutRight c past w h end o → SixStay h o
+pub six_stay : (c : Conf) (past : History) (w : What) (h end : History) (o : Out) → ServerOutRight c past w h end o → SixStay c h o
 six_stay c past w h end (Start j t v) x k i e = (e, refl)
 six_stay c past w h end (OpenDgram p t) x k i e = (e, refl)
 six_stay c past w h end (OpenStream p t) x k i e = (e, refl)
 six_stay c past w h end (Send p j id o) x k i e = go (is_send_to k i (Send p j id o) h) refl
   where
-    go : (b : Bool) → is_send_to k i (Send p j id o) h ≡ b → (sends k i (Put (Send p j id o) ∷ h) ≡ 6) × (last_try k i (Put (Send p j id o) ∷ h) ≡ last_try k i h)
-    go true q = absurd (let z = x.1 i (and_left (j == k) (is_at Dgram i p h) q) in let l : sends k i h < 6 → ⊥ = λ lt. (omega arith) in l (same_one q z))
+    go : (b : Bool) → is_send_to k i (Send p j id o) h ≡ b → (sends k i (Put (Send p j id o) ∷ h) ≡ max_tries c) × (last_try k i (Put (Send p j id o) ∷ h) ≡ last_try k i h)
+    go true q = absurd (let z = x.1 i (and_left (j == k) (is_at Dgram i p h) q) in let l : sends k i h < max_tries c → ⊥ = λ lt. (omega arith) in l (same_one q z))
       where
-        same_one : ((j == k) && is_at Dgram i p h) ≡ true → sends j i h < 6 → sends k i h < 6
-        same_one q z = (let e : j ≡ k = grind (arith, nat_tests) in subst (λ n. sends n i h < 6) e z)
+        same_one : ((j == k) && is_at Dgram i p h) ≡ true → sends j i h < max_tries c → sends k i h < max_tries c
+        same_one q z = (let e : j ≡ k = grind (arith, nat_tests) in subst (λ n. sends n i h < max_tries c) e z)
     go false q = rw q (e, refl)
 six_stay c past w h end (Write p j id o) x k i e = (e, refl)
 six_stay c past w h end (Resume p o) x k i e = (e, refl)
@@ -148,11 +149,11 @@ six_stay c past w h end (Stale l) x k i e = (e, refl)
 six_stay c past w h end (Close p) x k i e = (e, refl)
 six_stay c past w h end (Reply j r) x k i e = absurd x
 
-pub six_mark : (j : ℕ) (h : History) → SixStay h (Stale j)
-six_mark j h k i e = (e, refl)
+pub six_mark : (c : Conf) → (j : ℕ) (h : History) → SixStay c h (Stale j)
+six_mark c j h k i e = (e, refl)
 
-pub six_reply : (j : ℕ) (x : Result Octets Error) (h : History) → SixStay h (Reply j x)
-six_reply j x h k i e = (e, refl)
+pub six_reply : (c : Conf) → (j : ℕ) (x : Result Octets Error) (h : History) → SixStay c h (Reply j x)
+six_reply c j x h k i e = (e, refl)
 
 -- what comes still comes when a row goes on: a write only adds
 
@@ -172,47 +173,47 @@ written_more k n (Stale l) true x ws i = i
 written_more k n (Close a) true x ws i = i
 written_more k n (Reply a y) true x ws i = i
 
-still_before : (n : ℕ) (b : Bool) (t : Option ℕ) → is_before n t ≡ true → is_before n (if b then Some n else t) ≡ true
+still_before : (c : Conf) → (n : ℕ) (b : Bool) (t : Option ℕ) → is_before c n t ≡ true → is_before c n (if b then Some n else t) ≡ true
 unfolding stream_timeout
-still_before n true t e = grind (arith, nat_tests)
-still_before n false t e = e
+still_before c n true t e = lt-ltb n (n + stream_timeout c) (let pos = waits_on c in omega (arith, pos))
+still_before c n false t e = e
 
 before_of : (b : Bool) (x : Octets) (ys : List Octets) → IsAmong x (if b then ys else []) → (b ≡ true) × IsAmong x ys
 before_of true x ys i = (refl, i)
 before_of false x ys i = absurd i
 
-waited_put : (v : Via) (r : Request) (s p k id : ℕ) (o : Out) (x : Octets) (past h : History) → IsAmong x (waited_for v r s p k id (now h) [] past h) → IsAmong x (waited_for v r s p k id (now h) [] past (Put o ∷ h))
-waited_put Dgram r s p k id o x past h i = i
-waited_put Stream r s p k id o x past h i =
-    let b = before_of (is_before (now h) (start k s Stream h)) x (octets_for k (waiting_with [] p id h)) i in
-    rw (still_before (now h) (is_start k s Stream o) (start k s Stream h) b.0) (written_more k (now h) o (is_write p id o && true) x (waiting_with [] p id h) b.1)
+waited_put : (c : Conf) → (v : Via) (r : Request) (s p k id : ℕ) (o : Out) (x : Octets) (past h : History) → IsAmong x (waited_for c v r s p k id (now h) [] past h) → IsAmong x (waited_for c v r s p k id (now h) [] past (Put o ∷ h))
+waited_put c Dgram r s p k id o x past h i = i
+waited_put c Stream r s p k id o x past h i =
+    let b = before_of (is_before c (now h) (start k s Stream h)) x (octets_for k (waiting_with [] p id h)) i in
+    rw (still_before c (now h) (is_start k s Stream o) (start k s Stream h) b.0) (written_more k (now h) o (is_write p id o && true) x (waiting_with [] p id h) b.1)
 
 pub comes_put : (c : Conf) (r : Request) (v : Via) (s p k id : ℕ) (m : Octets) (past : History) (w : What) (o : Out) (h : History) → Comes c r v s p k id m past w h → Comes c r v s p k id m past w (Put o ∷ h)
-comes_put c r v s p k id m past w o h x = record { is_open = record { stands = x.is_open.stands; octets = x.is_open.octets; sent = waited_put v r s p k id o x.is_open.octets past h x.is_open.sent; carries = x.is_open.carries }; first = x.first }
+comes_put c r v s p k id m past w o h x = record { is_open = record { stands = x.is_open.stands; octets = x.is_open.octets; sent = waited_put c v r s p k id o x.is_open.octets past h x.is_open.sent; carries = x.is_open.carries }; first = x.first }
 
 pub comes_all : (c : Conf) (r : Request) (v : Via) (s p k id : ℕ) (m : Octets) (past : History) (w : What) (xs : List Out) (h : History) → Comes c r v s p k id m past w h → Comes c r v s p k id m past w (put_all xs h)
 comes_all c r v s p k id m past w [] h x = x
 comes_all c r v s p k id m past w (o ∷ xs) h x = comes_all c r v s p k id m past w xs (Put o ∷ h) (comes_put c r v s p k id m past w o h x)
 
 -- a reply adds nothing to it
-waited_reply : (v : Via) (r : Request) (s p k id l : ℕ) (u : Result Octets Error) (x : Octets) (past h : History) → IsAmong x (waited_for v r s p k id (now h) [] past (Put (Reply l u) ∷ h)) → IsAmong x (waited_for v r s p k id (now h) [] past h)
-waited_reply Dgram r s p k id l u x past h i = i
-waited_reply Stream r s p k id l u x past h i = i
+waited_reply : (c : Conf) → (v : Via) (r : Request) (s p k id l : ℕ) (u : Result Octets Error) (x : Octets) (past h : History) → IsAmong x (waited_for c v r s p k id (now h) [] past (Put (Reply l u) ∷ h)) → IsAmong x (waited_for c v r s p k id (now h) [] past h)
+waited_reply c Dgram r s p k id l u x past h i = i
+waited_reply c Stream r s p k id l u x past h i = i
 
 pub matches_reply : (c : Conf) (r : Request) (v : Via) (s p k id : ℕ) (m : Octets) (past : History) (w : What) (l : ℕ) (u : Result Octets Error) (h : History) → Matches c r v s p k id m past w (Put (Reply l u) ∷ h) → Matches c r v s p k id m past w h
-matches_reply c r v s p k id m past w l u h x = (let o = x.comes.is_open in record { comes = record { is_open = record { stands = o.stands; octets = o.octets; sent = waited_reply v r s p k id l u o.octets past h o.sent; carries = o.carries }; first = x.comes.first }; agrees = x.agrees; whole = x.whole })
+matches_reply c r v s p k id m past w l u h x = (let o = x.comes.is_open in record { comes = record { is_open = record { stands = o.stands; octets = o.octets; sent = waited_reply c v r s p k id l u o.octets past h o.sent; carries = o.carries }; first = x.comes.first }; agrees = x.agrees; whole = x.whole })
 
 -- nor does a mark
-waited_mark : (v : Via) (r : Request) (s p k id l : ℕ) (x : Octets) (past h : History) → IsAmong x (waited_for v r s p k id (now h) [] past (Put (Stale l) ∷ h)) → IsAmong x (waited_for v r s p k id (now h) [] past h)
-waited_mark Dgram r s p k id l x past h i = i
-waited_mark Stream r s p k id l x past h i = i
+waited_mark : (c : Conf) → (v : Via) (r : Request) (s p k id l : ℕ) (x : Octets) (past h : History) → IsAmong x (waited_for c v r s p k id (now h) [] past (Put (Stale l) ∷ h)) → IsAmong x (waited_for c v r s p k id (now h) [] past h)
+waited_mark c Dgram r s p k id l x past h i = i
+waited_mark c Stream r s p k id l x past h i = i
 
 pub matches_mark : (c : Conf) (r : Request) (v : Via) (s p k id : ℕ) (m : Octets) (past : History) (w : What) (l : ℕ) (h : History) → Matches c r v s p k id m past w (Put (Stale l) ∷ h) → Matches c r v s p k id m past w h
-matches_mark c r v s p k id m past w l h x = (let o = x.comes.is_open in record { comes = record { is_open = record { stands = o.stands; octets = o.octets; sent = waited_mark v r s p k id l o.octets past h o.sent; carries = o.carries }; first = x.comes.first }; agrees = x.agrees; whole = x.whole })
+matches_mark c r v s p k id m past w l h x = (let o = x.comes.is_open in record { comes = record { is_open = record { stands = o.stands; octets = o.octets; sent = waited_mark c v r s p k id l o.octets past h o.sent; carries = o.carries }; first = x.comes.first }; agrees = x.agrees; whole = x.whole })
 
 -- causes
 
-cause_put : (c : Conf) (k : ℕ) (past : History) (w : What) (o : Out) (h : History) (e : Error) → SixStay h o → ServerCause c k past w h e → ServerCause c k past w (Put o ∷ h) e
+cause_put : (c : Conf) (k : ℕ) (past : History) (w : What) (o : Out) (h : History) (e : Error) → SixStay c h o → ServerCause c k past w h e → ServerCause c k past w (Put o ∷ h) e
 cause_put c k past w o h _ six (NotOpened f x) = NotOpened f (record {
   place = x.place;
   server = x.server;
@@ -224,16 +225,16 @@ cause_put c k past w o h _ six (NotOpened f x) = NotOpened f (record {
 cause_put c k past w o h _ six (NotSent f x) = NotSent f x
 cause_put c k past w o h _ six (SentShort x) = SentShort x
 cause_put c k past w o h _ six (NotReceived f x) = NotReceived f x
-cause_put c k past w o h _ six (NoAnswer x) = (let z = six k x.server x.six in NoAnswer (record { server = x.server; six = z.0; last = x.last; is_last = z.1 ∙ x.is_last; old = x.old; lived = x.lived }))
+cause_put c k past w o h _ six (NoAnswer x) = (let z = six k x.server x.all in NoAnswer (record { server = x.server; all = z.0; last = x.last; is_last = z.1 ∙ x.is_last; old = x.old; lived = x.lived }))
 cause_put c k past w o h _ six (WrongReply x) = WrongReply (record { request = x.request; server = x.server; place = x.place; id = x.id; message = x.message; comes = comes_put c x.request Stream x.server x.place k x.id x.message past w o h x.comes; differs = x.differs })
 cause_put c k past w o h _ six (StreamSilence x) = StreamSilence x
 cause_put c k past w o h _ six (NotRead x) = NotRead (record { asking_of = x.asking_of; asked = x.asked; reason = x.reason })
 cause_put c k past w o h _ six (NotComposed x) = NotComposed (record { asking_of = x.asking_of; asked = x.asked; reason = x.reason })
 
-pub excused_on : (p : ℕ) (past : History) (w : What) (xs : List Out) (h : History) → IsExcused p past w h → IsExcused p past w (put_all xs h)
+pub excused_on : (c : Conf) → (p : ℕ) (past : History) (w : What) (xs : List Out) (h : History) → IsExcused c p past w h → IsExcused c p past w (put_all xs h)
 unfolding IsExcused
-excused_on p past w [] h e = e
-excused_on p past w (x ∷ xs) h e = excused_on p past w xs (Put x ∷ h) (or_right (is_close p x) (closed_here p h) e.0, e.1, kind_on p x (site p h) e.2)
+excused_on c p past w [] h e = e
+excused_on c p past w (x ∷ xs) h e = excused_on c p past w xs (Put x ∷ h) (or_right (is_close p x) (closed_here p h) e.0, e.1, kind_on p x (site p h) e.2)
 
 -- What holds of a row still holds when it has gone on.
 pub record Carried (c : Conf) (past : History) (w : What) (h h' : History) : Type 1 where
@@ -253,7 +254,7 @@ pub record Carried (c : Conf) (past : History) (w : What) (h h' : History) : Typ
 pub carried_none : (c : Conf) (past : History) (w : What) (h : History) → Carried c past w h h
 carried_none c past w h = record { asked = λ k. refl; count = refl; clock = refl; here = λ k. refl; event = refl; row = refl; replies = λ k e. e; ever = λ P e. e; earlier = λ P e. e; earlier_back = λ P e. e; cause = λ k e x. x; comes = λ r v s p k id m x. x }
 
-pub carried_put : (c : Conf) (past : History) (w : What) (h : History) (o : Out) → SixStay h o → Carried c past w h (Put o ∷ h)
+pub carried_put : (c : Conf) (past : History) (w : What) (h : History) (o : Out) → SixStay c h o → Carried c past w h (Put o ∷ h)
 carried_put c past w h o six = record {
   asked = λ k. refl;
   count = refl;
@@ -342,7 +343,7 @@ module _ (c : Conf) (past : History) (w : What) (h h' : History) (on : Carried c
   first_on k m (FirstHere x none) = FirstHere (came_on k m x) (λ e. none (on.earlier_back (OfRow (SomeCame c k)) e))
   first_on k m (FirstEarlier x) = FirstEarlier (on.earlier (λ e. OfRow (CameFor c k m) e × (EarlierRow (OfRow (SomeCame c k)) e → ⊥)) x)
 
-  pub none_on : (excused : (p : ℕ) → IsExcused p past w h → IsExcused p past w h') (back : (r : Request) (v : Via) (i p k id : ℕ) (m : Octets) → Matches c r v i p k id m past w h' → Matches c r v i p k id m past w h) (k : ℕ) → NoneCame c k past w h → NoneCame c k past w h'
+  pub none_on : (excused : (p : ℕ) → IsExcused c p past w h → IsExcused c p past w h') (back : (r : Request) (v : Via) (i p k id : ℕ) (m : Octets) → Matches c r v i p k id m past w h' → Matches c r v i p k id m past w h) (k : ℕ) → NoneCame c k past w h → NoneCame c k past w h'
   none_on excused back k x = record {
     here = λ z. x.here (record { message = z.message; came = record { request = z.came.request; via = z.came.via; server = z.came.server; place = z.came.place; id = z.came.id; matches = back z.came.request z.came.via z.came.server z.came.place k z.came.id z.message z.came.matches }; counts = λ e. z.counts (excused z.came.place e) });
     before = λ e. x.before (on.earlier_back (OfRow (SomeCame c k)) e);
@@ -359,9 +360,14 @@ module _ (c : Conf) (past : History) (w : What) (h h' : History) (on : Carried c
   pub own_on : (s : Settings) (k : ℕ) (e : Error) → (needs_all s (Err e) ≡ true → NoneCame c k past w h → NoneCame c k past w h') → (needs_all s (Err e) ≡ true → AllAreDone c k past w h → AllAreDone c k past w h') → OwnCause c s e k past w h → OwnCause c s e k past w h'
   own_on s k e g f o = record { direct = direct_on s k e o.direct; last = λ a b. (f (rw a b) (o.last a b).0, g (rw a b) (o.last a b).1) }
 
+  -- so does why a result fails
+  pub fails_on : (s : Settings) (k : ℕ) (x : Result Octets Error) → (needs_all s x ≡ true → NoneCame c k past w h → NoneCame c k past w h') → (needs_all s x ≡ true → AllAreDone c k past w h → AllAreDone c k past w h') → FailsSo c s k past w h x → FailsSo c s k past w h' x
+  fails_on s k (Ok m) g f o = (fresh_on s k m o.0, λ e. (f e (o.1 e).0, first_on k m (o.1 e).1))
+  fails_on s k (Err e) g f o = own_on s k e g f o
+
   -- and what is put in its place
   pub revived_on : (s : Settings) (expired : ℕ → Option Entry) (y : Leaving) (m : Octets) → StaleFits c s expired y m h → StaleFits c s expired y m h'
-  revived_on s expired y m f = record { unstored = f.unstored; error = f.error; is = f.is; fails = f.fails; old = f.old; server = f.server; first = f.first; request = f.request; message = f.message; age = f.age; supplied = supplies_on s y.request f.first f.request f.message f.age f.supplied; parts = f.parts; valid = f.valid; says = f.says }
+  revived_on s expired y m f = record { unstored = f.unstored; fails = f.fails; old = f.old; server = f.server; first = f.first; request = f.request; message = f.message; age = f.age; supplied = supplies_on s y.request f.first f.request f.message f.age f.supplied; parts = f.parts; valid = f.valid; says = f.says }
 
   was_on : (s : Settings) (k n : ℕ) (y : Result Octets Error) → WasReply c s k n h y → WasReply c s k n h' y
   was_on s k n (Ok m) q = (on.ever (IsFreshReply c s k m n) q.0, q.1)

@@ -1,6 +1,6 @@
 -- What is given is right: a result that is delivered, the best of those kept back, an answer at once.
 use Rattle.proof_right.proofs.PartLaws.{machine_of, PostRight, Part}
-use Rattle.std.proofs.Common.{◌≡◌, ℕ, ◌+◌, ◌<◌, ◌≤◌, Bool, true, false, inl, inr, Option, Some, None, List, [], ◌∷◌, length, refl, arith, sym, ◌∙◌, ap, subst, ◌&&◌}
+use Rattle.std.proofs.Common.{◌≡◌, ℕ, ◌+◌, ◌<◌, ◌≤◌, Bool, true, false, inl, inr, Option, Some, None, List, [], ◌∷◌, length, refl, arith, sym, ◌∙◌, ap, subst, ◌&&◌, ◌||◌}
 use Rattle.std.specs.Prelude.{Result, Ok, Err, nat_lt}
 use Rattle.std.proofs.lemmas.Bool.Decides.{nat_tests}
 use Rattle.client_request.specs.Request.{Request}
@@ -12,24 +12,24 @@ use Rattle.right_trace.specs.Time.{newest, row_before, EarlierRow, OfRow}
 use Rattle.right_trace.specs.Messages.{Octets, Composes}
 use Rattle.right_trace.specs.Requests.{Asking, asking, is_asked_here, handed}
 use Rattle.right_trace.specs.Settings.{Settings}
-use Rattle.right_trace.specs.Keys.{KeyCovers, key_of, is_cacheable}
-use Rattle.right_trace.specs.Validity.{validity_of_message, is_above, is_deferred, waits_for_others}
+use Rattle.right_trace.specs.Keys.{KeyCovers, is_cacheable}
+use Rattle.right_trace.specs.Validity.{validity_of_message, is_deferred, waits_for_others}
 use Rattle.right_trace.specs.Owed.{IsOwed, AllAreDone}
 use Rattle.right_trace.specs.Coming.{IsExcused, CameFor, CameFirst, NoneCame}
 use Rattle.right_trace.specs.Replies.{IsFresh, InThisRow, Deferred, Supplies, Fresh, View}
 use Rattle.right_trace.specs.Causes.{ServerCause, NotOpened, NotSent, SentShort, NotReceived, NoAnswer, WrongReply, StreamSilence, NotRead, NotComposed}
-use Rattle.right_trace.specs.Errors.{HereOrEarlier, Here, Earlier, CameWithoutValidity, DirectCause, NoServer, ByServer, NoValidity, is_deadline, is_of_server, is_failure, OwnCause, HasCause, Own, Kept as KeptError}
+use Rattle.right_trace.specs.Errors.{HereOrEarlier, Here, Earlier, CameWithoutValidity, DirectCause, NoServer, ByServer, NoValidity, is_deadline, is_of_server, is_failing, FailsSo, HasCause, Own, Kept as KeptError}
 use Rattle.right_trace.specs.Right.{ReplyRight}
 use Rattle.proof_right.specs.machine.Client.{Given, Waiting, Leaving, Entry, Upper, best, first_message, first_result, or_else, validity_of, outcome, outcome_of, IsOutcome, Caches, Passes, AtOnce, Refused, Viewed, Repeated, Nowhere, NoneOf}
 use Rattle.right_trace.specs.Parts.{IsIn}
-use Rattle.proof_right.proofs.client.Kept.{needs_all, MayStore, WasReply, IsTold, IsExpected, IsPosted, IsKeptBack, IsPassedOver, Kept}
+use Rattle.proof_right.proofs.client.Kept.{needs_all, needs_for, MayStore, WasReply, IsTold, IsExpected, IsPosted, IsKeptBack, IsPassedOver, Kept}
 use Rattle.proof_right.proofs.client.Lists.{best_message, best_error, no_message}
 use Rattle.proof_right.proofs.client.Serving.{clash}
-use Rattle.right_trace.proofs.Asked.{earlier_asked, do_back, serves}
+use Rattle.right_trace.proofs.Asked.{earlier_asked, serves}
 use Rattle.client_request.specs.declared.error.Error.TheVariants as errors
 
 -- an error that a server gives is not that of the deadline
-not_deadline : (c : Conf) (k : ℕ) (past : History) (w : What) (h : History) (e : Error) → ServerCause c k past w h e → is_deadline e ≡ false
+pub not_deadline : (c : Conf) (k : ℕ) (past : History) (w : What) (h : History) (e : Error) → ServerCause c k past w h e → is_deadline e ≡ false
 not_deadline c k past w h _ (NotOpened f x) = refl
 not_deadline c k past w h _ (NotSent f x) = refl
 not_deadline c k past w h _ (SentShort x) = refl
@@ -40,7 +40,7 @@ not_deadline c k past w h _ (StreamSilence x) = refl
 not_deadline c k past w h _ (NotRead x) = refl
 not_deadline c k past w h _ (NotComposed x) = refl
 
-ever_not_deadline : (c : Conf) (k : ℕ) (e : Error) (h : History) → EarlierRow (OfRow (λ past w h. ServerCause c k past w h e)) h → is_deadline e ≡ false
+pub ever_not_deadline : (c : Conf) (k : ℕ) (e : Error) (h : History) → EarlierRow (OfRow (λ past w h. ServerCause c k past w h e)) h → is_deadline e ≡ false
 ever_not_deadline c k e [] x = absurd x
 ever_not_deadline c k e (Came v ∷ h) (inl x) = not_deadline c k (row_before h) (newest h) h e x
 ever_not_deadline c k e (Came v ∷ h) (inr x) = ever_not_deadline c k e h x
@@ -129,11 +129,11 @@ module _ (c : Conf) (s : Settings) (past : History) (w : What) (h : History) (k 
   concluded (Err e) on (Earlier q x) d all b = error_outcome e (ByServer e (Earlier d (ever_cause c k e h x))) (ever_not_deadline c k e h (ever_cause c k e h x)) (λ a q. (all, b)) (is_cacheable r) refl
 
   -- a message that has no validity, where no cache looks at it
-  passed : (m : Octets) → IsFresh c s k m past w h → (is_deferred s m ≡ true → AllAreDone c k past w h × CameFirst c k m past w h) → validity_of_message s m ≡ None → OutcomeFits c s past w h k r (record { request = k; asked = r; result = Ok m; is_stored = false; stale = None })
+  passed : (m : Octets) → IsFresh c s k m past w h → (is_deferred s m ≡ true → AllAreDone c k past w h × CameFirst c k m past w h) → validity_of_message s m ≡ None → OutcomeFits c s past w h k r (record { request = k; asked = r; result = Ok m; given = Ok m; is_stored = false; stale = None })
   passed m fresh done none = record { request = refl; asked = refl; right = Fresh fresh done; stores = λ e. absurd (cc); unstored = λ e q same ca n p l. absurd (let z : m ≡ q = cc in let v : Path (Option ℕ) None (Some n) = sym none ∙ (ap (validity_of_message s) z ∙ p) in cc) }
 
-  as_it_is : (y : Result Octets Error) (m : Octets) → y ≡ Ok m → OutcomeFits c s past w h k r (record { request = k; asked = r; result = Ok m; is_stored = false; stale = None }) → OutcomeFits c s past w h k r (record { request = k; asked = r; result = y; is_stored = false; stale = None })
-  as_it_is y m e o = subst (λ y. OutcomeFits c s past w h k r (record { request = k; asked = r; result = y; is_stored = false; stale = None })) (sym e) o
+  as_it_is : (y : Result Octets Error) (m : Octets) → y ≡ Ok m → OutcomeFits c s past w h k r (record { request = k; asked = r; result = Ok m; given = Ok m; is_stored = false; stale = None }) → OutcomeFits c s past w h k r (record { request = k; asked = r; result = y; given = y; is_stored = false; stale = None })
+  as_it_is y m e o = subst (λ y. OutcomeFits c s past w h k r (record { request = k; asked = r; result = y; given = y; is_stored = false; stale = None })) (sym e) o
 
   pub delivered_so : (y : Result Octets Error) (z : Leaving) → IsOutcome s k r y z → ((a : Asking) → asking k past ≡ Some a → asking k h ≡ Some a) → PostRight c k y past w h → waits_for_others s y ≡ false → OutcomeFits c s past w h k r z
   delivered_so y _ Caches on x final = delivered y on x final
@@ -171,39 +171,57 @@ at_once_plain c s compose n k es r _ (Viewed e m y parts age composed j q cover 
 at_once_plain c s compose n k es r _ (Repeated e v composed j q cover le) = refl
 at_once_plain c s compose n k es r _ (Nowhere composed none) = outcome_plain s k r (Err errors.NoTransportAvailable) (outcome s k r (Err errors.NoTransportAvailable)) Caches
 
--- an outcome that fails is an error that was given
-fails_so : (s : Settings) (k : ℕ) (r : Request) (y : Result Octets Error) (z : Leaving) → IsOutcome s k r y z → (e : Error) → z.result ≡ Err e → is_failure e ≡ true → y ≡ Err e
-fails_so s k r (Ok m) _ Caches e q fails = absurd (go (is_cacheable r) (validity_of_message s m) q)
+-- an outcome that fails is the result that was given
+fails_so : (s : Settings) (k : ℕ) (r : Request) (y : Result Octets Error) (z : Leaving) → IsOutcome s k r y z → is_failing z.result ≡ true → y ≡ z.result
+fails_so s k r (Ok m) _ Caches fails = go (is_cacheable r) (validity_of_message s m) fails
   where
-    go : (b : Bool) (v : Option ℕ) → (outcome_of b v k r (Ok m)).result ≡ Err e → ⊥
-    go false v q = (let z : Path (Result Octets Error) (Ok m) (Err e) = q in absurd (cc))
-    go true (Some n) q = (let z : Path (Result Octets Error) (Ok m) (Err e) = q in absurd (cc))
-    go true None q = (let z : Path (Result Octets Error) (Err errors.MessageParseError) (Err e) = q in let same : errors.MessageParseError ≡ e = cc in clash (is_failure e) fails (ap is_failure (sym same)))
-fails_so s k r (Err x) _ Caches e q fails = go (is_cacheable r) q
+    go : (b : Bool) (v : Option ℕ) → is_failing (outcome_of b v k r (Ok m)).result ≡ true → Path (Result Octets Error) (Ok m) (outcome_of b v k r (Ok m)).result
+    go false v f = refl
+    go true (Some n) f = refl
+    go true None f = absurd (cc)
+fails_so s k r (Err x) _ Caches fails = go (is_cacheable r)
   where
-    go : (b : Bool) → (outcome_of b (Some s.transport_failure_duration) k r (Err x)).result ≡ Err e → Path (Result Octets Error) (Err x) (Err e)
-    go false q = q
-    go true q = q
-fails_so s k r y _ (Passes m is none) e q fails = q
+    go : (b : Bool) → Path (Result Octets Error) (Err x) (outcome_of b (Some s.transport_failure_duration) k r (Err x)).result
+    go false = refl
+    go true = refl
+fails_so s k r y _ (Passes m is none) fails = refl
 
--- and has a cause of its own
-pub delivered_own : (c : Conf) (s : Settings) (past : History) (w : What) (h : History) (k j : ℕ) (r : Request) (y : Result Octets Error) (z : Leaving) → IsOutcome s j r y z → PostRight c k y past w h → waits_for_others s y ≡ false → (e : Error) → z.result ≡ Err e → is_failure e ≡ true → OwnCause c s e k past w h
-delivered_own c s past w h k j r y z out x final e q fails =
-    let is = fails_so s j r y z out e q fails in
-    let x' : PostRight c k (Err e) past w h = subst (λ y. PostRight c k y past w h) is x in
-    let final' : waits_for_others s (Err e) ≡ false = subst (λ y. waits_for_others s y ≡ false) is final in
-    record { direct = ByServer e (Here x'.0); last = λ a d. absurd (clash s.defers_errors d final') }
-
-pub concluded_own : (c : Conf) (s : Settings) (past : History) (w : What) (h : History) (k t : ℕ) (r : Request) (asked : asking k h ≡ Some (record { request = r; moment = t })) (y : Result Octets Error) (z : Leaving) → IsOutcome s k r y z → HereOrEarlier true (PostRight c k y) past w h → waits_for_others s y ≡ true → AllAreDone c k past w h → IsBest c s past w h k t r asked y
-    → (e : Error) → z.result ≡ Err e → is_failure e ≡ true → OwnCause c s e k past w h
-concluded_own c s past w h k t r asked y z out x d all b e q fails = go (fails_so s k r y z out e q fails)
+-- what was given is told beside it
+pub given_so : (s : Settings) (k : ℕ) (r : Request) (y : Result Octets Error) (z : Leaving) → IsOutcome s k r y z → z.given ≡ y
+given_so s k r y _ Caches = go (is_cacheable r) (validity_of s y)
   where
-    cause : HereOrEarlier true (PostRight c k (Err e)) past w h → waits_for_others s (Err e) ≡ true → DirectCause c s k past w h e
-    cause (Here x) d = ByServer e (Here x.0)
-    cause (Earlier u x) d = ByServer e (Earlier d (ever_cause c k e h x))
+    go : (b : Bool) (v : Option ℕ) → (outcome_of b v k r y).given ≡ y
+    go false v = refl
+    go true (Some n) = refl
+    go true None = refl
+given_so s k r y _ (Passes m is none) = refl
 
-    go : y ≡ Err e → OwnCause c s e k past w h
-    go is = record { direct = cause (subst (λ y. HereOrEarlier true (PostRight c k y) past w h) is x) (subst (λ y. waits_for_others s y ≡ true) is d); last = λ a f. (all, subst (IsBest c s past w h k t r asked) is b) }
+pub failing_so : (s : Settings) (k : ℕ) (r : Request) (y : Result Octets Error) (z : Leaving) → IsOutcome s k r y z → is_failing z.result ≡ true → is_failing z.given ≡ true
+failing_so s k r y z out fails = ap is_failing (given_so s k r y z out ∙ fails_so s k r y z out fails) ∙ fails
+
+-- and why it fails is told
+pub delivered_fails : (c : Conf) (s : Settings) (past : History) (w : What) (h : History) (k j : ℕ) (r : Request) (y : Result Octets Error) (z : Leaving) → IsOutcome s j r y z → PostRight c k y past w h → waits_for_others s y ≡ false → FailsSo c s k past w h z.given
+delivered_fails c s past w h k j r y z out x final = subst (FailsSo c s k past w h) (sym (given_so s j r y z out)) (go y x final)
+  where
+    go : (y : Result Octets Error) → PostRight c k y past w h → waits_for_others s y ≡ false → FailsSo c s k past w h y
+    go (Ok m) x final = (InThisRow x, λ d. absurd (clash (is_deferred s m) d final))
+    go (Err e) x final = record { direct = ByServer e (Here x.0); last = λ a d. absurd (clash s.defers_errors d final) }
+
+pub concluded_fails : (c : Conf) (s : Settings) (past : History) (w : What) (h : History) (k t : ℕ) (r : Request) (asked : asking k h ≡ Some (record { request = r; moment = t })) (y : Result Octets Error) (z : Leaving) → IsOutcome s k r y z → HereOrEarlier true (PostRight c k y) past w h → waits_for_others s y ≡ true → AllAreDone c k past w h → IsBest c s past w h k t r asked y
+    → FailsSo c s k past w h z.given
+concluded_fails c s past w h k t r asked y z out x d all b = subst (FailsSo c s k past w h) (sym (given_so s k r y z out)) (go y x d b)
+  where
+    fresh : (m : Octets) → HereOrEarlier true (PostRight c k (Ok m)) past w h → is_deferred s m ≡ true → IsFresh c s k m past w h
+    fresh m (Here x) d = InThisRow x
+    fresh m (Earlier u x) d = Deferred d x
+
+    cause : (e : Error) → HereOrEarlier true (PostRight c k (Err e)) past w h → s.defers_errors ≡ true → DirectCause c s k past w h e
+    cause e (Here x) d = ByServer e (Here x.0)
+    cause e (Earlier u x) d = ByServer e (Earlier d (ever_cause c k e h x))
+
+    go : (y : Result Octets Error) → HereOrEarlier true (PostRight c k y) past w h → waits_for_others s y ≡ true → IsBest c s past w h k t r asked y → FailsSo c s k past w h y
+    go (Ok m) x d b = (fresh m x d, λ q. (all, b))
+    go (Err e) x d b = record { direct = cause e x d; last = λ a f. (all, b) }
 
 -- what an outcome needs all servers for is what was kept back
 pub outcome_needs : (s : Settings) (k : ℕ) (r : Request) (y : Result Octets Error) → needs_all s (outcome s k r y).result ≡ true → waits_for_others s y ≡ true
@@ -227,6 +245,21 @@ pub outcome_needs_so : (s : Settings) (k : ℕ) (r : Request) (y : Result Octets
 outcome_needs_so s k r y _ Caches e = outcome_needs s k r y e
 outcome_needs_so s k r y _ (Passes m is none) e = subst (λ y. waits_for_others s y ≡ true) (sym is) (subst (λ y. needs_all s y ≡ true) is e)
 
+pub outcome_needs_for : (s : Settings) (k : ℕ) (r : Request) (y : Result Octets Error) (z : Leaving) → IsOutcome s k r y z → needs_for s z ≡ true → waits_for_others s y ≡ true
+outcome_needs_for s k r y z out e = go (needs_all s z.result) refl e
+  where
+    waits : (y : Result Octets Error) → needs_all s y ≡ true → waits_for_others s y ≡ true
+    waits (Ok m) e = e
+    waits (Err x) e = right (is_of_server x) s.defers_errors e
+      where
+        right : (a b : Bool) → (a && b) ≡ true → b ≡ true
+        right true b e = e
+        right false b e = absurd (cc)
+
+    go : (b : Bool) → needs_all s z.result ≡ b → (b || needs_all s z.given) ≡ true → waits_for_others s y ≡ true
+    go true i e = outcome_needs_so s k r y z out i
+    go false i e = waits y (sym (ap (needs_all s) (given_so s k r y z out)) ∙ e)
+
 -- the best is one of them
 pub best_given : (gs : List Given) (y : Result Octets Error) → best gs ≡ Some y → (g : Given) × IsIn g gs × (g.result ≡ y)
 best_given gs y e = go (first_message gs) refl e
@@ -247,7 +280,7 @@ best_given gs y e = go (first_message gs) refl e
     go (Some z) q e = message_in gs y (q ∙ e)
     go None q e = first_in gs y e
 
-module _ (c : Conf) (s : Settings) (compose : Request → Result Octets Error) (composes : Composes compose) (P : Part c) (past : History) (w : What) (x : Upper P.State) (h : History) (kept : Kept c s P past w x h) where
+module _ (c : Conf) (s : Settings) (compose : Request → Result Octets Error) (composes : Composes c compose) (P : Part c) (past : History) (w : What) (x : Upper P.State) (h : History) (kept : Kept c s P past w x h) where
   -- every server has given its result
   pub all_done : (k : ℕ) (a : Waiting) → x.held k ≡ Some a → ((i : ℕ) → i < length c.servers → a.tried i ≡ true) → ((i : ℕ) → i < length c.servers → P.holds (x.ups i) k ≡ false) → NoneOf c s compose (machine_of P) k x.board → AllAreDone c k past w h
   all_done k a held tried free none = record {
@@ -272,7 +305,7 @@ module _ (c : Conf) (s : Settings) (compose : Request → Result Octets Error) (
     before = (kept.firsts k a held).none (best_error a.kept_back v e);
   }
     where
-      no_told : (m : Octets) (i p : ℕ) → i < length c.servers → (IsExcused p past w h → ⊥) → IsTold c s P past w x.ups x.board i p k m a h → ⊥
+      no_told : (m : Octets) (i p : ℕ) → i < length c.servers → (IsExcused c p past w h → ⊥) → IsTold c s P past w x.ups x.board i p k m a h → ⊥
       no_told m i p lt counts (IsExpected z) = clash (P.holds (x.ups i) k) (P.expects_held (x.ups i) p k m z) (free i lt)
       no_told m i p lt counts (IsPosted z) = none (record { server = i; request = k; result = Ok m }) z refl
       no_told m i p lt counts (IsKeptBack g l z) = no_message a.kept_back g m l z (best_error a.kept_back v e)

@@ -27,7 +27,7 @@ use Rattle.proof_right.proofs.PartLaws.{Part}
 use Rattle.proof_right.specs.machine.Client.{Waiting, Leaving, Entry, Upper, entry_of, store, told_of}
 use Rattle.right_trace.specs.Parts.{IsIn}
 use Rattle.proof_right.proofs.client.Kept.{Leaves, AllDiffer, Nothing, MayStore, WasReply, EntryFits, LeavingFits, IsTold, IsExpected, IsPosted, IsKeptBack, IsPassedOver, Kept}
-use Rattle.proof_right.proofs.client.Later.{Carried, carried_none, carried_put, carried_both, six_reply, six_mark, matches_mark, entry_on, old_on, own_on, revived_on, post_on, fresh_stays, direct_on, given_on, none_on, first_on, matches_reply, excused_on, reply_on}
+use Rattle.proof_right.proofs.client.Later.{Carried, carried_none, carried_put, carried_both, six_reply, six_mark, matches_mark, entry_on, old_on, fails_on, revived_on, post_on, fresh_stays, direct_on, given_on, none_on, first_on, matches_reply, excused_on, reply_on}
 use Rattle.proof_right.proofs.client.Lists.{in_more, in_but, in_here, differ_but}
 use Rattle.proof_right.proofs.client.Serving.{clash}
 use Rattle.right_trace.specs.Keys.{key_of}
@@ -37,7 +37,7 @@ use Rattle.right_trace.proofs.Asked.{keys_refl}
 owed_before : (c : Conf) (i k j : ℕ) (v : Result Octets Error) (past : History) (w : What) (h : History) → IsOwed c i k past w (Put (Reply j v) ∷ h) → IsOwed c i k past w h
 owed_before c i k j v past w h o = record { request = o.request; via = o.via; place = o.place; id = o.id; asked = o.asked; alive = o.alive; at = o.at; octets = o.octets; sent = back o.via o.sent; carries = o.carries }
   where
-    back : (u : Via) → IsAmong o.octets (waited_for u o.request i o.place k o.id (now h) (came_here o.place h) (Put (Reply j v) ∷ h) (Put (Reply j v) ∷ h)) → IsAmong o.octets (waited_for u o.request i o.place k o.id (now h) (came_here o.place h) h h)
+    back : (u : Via) → IsAmong o.octets (waited_for c u o.request i o.place k o.id (now h) (came_here o.place h) (Put (Reply j v) ∷ h) (Put (Reply j v) ∷ h)) → IsAmong o.octets (waited_for c u o.request i o.place k o.id (now h) (came_here o.place h) h h)
     back Dgram x = x
     back Stream x = x
 
@@ -48,7 +48,7 @@ pub record IsBehind (c : Conf) (P : Part c) (past : History) (w : What) (h g : H
   pub reaches : reach g ≡ reach h
   pub owed : (i k : ℕ) → IsOwed c i k past w g → IsOwed c i k past w h
   pub matches : (r : Request) (v : Via) (i p k id : ℕ) (m : Octets) → Matches c r v i p k id m past w g → Matches c r v i p k id m past w h
-  pub excused : (p : ℕ) → IsExcused p past w h → IsExcused p past w g
+  pub excused : (p : ℕ) → IsExcused c p past w h → IsExcused c p past w g
   pub handed : (k i : ℕ) → handed k i g ≡ handed k i h
   pub fits : (i : ℕ) (u : P.State) → P.Fits i past w u h → P.Fits i past w u g
   pub nothing : (i : ℕ) → Nothing i h → Nothing i g
@@ -58,12 +58,12 @@ behind_itself c P past w h = record { on = carried_none c past w h; silent = λ 
 
 pub behind_mark : (c : Conf) (P : Part c) (past : History) (w : What) (h : History) (k : ℕ) → IsBehind c P past w h (Put (Stale k) ∷ h)
 behind_mark c P past w h k = record {
-  on = carried_put c past w h (Stale k) (six_mark k h);
+  on = carried_put c past w h (Stale k) (six_mark c k h);
   silent = λ j. refl;
   reaches = refl;
   owed = λ i j o. owed_unmarked i j o;
   matches = λ r v i p j id m z. matches_mark c r v i p j id m past w k h z;
-  excused = λ p e. excused_on p past w (Stale k ∷ []) h e;
+  excused = λ p e. excused_on c p past w (Stale k ∷ []) h e;
   handed = λ j i. refl;
   fits = λ i u f. P.marks i k past w u h f;
   nothing = λ i n. record { no_place = n.no_place; no_start = n.no_start };
@@ -72,7 +72,7 @@ behind_mark c P past w h k = record {
     owed_unmarked : (i j : ℕ) → IsOwed c i j past w (Put (Stale k) ∷ h) → IsOwed c i j past w h
     owed_unmarked i j o = record { request = o.request; via = o.via; place = o.place; id = o.id; asked = o.asked; alive = o.alive; at = o.at; octets = o.octets; sent = back o.via o.sent; carries = o.carries }
       where
-        back : (u : Via) → IsAmong o.octets (waited_for u o.request i o.place j o.id (now h) (came_here o.place h) (Put (Stale k) ∷ h) (Put (Stale k) ∷ h)) → IsAmong o.octets (waited_for u o.request i o.place j o.id (now h) (came_here o.place h) h h)
+        back : (u : Via) → IsAmong o.octets (waited_for c u o.request i o.place j o.id (now h) (came_here o.place h) (Put (Stale k) ∷ h) (Put (Stale k) ∷ h)) → IsAmong o.octets (waited_for c u o.request i o.place j o.id (now h) (came_here o.place h) h h)
         back Dgram x = x
         back Stream x = x
 
@@ -86,7 +86,7 @@ module _ (c : Conf) (s : Settings) (P : Part c) (past : History) (w : What) (x :
   h' = Put (Reply y.request v) ∷ g
 
   on : Carried c past w h h'
-  on = carried_both c past w h g h' behind.on (carried_put c past w g (Reply y.request v) (six_reply y.request v g))
+  on = carried_both c past w h g h' behind.on (carried_put c past w g (Reply y.request v) (six_reply c y.request v g))
 
   fits : LeavingFits c s P past w x.held x.ups x.asked y h
   fits = kept.leaves y (subst (IsIn y) (sym is) (in_here y first last))
@@ -119,8 +119,8 @@ module _ (c : Conf) (s : Settings) (P : Part c) (past : History) (w : What) (x :
   comes_before : (r : Request) (u : Via) (i p j id : ℕ) (m : Octets) → Matches c r u i p j id m past w h' → Matches c r u i p j id m past w h
   comes_before r u i p j id m z = behind.matches r u i p j id m (matches_reply c r u i p j id m past w y.request v g z)
 
-  excuses : (p : ℕ) → IsExcused p past w h → IsExcused p past w h'
-  excuses p e = excused_on p past w (Reply y.request v ∷ []) g (behind.excused p e)
+  excuses : (p : ℕ) → IsExcused c p past w h → IsExcused c p past w h'
+  excuses p e = excused_on c p past w (Reply y.request v ∷ []) g (behind.excused p e)
 
   was_handed : (j i : ℕ) → handed j i h' ≡ handed j i h
   was_handed j i = behind.handed j i
@@ -202,13 +202,13 @@ module _ (c : Conf) (s : Settings) (P : Part c) (past : History) (w : What) (x :
       right = reply_on c past w h h' on s z.request z.result (λ needs. none_on c past w h h' on excuses comes_before z.request) (λ needs a. stays_done z.request a) f.right;
       free = f.free;
       stores = λ e. (let q = f.stores e in (q.0, stored_on z.request z.result q.1));
-      unstored = λ e m r ca n u p. on.here z.request ∙ f.unstored e m r ca n u p;
+      unstored = λ plain e m r ca n u p. on.here z.request ∙ f.unstored plain e m r ca n u p;
     });
     differ = differs.0;
     waited = λ j e. (let q = waits_before j e in elim (kept.waited j q.1) [ inl a ↦ inl a | inr b ↦ inr (elim b [ inl l ↦ inl (elim (leaves_still j l) [ inl n ↦ n | inr same ↦ absurd (q.0 same) ]) | inr p ↦ inr p ]) ]);
     entries = entries y.is_stored refl;
     olds = λ j e o. old_on c past w h h' on s j e x.asked (kept.olds j e o);
-    own = λ z l some e is_e fails. own_on c past w h h' on s z.request e (λ needs. none_on c past w h h' on excuses comes_before z.request) (λ needs a. stays_done z.request a) (kept.own z (was z l) some e is_e fails);
+    own = λ z l some fails. fails_on c past w h h' on s z.request z.given (λ needs. none_on c past w h h' on excuses comes_before z.request) (λ needs a. stays_done z.request a) (kept.own z (was z l) some fails);
     revived = λ z m l e. revived_on c past w h h' on s x.expired z m (kept.revived z m (was z l) e);
     unmarked = λ j. refl;
     parts = λ i lt. P.replies i y.request v past w (x.ups i) g (behind.fits i (x.ups i) (kept.parts i lt));
@@ -243,9 +243,9 @@ reply_right c s P past w x h kept first last y is end = go y.stale refl
               Marked (record {
                 before = h;
                 marked = refl;
-                error = f.error;
+                failed = y.given;
                 fails = f.fails;
-                cause = kept.own y there f.old f.error f.is f.fails;
+                cause = kept.own y there f.old f.fails;
                 first = f.first;
                 request = f.request;
                 message = f.message;

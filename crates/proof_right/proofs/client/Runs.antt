@@ -20,7 +20,7 @@ use Rattle.proof_right.proofs.client.Steps.{moves_do}
 use Rattle.proof_right.proofs.client.Promptness.{message_is_reply}
 use Rattle.proof_right.proofs.client.Faults.{row_faults}
 
-module _ (c : Conf) (s : Settings) (compose : Request → Result Octets Error) (composes : Composes compose) (P : Part c) where
+module _ (c : Conf) (s : Settings) (compose : Request → Result Octets Error) (composes : Composes c compose) (P : Part c) where
   record RowDone (past : History) (row : Row) (x' : Upper P.State) : Type 0 where
     pub right : RowRight c s past row
     pub kept : Kept c s P past row.event.what x' (after row past)
@@ -62,7 +62,7 @@ module _ (c : Conf) (s : Settings) (compose : Request → Result Octets Error) (
 -- Every run of a client over any servers' parts is right and timely, with deferring and the cache, however messages are composed and whatever is chosen.
 abbrev pub EveryRunOverPartsIsRight : Type 1
 EveryRunOverPartsIsRight = (c : Conf) (s : Settings) (compose : Request → Result Octets Error) (P : Part c) (rows : List Row)
-    → Composes compose → AllAskedInOctets (map (λ row. row.event) rows) → IsRun c s compose (machine_of P) (begun c s compose (machine_of P)) rows → Right c s rows × Timely c rows
+    → Composes c compose → AllAskedInOctets (map (λ row. row.event) rows) → IsRun c s compose (machine_of P) (begun c s compose (machine_of P)) rows → Right c s rows × Timely c rows
 
 pub run_right : EveryRunOverPartsIsRight
 run_right c s compose P rows composes octets run = rows_right c s compose composes P (begun c s compose (machine_of P)) rows [] [] Tick (begun_kept c s compose P) (begun_done c s compose P) octets run

@@ -20,8 +20,8 @@ use Rattle.proof_right.specs.machine.Part.{Post, Act, IsPosted}
 use Rattle.proof_right.proofs.PartLaws.{PostRight, Keeps, Goes, Late, Part}
 use Rattle.proof_right.specs.machine.Client.{Posted, Given, Waiting, Leaving, Entry, Upper, with_up, first_message, tag, moved}
 use Rattle.right_trace.specs.Parts.{IsIn}
-use Rattle.proof_right.proofs.client.Kept.{RequestFits, IsOnBoard, HasGiven, needs_all, MayStore, EntryFits, ToCome, Nothing, HeldFits, PostFits, GivenFits, LeavingFits, IsFirstOf, IsTold, IsExpected, IsPosted as OnBoard, IsKeptBack, IsPassedOver, Kept}
-use Rattle.proof_right.proofs.client.Later.{Carried, post_on, asked_on, fresh_stays, direct_on, given_on, first_on, excused_on, reply_on, own_on, revived_on, entry_on, old_on}
+use Rattle.proof_right.proofs.client.Kept.{RequestFits, IsOnBoard, HasGiven, needs_all, needs_for, MayStore, EntryFits, ToCome, Nothing, HeldFits, PostFits, GivenFits, LeavingFits, IsFirstOf, IsTold, IsExpected, IsPosted as OnBoard, IsKeptBack, IsPassedOver, Kept}
+use Rattle.proof_right.proofs.client.Later.{Carried, post_on, asked_on, fresh_stays, direct_on, given_on, first_on, excused_on, reply_on, fails_on, revived_on, entry_on, old_on}
 use Rattle.proof_right.proofs.client.Lists.{decide, in_left, in_right, in_either, in_tagged, tagged_in}
 
 pub no_some : {A : Type 0} (x : Option A) (b : Bool) → is_some x ≡ b → b ≡ false → x ≡ None
@@ -63,7 +63,7 @@ module _ (c : Conf) (s : Settings) (P : Part c) where
     pub beyond : (t : ℕ) → length c.servers ≤ t → Nothing t h → Nothing t (put_all d.outs h)
     pub unmarked : ((k : ℕ) → is_marked k h ≡ false) → (k : ℕ) → is_marked k (put_all d.outs h) ≡ false
     pub late : Late c P.State P.holds P.Expects i past w h d
-    pub goes : (p k : ℕ) (m : Octets) → is_some (x.held k) ≡ true → Goes P.State P.Expects past w h (x.ups i) d p k m
+    pub goes : (p k : ℕ) (m : Octets) → is_some (x.held k) ≡ true → Goes c P.State P.Expects past w h (x.ups i) d p k m
 
   module _ (past : History) (w : What) (x : Upper P.State) (held : ℕ → Option Waiting) (hands : (j t : ℕ) → Bool) (i : ℕ) (h : History) (d : Act P.State) (kept : Kept c s P past w x h) (sv : Serves past w x held hands i h d) where
     abbrev h' : History
@@ -269,7 +269,7 @@ module _ (c : Conf) (s : Settings) (P : Part c) where
         ]
         go (OnBoard o) = OnBoard (in_left post x.board (map (tag i) d.posts) o)
         go (IsKeptBack g j z) = IsKeptBack g (subst (IsIn g) (sym q.4) j) z
-        go (IsPassedOver z) = IsPassedOver (excused_on p past w d.outs h z)
+        go (IsPassedOver z) = IsPassedOver (excused_on c p past w d.outs h z)
 
     stored_on : (k : ℕ) (y : Result Octets Error) → MayStore c s k past w h y → MayStore c s k past w h' y
     stored_on k (Ok m) q = (fresh_stays c past w h h' sv.on s k m q.0, q.1)
@@ -278,13 +278,23 @@ module _ (c : Conf) (s : Settings) (P : Part c) where
     none_still : (k : ℕ) → x.held k ≡ None → ((t : ℕ) → t < length c.servers → P.holds (x.ups t) k ≡ false) → NoneCame c k past w h → NoneCame c k past w h'
     none_still k none free nc = record {
       here = λ z. elim (sv.late z.came.server z.came.request z.came.via z.came.place k z.came.id z.message z.came.matches) [
-        | inl before ↦ nc.here (record { message = z.message; came = record { request = z.came.request; via = z.came.via; server = z.came.server; place = z.came.place; id = z.came.id; matches = before }; counts = λ e. z.counts (excused_on z.came.place past w d.outs h e) })
+        | inl before ↦ nc.here (record { message = z.message; came = record { request = z.came.request; via = z.came.via; server = z.came.server; place = z.came.place; id = z.came.id; matches = before }; counts = λ e. z.counts (excused_on c z.came.place past w d.outs h e) })
         | inr new ↦ elim (sv.held_from k new.1) [ inl old ↦ clash (P.holds (x.ups i) k) old (free i sv.is_server) | inr hand ↦ clash (hands k i) hand (hands_none k none i) ]
       ];
       before = λ e. nc.before (sv.on.earlier_back (OfRow (SomeCame c k)) e);
     }
 
-    done_still : (y : Leaving) → IsIn y x.leaving → needs_all s y.result ≡ true → AllAreDone c y.request past w h → AllAreDone c y.request past w h'
+    needs_left : (y : Leaving) → needs_all s y.result ≡ true → needs_for s y ≡ true
+    needs_left y e = ap (λ b. b || needs_all s y.given) e
+
+    needs_given : (y : Leaving) → needs_all s y.given ≡ true → needs_for s y ≡ true
+    needs_given y e = go (needs_all s y.result)
+      where
+        go : (b : Bool) → (b || needs_all s y.given) ≡ true
+        go true = refl
+        go false = e
+
+    done_still : (y : Leaving) → IsIn y x.leaving → needs_for s y ≡ true → AllAreDone c y.request past w h → AllAreDone c y.request past w h'
     done_still y j needs a =
         let f = kept.leaves y j in
         record {
@@ -301,10 +311,10 @@ module _ (c : Conf) (s : Settings) (P : Part c) where
           below = f.below;
           asked = (f.asked.0, asked_on c past w h h' sv.on y.request (f.asked.0) y.asked f.asked.1);
           unreplied = no_reply y.request false f.unreplied;
-          right = reply_on c past w h h' sv.on s y.request y.result (λ needs nc. none_still y.request f.unheld (λ t lt. f.free needs t lt) nc) (λ needs a. done_still y j needs a) f.right;
+          right = reply_on c past w h h' sv.on s y.request y.result (λ needs nc. none_still y.request f.unheld (λ t lt. f.free (needs_left y needs) t lt) nc) (λ needs a. done_still y j (needs_left y needs) a) f.right;
           free = λ needs t lt. unheld_still t y.request (λ is. none i) (f.free needs t lt);
           stores = λ e. (let q = f.stores e in (q.0, stored_on y.request y.result q.1));
-          unstored = λ e m r ca n v p. sv.on.here y.request ∙ f.unstored e m r ca n v p;
+          unstored = λ plain e m r ca n v p. sv.on.here y.request ∙ f.unstored plain e m r ca n v p;
         }
 
     entries : (e : Entry) → IsIn e x.stored → EntryFits c s e x.asked h'
@@ -339,10 +349,9 @@ module _ (c : Conf) (s : Settings) (P : Part c) where
       waited = λ k e. elim (kept.waited k (sym (waits_same k h h' (sv.on.asked k) (sv.keeps.silent k)) ∙ e)) [ inl a ↦ inl (sv.same_held k ∙ a) | inr b ↦ inr b ];
       entries = entries;
       olds = λ k e o. old_on c past w h h' sv.on s k e x.asked (kept.olds k e o);
-      own = λ y j some e is fails.
+      own = λ y j some fails.
           (let f = kept.leaves y j in
-          let all : needs_all s (Err e) ≡ true → needs_all s y.result ≡ true = λ n. subst (λ v. needs_all s v ≡ true) (sym is) n in
-          own_on c past w h h' sv.on s y.request e (λ needs nc. none_still y.request f.unheld (λ t lt. f.free (all needs) t lt) nc) (λ needs a. done_still y j (all needs) a) (kept.own y j some e is fails));
+          fails_on c past w h h' sv.on s y.request y.given (λ needs nc. none_still y.request f.unheld (λ t lt. f.free (needs_given y needs) t lt) nc) (λ needs a. done_still y j (needs_given y needs) a) (kept.own y j some fails));
       revived = λ y m j e. revived_on c past w h h' sv.on s x.expired y m (kept.revived y m j e);
       unmarked = sv.unmarked kept.unmarked;
       parts = parts;

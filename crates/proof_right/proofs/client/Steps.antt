@@ -1,6 +1,6 @@
 -- Moves, rows and runs.
 use Rattle.proof_right.proofs.PartLaws.{machine_of, Later, Part, PostRight}
-use Rattle.std.proofs.Common.{◌≡◌, ℕ, ◌+◌, ◌<◌, ◌≤◌, true, false, ◌⊎◌, inl, inr, Option, Some, None, List, [], ◌∷◌, ◌++◌, length, is_some, refl, arith, sym, ◌∙◌, ap, subst, ◌==◌, ◌||◌}
+use Rattle.std.proofs.Common.{◌≡◌, ℕ, ◌+◌, ◌<◌, ◌≤◌, true, false, ◌⊎◌, inl, inr, Option, Some, None, List, [], ◌∷◌, ◌++◌, length, is_some, refl, arith, sym, ◌∙◌, ap, subst, ◌==◌}
 use Rattle.std.specs.Prelude.{Result, Ok, Err}
 use Rattle.std.proofs.lemmas.Bool.{or_right}
 use Rattle.std.proofs.lemmas.Bool.Decides.{nat_tests}
@@ -15,17 +15,17 @@ use Rattle.right_trace.specs.Requests.{replied, is_asked_here}
 use Rattle.right_trace.specs.Settings.{Settings}
 use Rattle.right_trace.specs.Keys.{key_of}
 use Rattle.right_trace.specs.Validity.{waits_for_others}
-use Rattle.right_trace.specs.Errors.{HereOrEarlier, Deadline, Own, OwnCause, is_failure}
+use Rattle.right_trace.specs.Errors.{HereOrEarlier, Deadline, Own, is_failing, FailsSo}
 use Rattle.right_trace.specs.Right.{OutsRight, ReplyRight, MarksStand}
-use Rattle.proof_right.specs.machine.Client.{Given, Waiting, Leaving, Entry, Upper, Made, unmade, with_held, keeping, leave, answer, take_on, Move, Server_moves, Hands_on, Gives_up, Drops, Keeps_back, Delivers, Concludes, Times_out, Revives, Revived, revive, is_failing, told_of, Replies, Forgets, Derives, Answers, Takes_on, Moves, Rests, Goes, IsDone}
+use Rattle.proof_right.specs.machine.Client.{Given, Waiting, Leaving, Entry, Upper, Made, unmade, with_held, keeping, leave, answer, take_on, Move, Server_moves, Hands_on, Gives_up, Drops, Keeps_back, Delivers, Concludes, Times_out, Revives, Revived, revive, told_of, Replies, Forgets, Derives, Answers, Takes_on, Moves, Rests, Goes, IsDone}
 use Rattle.right_trace.specs.Parts.{IsIn}
-use Rattle.proof_right.proofs.client.Kept.{needs_all, Leaves, MayStore, WasReply, EntryFits, StaleFits, Kept}
+use Rattle.proof_right.proofs.client.Kept.{needs_for, Leaves, MayStore, WasReply, EntryFits, StaleFits, Kept}
 use Rattle.proof_right.proofs.client.Later.{later_all, put_more}
 use Rattle.proof_right.proofs.client.Lists.{in_right, in_here, in_more, in_but, leaves_left, leaves_swap}
 use Rattle.proof_right.proofs.client.Serving.{clash}
 use Rattle.proof_right.proofs.client.Moving.{outs_right, marks_stand, acts_right_here, acts_kept, starts_right_here, starts_kept, cancels_right_here, cancels_kept}
 use Rattle.proof_right.proofs.client.Taking.{stored_kept, board_kept, back_kept, leave_kept, revive_kept, answer_kept, take_kept}
-use Rattle.proof_right.proofs.client.Outcomes.{OutcomeFits, delivered_so, delivered_own, concluded_so, concluded_own, outcome_needs_so, outcome_plain, best_given, all_done, best_is, at_once, at_once_plain}
+use Rattle.proof_right.proofs.client.Outcomes.{OutcomeFits, delivered_so, delivered_fails, concluded_so, concluded_fails, outcome_needs_for, outcome_plain, best_given, all_done, best_is, at_once, at_once_plain}
 use Rattle.proof_right.proofs.client.Replying.{reply_right, told_kept, told_marks}
 use Rattle.right_trace.proofs.Asked.{keys_trans, serves}
 use Rattle.client_request.specs.declared.error.Error.TheVariants as errors
@@ -48,7 +48,7 @@ marks_more (Stale k ∷ Reply j (Ok m) ∷ xs) ys a b = (a.0, marks_more xs ys a
 marks_more (Stale k ∷ _) ys a b = absurd a.0
 marks_more (Reply k x ∷ xs) ys a b = marks_more xs ys a b
 
-module _ (c : Conf) (s : Settings) (compose : Request → Result Octets Error) (composes : Composes compose) (P : Part c) where
+module _ (c : Conf) (s : Settings) (compose : Request → Result Octets Error) (composes : Composes c compose) (P : Part c) where
   -- what leaves is promised its reply by the row's end
   abbrev pub Promised : Upper P.State → History → Type 0
   Promised x end = (k : ℕ) → Leaves k x.leaving → replied k end ≡ true
@@ -64,13 +64,13 @@ module _ (c : Conf) (s : Settings) (compose : Request → Result Octets Error) (
 
   module _ (past : History) (w : What) (x : Upper P.State) (h : History) (kept : Kept c s P past w x h) where
     -- a request that leaves with an outcome
-    leaves_so : (k : ℕ) (a : Waiting) (y : Leaving) → x.held k ≡ Some a → OutcomeFits c s past w h k a.request y → (needs_all s y.result ≡ true → (i : ℕ) → i < length c.servers → P.holds (x.ups i) k ≡ false) → ((e : Error) → y.result ≡ Err e → is_failure e ≡ true → OwnCause c s e k past w h) → y.stale ≡ None → Kept c s P past w (leave y x) h
+    leaves_so : (k : ℕ) (a : Waiting) (y : Leaving) → x.held k ≡ Some a → OutcomeFits c s past w h k a.request y → (needs_for s y ≡ true → (i : ℕ) → i < length c.servers → P.holds (x.ups i) k ≡ false) → (is_failing y.given ≡ true → FailsSo c s k past w h y.given) → y.stale ≡ None → Kept c s P past w (leave y x) h
     leaves_so k a y held f free own plain = leave_kept c s P past w x h kept y a (subst (λ k. x.held k ≡ Some a) (sym f.request) held) f.asked
         (subst (λ k. ReplyRight c s past w h k y.result) (sym f.request) f.right)
         (λ needs i lt. subst (λ k. P.holds (x.ups i) k ≡ false) (sym f.request) (free needs i lt))
         (λ e. (let q = f.stores e in (q.0, subst (λ k. MayStore c s k past w h y.result) (sym f.request) q.1)))
         (λ e m q ca n v l. subst (λ k. is_asked_here k h ≡ true) (sym f.request) (f.unstored e m q ca n v l))
-        (λ e q fails. subst (λ k. OwnCause c s e k past w h) (sym f.request) (own e q fails)) plain
+        (λ fails. subst (λ k. FailsSo c s k past w h y.given) (sym f.request) (own fails)) plain
 
     pub move_does : (d : Made P.State) → Move c s compose (machine_of P) x d → Does past w x h d
     move_does _ (Server_moves i d lt act) = record {
@@ -113,7 +113,7 @@ module _ (c : Conf) (s : Settings) (compose : Request → Result Octets Error) (
         let f = kept.reqs y.request a held in
         let p = kept.posts y (subst (IsIn y) (sym is) (in_here y before after)) in
         let o = delivered_so c s past w h y.request a.moment a.request f.asked y.result z out (λ z e. kept.known y.request z e) p.right waits in
-        let l = leaves_so y.request a z held o (λ needs. absurd (clash (waits_for_others s y.result) (outcome_needs_so s y.request a.request y.result z out needs) waits)) (delivered_own c s past w h y.request y.request a.request y.result z out p.right waits) (outcome_plain s y.request a.request y.result z out) in
+        let l = leaves_so y.request a z held o (λ needs. absurd (clash (waits_for_others s y.result) (outcome_needs_for s y.request a.request y.result z out needs) waits)) (λ fails. delivered_fails c s past w h y.request y.request a.request y.result z out p.right waits) (outcome_plain s y.request a.request y.result z out) in
         let x' : Upper P.State = leave z x in
         state_does past w x (record x' { board = before ++ after }) h (board_kept c s P past w x' h l before after y is (λ b e. absurd (nobody y.request z b o.request e))) (λ k l. leaves_left k x.leaving (z ∷ []) l)
       where
@@ -128,12 +128,12 @@ module _ (c : Conf) (s : Settings) (compose : Request → Result Octets Error) (
         let waits : waits_for_others s y ≡ true = subst (λ y. waits_for_others s y ≡ true) g.2 b.waits in
         let first = best_is c s compose composes P past w x h kept k a y a.request a.moment f.asked held free none is in
         let o = concluded_so c s past w h k a.moment a.request f.asked y z out (λ z e. kept.known k z e) right waits all first in
-        state_does past w x (leave z x) h (leaves_so k a z held o (λ needs i lt. free i lt) (concluded_own c s past w h k a.moment a.request f.asked y z out right waits all first) (outcome_plain s k a.request y z out)) (λ j l. leaves_left j x.leaving (z ∷ []) l)
+        state_does past w x (leave z x) h (leaves_so k a z held o (λ needs i lt. free i lt) (λ fails. concluded_fails c s past w h k a.moment a.request f.asked y z out right waits all first) (outcome_plain s k a.request y z out)) (λ j l. leaves_left j x.leaving (z ∷ []) l)
     move_does _ (Times_out k a held late) =
         let f = kept.reqs k a held in
-        let y : Leaving = record { request = k; asked = a.request; result = Err errors.TimedOut; is_stored = false; stale = None } in
+        let y : Leaving = record { request = k; asked = a.request; result = Err errors.TimedOut; given = Err errors.TimedOut; is_stored = false; stale = None } in
         state_does past w x (leave y x) h
-        (leave_kept c s P past w x h kept y a held refl (Own (Deadline (record { asking_of = record { request = a.request; moment = a.moment }; asked = f.asked; passed = subst (λ n. a.moment + c.timeout ≤ n) kept.clock late })) (λ q. absurd (cc))) (λ needs. absurd (cc)) (λ e. absurd (cc)) (λ e m q ca n v l. absurd (cc)) (λ e q fails. (let is : errors.TimedOut ≡ e = cc in subst (λ e. OwnCause c s e k past w h) is (record { direct = Deadline (record { asking_of = record { request = a.request; moment = a.moment }; asked = f.asked; passed = subst (λ n. a.moment + c.timeout ≤ n) kept.clock late }); last = λ q. absurd (cc) }))) refl)
+        (leave_kept c s P past w x h kept y a held refl (Own (Deadline (record { asking_of = record { request = a.request; moment = a.moment }; asked = f.asked; passed = subst (λ n. a.moment + c.timeout ≤ n) kept.clock late })) (λ q. absurd (cc))) (λ needs. absurd (cc)) (λ e. absurd (cc)) (λ e m q ca n v l. absurd (cc)) (λ fails. record { direct = Deadline (record { asking_of = record { request = a.request; moment = a.moment }; asked = f.asked; passed = subst (λ n. a.moment + c.timeout ≤ n) kept.clock late }); last = λ q. absurd (cc) }) refl)
         (λ j l. leaves_left j x.leaving (y ∷ []) l)
     move_does _ (Replies before after y is) = record {
       right = λ end later promise. reply_right c s P past w x h kept before after y is end;
@@ -152,18 +152,15 @@ module _ (c : Conf) (s : Settings) (compose : Request → Result Octets Error) (
         put_it k v None = put_one k v h
         put_it k v (Some m) = put_one k (Ok m) (Put (Stale k) ∷ h)
     move_does _ (Revives before after y e m is fails old revived) =
-        state_does past w x (record x { leaving = before ++ revive m y ∷ after }) h (revive_kept c s P past w x h kept before after y m is (revived_fits y m e (subst (IsIn y) (sym is) (in_here y before after)) y.result refl fails old revived)) (λ k l. leaves_swap k y (revive m y) refl before after (subst (Leaves k) is l))
+        state_does past w x (record x { leaving = before ++ revive m y ∷ after }) h (revive_kept c s P past w x h kept before after y m is (revived_fits y m e (subst (IsIn y) (sym is) (in_here y before after)) fails old revived)) (λ k l. leaves_swap k y (revive m y) refl before after (subst (Leaves k) is l))
       where
-        revived_fits : (y : Leaving) (m : Octets) (e : Entry) → IsIn y x.leaving → (v : Result Octets Error) → y.result ≡ v → is_failing v ≡ true → x.expired y.request ≡ Some e → Revived s x.now e y.asked m → StaleFits c s x.expired (revive m y) m h
-        revived_fits y m e there (Ok o) q fails old r = absurd (cc)
-        revived_fits y m e there (Err v) q fails old r =
+        revived_fits : (y : Leaving) (m : Octets) (e : Entry) → IsIn y x.leaving → is_failing y.given ≡ true → x.expired y.request ≡ Some e → Revived s x.now e y.asked m → StaleFits c s x.expired (revive m y) m h
+        revived_fits y m e there fails old r =
             let o = kept.olds y.request e old in
             let f = kept.leaves y there in
             let was : WasReply c s e.number e.moment h (Ok r.message) = subst (WasReply c s e.number e.moment h) r.is o.fits.was in
             record {
               unstored = refl;
-              error = v;
-              is = q;
               fails = fails;
               old = ap is_some old;
               server = o.server;

@@ -1,6 +1,6 @@
 -- Moves that change the state alone: a result is dropped, kept back or delivered, a request times out, what is stored changes.
 use Rattle.std.proofs.Common.{◌≡◌, ℕ, suc, ◌+◌, ◌<◌, ◌≢◌, Bool, true, false, ◌⊎◌, inl, inr, Option, Some, None, List, [], ◌∷◌, ◌++◌, length, is_some, refl, arith, sym, ◌∙◌, ap, subst, subst₂, ◌==◌}
-use Rattle.std.specs.Prelude.{Result, Ok, Err, if◌then◌else◌}
+use Rattle.std.specs.Prelude.{Ok, if◌then◌else◌}
 use Rattle.std.proofs.lemmas.Bool.{cases_eq}
 use Rattle.std.proofs.lemmas.Bool.Decides.{nat_tests}
 use Rattle.client_request.specs.Request.{Request}
@@ -14,15 +14,14 @@ use Rattle.right_trace.specs.Requests.{asks, Asking, asking, is_ask, is_asked_he
 use Rattle.right_trace.specs.Settings.{Settings}
 use Rattle.right_trace.specs.Keys.{KeyCovers, is_cacheable}
 use Rattle.right_trace.specs.Validity.{validity_of_message, waits_for_others}
-use Rattle.right_trace.specs.Errors.{Here, OwnCause, is_failure}
-use Rattle.client_request.specs.declared.error.Error.{Error}
+use Rattle.right_trace.specs.Errors.{Here, is_failing, FailsSo}
 use Rattle.right_trace.specs.Coming.{SomeCame, FirstHere}
 use Rattle.right_trace.proofs.Asked.{asking_below, here_asks, earlier_known}
 use Rattle.right_trace.specs.Right.{ReplyRight, HasServer}
 use Rattle.proof_right.proofs.PartLaws.{PostRight, Part}
 use Rattle.proof_right.specs.machine.Client.{Posted, Given, Waiting, Leaving, Entry, Upper, with_held, with_expired, revive, keeping, leave, answer, newcomer, take_on}
 use Rattle.right_trace.specs.Parts.{IsIn}
-use Rattle.proof_right.proofs.client.Kept.{needs_all, RequestFits, Leaves, AllDiffer, IsOnBoard, HasGiven, MayStore, EntryFits, OldFits, StaleFits, GivenFits, LeavingFits, IsFirstOf, IsTold, IsExpected, IsPosted, IsKeptBack, IsPassedOver, Kept}
+use Rattle.proof_right.proofs.client.Kept.{needs_for, RequestFits, Leaves, AllDiffer, IsOnBoard, HasGiven, MayStore, EntryFits, OldFits, StaleFits, GivenFits, LeavingFits, IsFirstOf, IsTold, IsExpected, IsPosted, IsKeptBack, IsPassedOver, Kept}
 use Rattle.proof_right.proofs.client.Lists.{decide, in_left, in_either, in_more, in_but, leaves_left, leaves_last, leaves_swap, differ_swap, in_here, differ_last, first_none, first_last}
 use Rattle.proof_right.proofs.client.Serving.{clash, has_some}
 
@@ -210,10 +209,10 @@ module _ (c : Conf) (s : Settings) (P : Part c) (past : History) (w : What) (x :
 
   -- a request that is tried leaves
   pub leave_kept : (y : Leaving) (a : Waiting) → x.held y.request ≡ Some a → y.asked ≡ a.request → ReplyRight c s past w h y.request y.result
-      → (needs_all s y.result ≡ true → (i : ℕ) → i < length c.servers → P.holds (x.ups i) y.request ≡ false)
+      → (needs_for s y ≡ true → (i : ℕ) → i < length c.servers → P.holds (x.ups i) y.request ≡ false)
       → (y.is_stored ≡ true → (is_cacheable y.asked ≡ true) × MayStore c s y.request past w h y.result)
       → (y.is_stored ≡ false → (m : Octets) → y.result ≡ Ok m → is_cacheable y.asked ≡ true → (n : ℕ) → validity_of_message s m ≡ Some n → 0 < n → is_asked_here y.request h ≡ true)
-      → ((e : Error) → y.result ≡ Err e → is_failure e ≡ true → OwnCause c s e y.request past w h)
+      → (is_failing y.given ≡ true → FailsSo c s y.request past w h y.given)
       → y.stale ≡ None
       → Kept c s P past w (leave y x) h
   leave_kept y a held is right free stores unstored own_cause fresh = record {
@@ -247,7 +246,7 @@ module _ (c : Conf) (s : Settings) (P : Part c) (past : History) (w : What) (x :
     ];
     entries = kept.entries;
     olds = kept.olds;
-    own = λ z l. elim (in_either z x.leaving (y ∷ []) l) [ inl o ↦ kept.own z o | inr n ↦ elim n [ inl e ↦ subst (λ (z : Leaving). is_some (x.expired z.request) ≡ true → (e : Error) → z.result ≡ Err e → is_failure e ≡ true → OwnCause c s e z.request past w h) e (λ some. own_cause) | inr z ↦ absurd z ] ];
+    own = λ z l. elim (in_either z x.leaving (y ∷ []) l) [ inl o ↦ kept.own z o | inr n ↦ elim n [ inl e ↦ subst (λ (z : Leaving). is_some (x.expired z.request) ≡ true → is_failing z.given ≡ true → FailsSo c s z.request past w h z.given) e (λ some. own_cause) | inr z ↦ absurd z ] ];
     revived = λ z m l e. elim (in_either z x.leaving (y ∷ []) l) [ inl o ↦ kept.revived z m o e | inr n ↦ elim n [ inl is ↦ absurd (not_stale z m is e) | inr z ↦ absurd z ] ];
     unmarked = kept.unmarked;
     parts = kept.parts;
@@ -281,7 +280,7 @@ module _ (c : Conf) (s : Settings) (P : Part c) (past : History) (w : What) (x :
       no_wait k e r = grind arith
 
       new : LeavingFits c s P past w (with_held y.request None x.held) x.ups x.asked y h
-      new = (let f = kept.reqs y.request a held in record { unheld = held_this y.request y.request None refl; below = f.below; asked = (a.moment, subst (λ q. asking y.request h ≡ Some (record { request = q; moment = a.moment })) (sym is) f.asked); unreplied = f.unreplied; right = right; free = free; stores = stores; unstored = unstored })
+      new = (let f = kept.reqs y.request a held in record { unheld = held_this y.request y.request None refl; below = f.below; asked = (a.moment, subst (λ q. asking y.request h ≡ Some (record { request = q; moment = a.moment })) (sym is) f.asked); unreplied = f.unreplied; right = right; free = free; stores = stores; unstored = λ plain. unstored })
 
   -- what an expired message says is put in the place of a result that fails
   pub revive_kept : (before after : List Leaving) (y : Leaving) (m : Octets) → x.leaving ≡ before ++ y ∷ after → StaleFits c s x.expired (revive m y) m h → Kept c s P past w (record x { leaving = before ++ revive m y ∷ after }) h
@@ -307,7 +306,7 @@ module _ (c : Conf) (s : Settings) (P : Part c) (past : History) (w : What) (x :
     waited = λ k e. elim (kept.waited k e) [ inl q ↦ inl q | inr q ↦ inr (elim q [ inl l ↦ inl (on k l) | inr p ↦ inr p ]) ];
     entries = kept.entries;
     olds = kept.olds;
-    own = λ z l. elim (was z l) [ inl e ↦ subst (λ (z : Leaving). is_some (x.expired z.request) ≡ true → (e : Error) → z.result ≡ Err e → is_failure e ≡ true → OwnCause c s e z.request past w h) e (kept.own y there) | inr o ↦ kept.own z o ];
+    own = λ z l. elim (was z l) [ inl e ↦ subst (λ (z : Leaving). is_some (x.expired z.request) ≡ true → is_failing z.given ≡ true → FailsSo c s z.request past w h z.given) e (kept.own y there) | inr o ↦ kept.own z o ];
     revived = λ z o l e. elim (was z l) [ inl is_new ↦ subst₂ (λ z o. StaleFits c s x.expired z o h) is_new (same o (ap (λ (z : Leaving). z.stale) is_new ∙ e)) new | inr old ↦ kept.revived z o old e ];
     unmarked = kept.unmarked;
     parts = kept.parts;
@@ -327,10 +326,7 @@ module _ (c : Conf) (s : Settings) (P : Part c) (past : History) (w : What) (x :
       same o e = cc
 
       here : LeavingFits c s P past w x.held x.ups x.asked (revive m y) h
-      here = (let f = kept.leaves y there in record { unheld = f.unheld; below = f.below; asked = f.asked; unreplied = f.unreplied; right = f.right; free = f.free; stores = λ e. absurd (cc); unstored = λ e n q. absurd (failing n (sym new.is ∙ q)) })
-        where
-          failing : (n : Octets) → Path (Result Octets Error) (Err new.error) (Ok n) → ⊥
-          failing n e = cc
+      here = (let f = kept.leaves y there in record { unheld = f.unheld; below = f.below; asked = f.asked; unreplied = f.unreplied; right = f.right; free = f.free; stores = λ e. absurd (cc); unstored = λ plain. absurd (cc) })
 
   -- the asking is answered at once, or taken on
   no_ask : (r : Request) → x.pending ≡ Ask r → suc x.asked + 0 ≡ asks h
@@ -393,7 +389,7 @@ module _ (c : Conf) (s : Settings) (P : Part c) (past : History) (w : What) (x :
         right = right;
         free = λ needs i lt. subst (λ k. P.holds (x.ups i) k ≡ false) (sym is) (free_asked i lt);
         stores = stores;
-        unstored = λ e m q ca n v p. subst (λ k. is_asked_here k h ≡ true) (sym is) ((kept.pending r pend).here);
+        unstored = λ plain e m q ca n v p. subst (λ k. is_asked_here k h ≡ true) (sym is) ((kept.pending r pend).here);
       })
 
   pub take_kept : (r : Request) (old : Option Entry) → x.pending ≡ Ask r → HasServer c → ((e : Entry) → old ≡ Some e → IsIn e x.stored × KeyCovers e.under r) → Kept c s P past w (take_on r old x) h
@@ -444,7 +440,7 @@ module _ (c : Conf) (s : Settings) (P : Part c) (past : History) (w : What) (x :
     entries = λ e j. (let f = kept.entries e j in record { cacheable = f.cacheable; covers = f.covers; below = (let lt = f.below in omega arith); asked = f.asked; moment = f.moment; was = f.was });
     olds = λ k e o. elim (cases_eq x.asked k) [ inl is ↦ new_old k e is (sym (old_this k old is) ∙ o) | inr ne ↦ (let f = kept.olds k e (sym (old_other k old ne) ∙ o) in record { fits = f.fits; below = (let lt = f.below in omega arith); covers = f.covers; server = f.server }) ];
     own = λ z l some. kept.own z l (subst (λ v. is_some v ≡ true) (old_other z.request old (not_asked z l)) some);
-    revived = λ z m l e. (let f = kept.revived z m l e in record { unstored = f.unstored; error = f.error; is = f.is; fails = f.fails; old = subst (λ v. is_some v ≡ true) (sym (old_other z.request old (not_asked z l))) f.old; server = f.server; first = f.first; request = f.request; message = f.message; age = f.age; supplied = f.supplied; parts = f.parts; valid = f.valid; says = f.says });
+    revived = λ z m l e. (let f = kept.revived z m l e in record { unstored = f.unstored; fails = f.fails; old = subst (λ v. is_some v ≡ true) (sym (old_other z.request old (not_asked z l))) f.old; server = f.server; first = f.first; request = f.request; message = f.message; age = f.age; supplied = f.supplied; parts = f.parts; valid = f.valid; says = f.says });
     unmarked = kept.unmarked;
     parts = kept.parts;
     beyond = kept.beyond;

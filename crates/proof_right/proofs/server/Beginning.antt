@@ -1,5 +1,5 @@
 -- A row begins: what was so when the row before was done is what was before this one.
-use Rattle.std.proofs.Common.{◌≡◌, ℕ, ◌+◌, ◌<◌, Bool, true, false, ◌&&◌, ◌||◌, inl, inr, Option, Some, None, List, [], ◌∷◌, ◌++◌, ◌≢◌, take, refl, arith, ◌∙◌, sym, subst, ap, ◌==◌}
+use Rattle.std.proofs.Common.{◌≡◌, ℕ, ◌+◌, ◌<◌, Bool, true, false, ◌&&◌, ◌||◌, inl, inr, Option, Some, None, List, [], ◌∷◌, ◌++◌, ◌≢◌, refl, arith, ◌∙◌, sym, subst, ap, ◌==◌}
 use Rattle.std.specs.Prelude.{if◌then◌else◌, nat_lt}
 use Rattle.std.proofs.lemmas.Bool.Decides.{nat_tests}
 use Rattle.std.proofs.lemmas.List.{append-nil}
@@ -7,7 +7,7 @@ use Rattle.client_request.specs.Request.{Request}
 use Rattle.client_request.specs.declared.event.Event.{Event}
 use Rattle.client_request.specs.declared.event.What.{What}
 use Rattle.client_request.specs.declared.event.What.TheVariants.{Ask, Opened, OpenFailed, SendFailed, ShortSend, Datagram, RecvFailed, Wrote, WriteFailed, Bytes, ReadFailed, Ended, Tick}
-use Rattle.right_trace.specs.Trace.{History, Came, Put}
+use Rattle.right_trace.specs.Trace.{History, Came, Put, Conf}
 use Rattle.right_trace.specs.Time.{now, response_timeout}
 use Rattle.right_trace.specs.Messages.{Octets, CarriesInFrame}
 use Rattle.right_trace.specs.Requests.{Asking, asking, asks, is_ask}
@@ -111,20 +111,20 @@ none : (b : Bool) (l : List Octets) → (if b && false then l else []) ≡ []
 none true l = refl
 none false l = refl
 
-nothing_came : (p : ℕ) (w : What) (h : History) → is_alive (stand p h) ≡ false → came p w h ≡ []
-nothing_came p (Ask r) h e = refl
-nothing_came p (Opened q) h e = refl
-nothing_came p (OpenFailed q g) h e = refl
-nothing_came p (SendFailed q g) h e = refl
-nothing_came p (ShortSend q) h e = refl
-nothing_came p (Datagram q o) h e = rw e (none (q == p) (take 2000 o ∷ []))
-nothing_came p (RecvFailed q g) h e = refl
-nothing_came p (Wrote q n) h e = refl
-nothing_came p (WriteFailed q g) h e = refl
-nothing_came p (Bytes q o) h e = rw e (none (q == p) (fed (reading p h) o).frames)
-nothing_came p (ReadFailed q g) h e = refl
-nothing_came p (Ended q) h e = refl
-nothing_came p Tick h e = refl
+nothing_came : (c : Conf) → (p : ℕ) (w : What) (h : History) → is_alive (stand p h) ≡ false → came p w h ≡ []
+nothing_came c p (Ask r) h e = refl
+nothing_came c p (Opened q) h e = refl
+nothing_came c p (OpenFailed q g) h e = refl
+nothing_came c p (SendFailed q g) h e = refl
+nothing_came c p (ShortSend q) h e = refl
+nothing_came c p (Datagram q o) h e = rw e (none (q == p) (o ∷ []))
+nothing_came c p (RecvFailed q g) h e = refl
+nothing_came c p (Wrote q n) h e = refl
+nothing_came c p (WriteFailed q g) h e = refl
+nothing_came c p (Bytes q o) h e = rw e (none (q == p) (fed (reading p h) o).frames)
+nothing_came c p (ReadFailed q g) h e = refl
+nothing_came c p (Ended q) h e = refl
+nothing_came c p Tick h e = refl
 
 nothing_read : (p : ℕ) (w : What) (h : History) → is_alive (stand p h) ≡ false → read_on p w (is_alive_stream p h) (reading p h) ≡ reading p h
 nothing_read p (Ask r) h e = refl
@@ -145,17 +145,17 @@ nothing_read p (ReadFailed q g) h e = refl
 nothing_read p (Ended q) h e = refl
 nothing_read p Tick h e = refl
 
-blank_begins : (p : ℕ) (w : What) (e : Event) (h : History) → is_alive (stand p h) ≡ false → IsBlank p w h → IsBlank p e.what (Came e ∷ h)
-blank_begins p w e h dead b =
+blank_begins : (c : Conf) → (p : ℕ) (w : What) (e : Event) (h : History) → is_alive (stand p h) ≡ false → IsBlank c p w h → IsBlank c p e.what (Came e ∷ h)
+blank_begins c p w e h dead b =
     let wanted = b.wanted in
     let free : nat_lt (writing p h).taken (writing p h).wanted ≡ false = grind (arith, nat_tests) in
     record {
       waiting = λ ms id. waits ms id (brings id ms);
       wanted = wanted;
       takes = rw free refl;
-      idle = ap (λ ms. idle_with ms p h) b.came ∙ b.idle;
+      idle = ap (λ ms. idle_with c ms p h) b.came ∙ b.idle;
       reading = nothing_read p e.what h dead ∙ b.reading;
-      came = nothing_came p e.what h dead;
+      came = nothing_came c p e.what h dead;
     }
   where
     waits : (ms : List Octets) (id : ℕ) (x : Bool) → (if x then [] else waiting_with (came_here p h) p id h) ≡ []
@@ -164,14 +164,14 @@ blank_begins p w e h dead b =
 
 -- Requests
 
-phase_begins : (s k : ℕ) (r : Request) (conns : ℕ → Option Conn) (opening : Option ℕ) (e : Event) (h : History) (ph : Phase) → ph ≢ Broken → PhaseFits s k r conns opening h ph → PhaseFits s k r (λ p. unheard (conns p)) opening (Came e ∷ h) ph
-phase_begins s k r conns opening e h Free ne f = tt
-phase_begins s k r conns opening e h Expecting ne f = f
-phase_begins s k r conns opening e h (Lined p) ne f = (record f.0 { heard = false }, ap unheard f.1)
-phase_begins s k r conns opening e h (Holding p id) ne f = record { conn = record f.conn { heard = false }; is_conn = ap unheard f.is_conn; written = f.written; is_held = f.is_held; its = f.its }
-phase_begins s k r conns opening e h Broken ne f = absurd (ne refl)
-phase_begins s k r conns opening e h (BackingOff until) ne (inl i) = inl i
-phase_begins s k r conns opening e h (BackingOff until) ne (inr b) = inr (inr b)
+phase_begins : (c : Conf) → (s k : ℕ) (r : Request) (conns : ℕ → Option Conn) (opening : Option ℕ) (e : Event) (h : History) (ph : Phase) → ph ≢ Broken → PhaseFits c s k r conns opening h ph → PhaseFits c s k r (λ p. unheard (conns p)) opening (Came e ∷ h) ph
+phase_begins c s k r conns opening e h Free ne f = tt
+phase_begins c s k r conns opening e h Expecting ne f = f
+phase_begins c s k r conns opening e h (Lined p) ne f = (record f.0 { heard = false }, ap unheard f.1)
+phase_begins c s k r conns opening e h (Holding p id) ne f = record { conn = record f.conn { heard = false }; is_conn = ap unheard f.is_conn; written = f.written; is_held = f.is_held; its = f.its }
+phase_begins c s k r conns opening e h Broken ne f = absurd (ne refl)
+phase_begins c s k r conns opening e h (BackingOff until) ne (inl i) = inl i
+phase_begins c s k r conns opening e h (BackingOff until) ne (inr b) = inr (inr b)
 
 -- Connections
 
@@ -217,18 +217,18 @@ frames_begin p (Bytes q o) h got alive g b = rw (alive, g, b) refl
 frames_begin p _ h got alive g b = absurd (cc)
 
 -- nothing else comes to a stream place
-unread_begins : (p : ℕ) (w : What) (h : History) (s : ℕ) → site p h ≡ Some (stream_site s) → brings_to p w ≡ false → came p w h ≡ []
-unread_begins p (Bytes q o) h s at b = rw b refl
-unread_begins p (Datagram q o) h s at b = rw at (no_dgram (q == p) (is_alive (stand p h)) (take 2000 o ∷ []))
+unread_begins : (c : Conf) → (p : ℕ) (w : What) (h : History) (s : ℕ) → site p h ≡ Some (stream_site s) → brings_to p w ≡ false → came p w h ≡ []
+unread_begins c p (Bytes q o) h s at b = rw b refl
+unread_begins c p (Datagram q o) h s at b = rw at (no_dgram (q == p) (is_alive (stand p h)) (o ∷ []))
   where
     no_dgram : (x y : Bool) (l : List Octets) → (if x && (y && false) then l else []) ≡ []
     no_dgram true true l = refl
     no_dgram true false l = refl
     no_dgram false y l = refl
-unread_begins p _ h s at b = refl
+unread_begins c p _ h s at b = refl
 
-conn_begins : (s p : ℕ) (past : History) (fr more : List Octets) (x : Conn) (e : Event) (h : History) → ConnFits s p past Tick fr more x h → more ≡ [] → ConnFits s p h e.what [] (came p e.what h) (record x { heard = false }) (Came e ∷ h)
-conn_begins s p past fr more x e h f done =
+conn_begins : (c : Conf) → (s p : ℕ) (past : History) (fr more : List Octets) (x : Conn) (e : Event) (h : History) → ConnFits c s p past Tick fr more x h → more ≡ [] → ConnFits c s p h e.what [] (came p e.what h) (record x { heard = false }) (Came e ∷ h)
+conn_begins c s p past fr more x e h f done =
     let all : fr ≡ came_here p h = sym (append-nil fr) ∙ (ap (λ l. fr ++ l) (sym done) ∙ f.frames) in
     let stream : is_alive_stream p h ≡ true = rw (f.alive, f.at) refl in
     let l : LeftFits p 0 x h = f.left in
@@ -241,28 +241,28 @@ conn_begins s p past fr more x e h f done =
       asked = λ id y g. (let a = f.asked id y g in (a.0, asked_still y.request a.0 e h a.1));
       begun = f.begun;
       carries = λ id y a g ask. carries id y a g ask;
-      idle = ap (λ ms. idle_with ms p h) (sym all) ∙ f.idle;
+      idle = ap (λ ms. idle_with c ms p h) (sym all) ∙ f.idle;
       mode = mode_begins s p past x e h (unwritten_at p x h l) f.alive x.mode (subst (λ ms. ModeFits s p past ms x h x.mode) all f.mode);
       left = left_begins p (taken_by p e.what) x e h refl l;
       read = record { left = read_begins p e.what h x.got stream got; frames = λ b. frames_begin p e.what h x.got stream got b };
       frames = refl;
       good = refl;
       unheard = λ g. refl;
-      unread = λ g b. unread_begins p e.what h s f.at b;
+      unread = λ g b. unread_begins c p e.what h s f.at b;
     }
   where
     carries : (id : ℕ) (y : Written) (a : Asking) → x.ids id ≡ Some y → asking y.request (Came e ∷ h) ≡ Some a → CarriesInFrame y.octets a.request id
     carries id y a g ask = (let old = f.asked id y g in let same = asked_still y.request old.0 e h old.1 in let z : old.0 ≡ a = (let u = sym same ∙ ask in cc) in f.carries id y a g (old.1 ∙ ap Some z))
 
 -- Since it is quiet for long, its read timer is due.
-late_begins : (s p : ℕ) (past : History) (fr more : List Octets) (x : Conn) (since t : ℕ) (h : History) → ConnFits s p past Tick fr more x h → more ≡ [] → x.mode ≡ Active since → since + response_timeout < t → ReadTimerIsDue p t h
-late_begins s p past fr more x since t h f done mode lt =
+late_begins : (c : Conf) → (s p : ℕ) (past : History) (fr more : List Octets) (x : Conn) (since t : ℕ) (h : History) → ConnFits c s p past Tick fr more x h → more ≡ [] → x.mode ≡ Active since → since + response_timeout c < t → ReadTimerIsDue c p t h
+late_begins c s p past fr more x since t h f done mode lt =
     let all : fr ≡ came_here p h = sym (append-nil fr) ∙ (ap (λ l. fr ++ l) (sym done) ∙ f.frames) in
     let g : ModeFits s p past (came_here p h) x h (Active since) = subst (λ m. ModeFits s p past (came_here p h) x h m) mode (subst (λ ms. ModeFits s p past ms x h x.mode) all f.mode) in
     let q = g.quiet in
     record { alive = f.alive; passed = omega arith; may = may all g.reason }
   where
-    may : fr ≡ came_here p h → Reason s p since (came_here p h) x h → MayBeQuiet p t h
+    may : fr ≡ came_here p h → Reason s p since (came_here p h) x h → MayBeQuiet c p t h
     may all (HoldsSince id y e le) =
         let wait : waiting p id h ≡ y ∷ [] = ap (λ ms. waiting_with ms p id h) (sym all) ∙ (f.ids id ∙ ap listed e) in
         HeldForLong id y (rw wait (inl refl)) (omega arith)
@@ -277,28 +277,28 @@ unheard_none : (z : Option Conn) → unheard z ≡ None → z ≡ None
 unheard_none None e = refl
 unheard_none (Some y) e = absurd (cc)
 
-opening_begins : (s p : ℕ) (past : History) (w : What) (e : Event) (h : History) → OpeningFits s p past w Tick h → OpeningFits s p h e.what e.what (Came e ∷ h)
-opening_begins s p past w e h f =
+opening_begins : (c : Conf) → (s p : ℕ) (past : History) (w : What) (e : Event) (h : History) → OpeningFits c s p past w Tick h → OpeningFits c s p h e.what e.what (Came e ∷ h)
+opening_begins c s p past w e h f =
     let dead : is_alive (stand p h) ≡ false = rw f.stand refl in
     record {
       fails = λ g i. inl (record { recent = omega arith; broke = OpeningFailed e p g h refl i (at_is s p h f.at) f.stand });
       stand = ap (on_event e.what p) f.stand;
       at = f.at;
-      blank = blank_begins p w e h dead f.blank;
+      blank = blank_begins c p w e h dead f.blank;
     }
 
-pub row_begins : (s : ℕ) (past : History) (w : What) (fr more : ℕ → List Octets) (m : Multi) (e : Event) (h : History) → Kept s past w Tick fr more m h → ((p : ℕ) (x : Conn) → m.conns p ≡ Some x → more p ≡ []) → ((k : ℕ) (a : Asker) → m.asks k ≡ Some a → a.phase ≢ Broken)
-    → Kept s h e.what e.what (λ p. []) (λ p. came p e.what h) (begin_row m) (Came e ∷ h)
-row_begins s past w fr more m e h kept done settled = record {
+pub row_begins : (c : Conf) → (s : ℕ) (past : History) (w : What) (fr more : ℕ → List Octets) (m : Multi) (e : Event) (h : History) → Kept c s past w Tick fr more m h → ((p : ℕ) (x : Conn) → m.conns p ≡ Some x → more p ≡ []) → ((k : ℕ) (a : Asker) → m.asks k ≡ Some a → a.phase ≢ Broken)
+    → Kept c s h e.what e.what (λ p. []) (λ p. came p e.what h) (begin_row m) (Came e ∷ h)
+row_begins c s past w fr more m e h kept done settled = record {
   row = record { before = refl; event = refl; came = λ p. refl };
-  asks = λ k a g. (let f = kept.asks k a g in record { asked = (f.asked.0, asked_still k _ e h f.asked.1); since = f.since; phase = phase_begins s k a.request m.conns m.opening e h a.phase (settled k a g) f.phase });
-  conns = λ p x g. (let old = unheard_some (m.conns p) x g in subst (λ x. ConnFits s p h e.what [] (came p e.what h) x (Came e ∷ h)) (sym old.2) (conn_begins s p past (fr p) (more p) old.0 e h (kept.conns p old.0 old.1) (done p old.0 old.1)));
+  asks = λ k a g. (let f = kept.asks k a g in record { asked = (f.asked.0, asked_still k _ e h f.asked.1); since = f.since; phase = phase_begins c s k a.request m.conns m.opening e h a.phase (settled k a g) f.phase });
+  conns = λ p x g. (let old = unheard_some (m.conns p) x g in subst (λ x. ConnFits c s p h e.what [] (came p e.what h) x (Came e ∷ h)) (sym old.2) (conn_begins c s p past (fr p) (more p) old.0 e h (kept.conns p old.0 old.1) (done p old.0 old.1)));
   owners = λ p x g i y u. (let old = unheard_some (m.conns p) x g in kept.owners p old.0 old.1 i y (ap (λ x. x.ids i) (sym old.2) ∙ u));
-  opening = λ p g. opening_begins s p past w e h (kept.opening p g);
+  opening = λ p g. opening_begins c s p past w e h (kept.opening p g);
   apart = λ p x g i. (let old = unheard_some (m.conns p) x i in kept.apart p old.0 g old.1);
   others = λ p g i n. on_dead e.what p (stand p h) (kept.others p g (unheard_none (m.conns p) i) n);
-  to_come = λ p le. (let c = kept.to_come p le in record { was = c.stand; unheld = ap unheard c.unheld; stand = ap (on_event e.what p) c.stand ∙ on_unused e.what p; nowhere = c.nowhere; blank = blank_begins p w e h (rw c.stand refl) c.blank });
+  to_come = λ p le. (let n = kept.to_come p le in record { was = n.stand; unheld = ap unheard n.unheld; stand = ap (on_event e.what p) n.stand ∙ on_unused e.what p; nowhere = n.nowhere; blank = blank_begins c p w e h (rw n.stand refl) n.blank });
   below = kept.below;
   calm = λ lt. inr (kept.calm (grind arith));
-  late = λ p x g since mode lt. (let old = unheard_some (m.conns p) x g in late_begins s p past (fr p) (more p) old.0 since (now (Came e ∷ h)) h (kept.conns p old.0 old.1) (done p old.0 old.1) (ap (λ x. x.mode) (sym old.2) ∙ mode) lt);
+  late = λ p x g since mode lt. (let old = unheard_some (m.conns p) x g in late_begins c s p past (fr p) (more p) old.0 since (now (Came e ∷ h)) h (kept.conns p old.0 old.1) (done p old.0 old.1) (ap (λ x. x.mode) (sym old.2) ∙ mode) lt);
 }

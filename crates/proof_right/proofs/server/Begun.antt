@@ -1,8 +1,9 @@
 -- A row begins, for one server's part.
+use Rattle.proof_right.proofs.Received.{received_first}
 use Rattle.std.proofs.Common.{◌≡◌, ◌≢◌, ℕ, ◌+◌, ◌≤◌, ◌<◌, max, Bool, true, false, not, ◌&&◌, ◌||◌, ◌⊎◌, inl, inr, Option, Some, None, List, [], ◌∷◌, ◌++◌, is_some, refl, arith, ◌∙◌, sym, subst, ap, ◌==◌, length, take}
 use Rattle.std.specs.Prelude.{if◌then◌else◌, nat_lt, nat_le}
 use Rattle.std.proofs.lemmas.List.{append-nil}
-use Rattle.std.proofs.lemmas.Bool.{cases_eq, and_parts}
+use Rattle.std.proofs.lemmas.Bool.{cases_eq}
 use Rattle.std.proofs.lemmas.Bool.Decides.{nat_tests}
 use Rattle.client_request.specs.declared.event.What.{What}
 use Rattle.client_request.specs.declared.event.Event.{Event}
@@ -11,11 +12,11 @@ use Rattle.client_request.specs.declared.event.Via.{Via}
 use Rattle.client_request.specs.declared.event.What.TheVariants.{Tick, Bytes, Datagram}
 use Rattle.client_request.specs.declared.event.Via.TheVariants.{Dgram, Stream}
 use Rattle.right_trace.specs.Trace.{History, Conf, Came}
-use Rattle.right_trace.specs.Time.{now, read_timeout, stream_timeout}
+use Rattle.right_trace.specs.Time.{now, read_timeout, stream_timeout, recv_size}
 use Rattle.right_trace.specs.Messages.{Octets, answers, truncated, CarriesBy}
 use Rattle.right_trace.specs.Requests.{Asking, asking, start, started, handed}
 use Rattle.right_trace.specs.Places.{site, is_at, is_of_kind, Opening, Alive, stand, is_alive, is_live}
-use Rattle.right_trace.specs.Frames.{came, came_here, brings, first_with, fed, reading, is_alive_stream}
+use Rattle.right_trace.specs.Frames.{came, came_here, brings, first_with, fed, reading, is_alive_stream, received}
 use Rattle.right_trace.specs.Writes.{Written, IsWritten, waiting_with, waiting}
 use Rattle.right_trace.specs.Exchanges.{octets_for, IsAmong, is_before, unanswered, has_answer, waited_for, first_of, Comes, Matches}
 use Rattle.right_trace.specs.Causes.{Heard}
@@ -69,7 +70,7 @@ fresh_fits c s = record {
   fr = λ q. [];
   more = λ q. [];
   clock = refl;
-  streams = nothing_yet s;
+  streams = nothing_yet c s;
   dgrams = none;
   untaken = λ e. absurd (cc);
   taken = λ e. record { pending = refl; here = λ x f. absurd (cc); others = λ q x ne f. absurd (cc) };
@@ -94,14 +95,14 @@ fresh_fits c s = record {
       few = omega arith;
     }
 
-pub begins : (c : Conf) (s : ℕ) (old past : History) (w : What) (e : Event) (u : Served) → Fits c s old w u past → RestsNow u → ((k : ℕ) (a : Asker) → u.server.by_stream.asks k ≡ Some a → Heard c k s past → ⊥) → Fits c s past e.what (row_begun e u) (Came e ∷ past)
+pub begins : (c : Conf) (s : ℕ) (old past : History) (w : What) (e : Event) (u : Served) → Fits c s old w u past → RestsNow c u → ((k : ℕ) (a : Asker) → u.server.by_stream.asks k ≡ Some a → Heard c k s past → ⊥) → Fits c s past e.what (row_begun e u) (Came e ∷ past)
 begins c s old past w e u f r unheard =
     let d = rests_end c s old w u past f r in
     record {
       fr = λ q. [];
       more = λ q. came q e.what past;
       clock = ap (max e.moment.0) f.clock;
-      streams = row_begins s old w d.fr d.more u.server.by_stream e past d.streams d.whole r.rests.broken;
+      streams = row_begins c s old w d.fr d.more u.server.by_stream e past d.streams d.whole r.rests.broken;
       dgrams = row_begins_d c s old w u.server.by_dgram e past d.dgrams (record { ending = λ k a g x. r.rests.ending k a x g; cut = r.rests.cut });
       untaken = λ g. record { pending = refl; before = refl; coming = refl; frames = refl };
       taken = λ g. absurd (cc);
@@ -114,30 +115,30 @@ begins c s old past w e u f r unheard =
       unsent = f.unsent;
     }
 
-pub expects_held : (u : Served) (p k : ℕ) (m : Octets) → Expects u p k m → holds u k ≡ true
-expects_held u p k m (ByDatagram a id t o pend un held at stage soon long same ok whole) = rw held refl
-expects_held u p k m (ByOctets a id o x pend un ask soon phase conn first ok) = by_stream (is_some (u.server.by_dgram.held k)) (is_some (u.server.by_stream.asks k)) (ap is_some ask)
+pub expects_held : (c : Conf) → (u : Served) (p k : ℕ) (m : Octets) → Expects c u p k m → holds u k ≡ true
+expects_held c u p k m (ByDatagram a id t o pend un held at stage soon long same ok whole) = rw held refl
+expects_held c u p k m (ByOctets a id o x pend un ask soon phase conn first ok) = by_stream (is_some (u.server.by_dgram.held k)) (is_some (u.server.by_stream.asks k)) (ap is_some ask)
   where
     by_stream : (x y : Bool) → y ≡ true → (x || y) ≡ true
     by_stream true y e = refl
     by_stream false y e = e
-expects_held u p k m (InFrames a id x place is_taken ask soon phase conn first ok) = by_stream (is_some (u.server.by_dgram.held k)) (is_some (u.server.by_stream.asks k)) (ap is_some ask)
+expects_held c u p k m (InFrames a id x place is_taken ask soon phase conn first ok) = by_stream (is_some (u.server.by_dgram.held k)) (is_some (u.server.by_stream.asks k)) (ap is_some ask)
   where
     by_stream : (x y : Bool) → y ≡ true → (x || y) ≡ true
     by_stream true y e = refl
     by_stream false y e = e
 
-pub rested : (u : Served) (p k : ℕ) (m : Octets) → RestsNow u → Expects u p k m → ⊥
-rested u p k m r (ByDatagram a id t o pend un held at stage soon long same ok whole) =
-    let none : answers a.request id (take 2000 o) ≡ false = subst (λ w. IsIgnored w u.server.by_dgram) pend r.ignored k a id t at held stage long in
-    let yes : answers a.request id (take 2000 o) ≡ true = subst (λ m. answers a.request id m ≡ true) (sym same) ok in
+pub rested : (c : Conf) → (u : Served) (p k : ℕ) (m : Octets) → RestsNow c u → Expects c u p k m → ⊥
+rested c u p k m r (ByDatagram a id t o pend un held at stage soon long same ok whole) =
+    let none : answers a.request id (take (recv_size c) o) ≡ false = subst (λ w. IsIgnored c w u.server.by_dgram) pend r.ignored k a id t at held stage long in
+    let yes : answers a.request id (take (recv_size c) o) ≡ true = subst (λ m. answers a.request id m ≡ true) (sym same) ok in
     (let z : true ≡ false = sym yes ∙ none in cc)
-rested u p k m r (ByOctets a id o x pend un ask soon phase conn first ok) = (let none : u.server.by_stream.conns p ≡ None = subst (λ w. IsForeign w u.server.by_stream) pend r.foreign in let z = sym none ∙ conn in cc)
-rested u p k m r (InFrames a id x place is_taken ask soon phase conn first ok) = (let z : first_with id [] ≡ Some m = subst (λ fs. first_with id fs ≡ Some m) r.frames first in cc)
+rested c u p k m r (ByOctets a id o x pend un ask soon phase conn first ok) = (let none : u.server.by_stream.conns p ≡ None = subst (λ w. IsForeign w u.server.by_stream) pend r.foreign in let z = sym none ∙ conn in cc)
+rested c u p k m r (InFrames a id x place is_taken ask soon phase conn first ok) = (let z : first_with id [] ≡ Some m = subst (λ fs. first_with id fs ≡ Some m) r.frames first in cc)
 
 -- What is open when a row begins.
 
-module _ (c : Conf) (s : ℕ) (old past : History) (w : What) (e : Event) (u : Served) (f : Fits c s old w u past) (r : RestsNow u) where
+module _ (c : Conf) (s : ℕ) (old past : History) (w : What) (e : Event) (u : Served) (f : Fits c s old w u past) (r : RestsNow c u) where
   d : RowDone c s old w u past
   d = rests_end c s old w u past f r
 
@@ -156,7 +157,7 @@ module _ (c : Conf) (s : ℕ) (old past : History) (w : What) (e : Event) (u : S
   known_write : (p id k : ℕ) (x : Conn) (o : Octets) → u.server.by_stream.conns p ≡ Some x → IsAmong o (octets_for k (waiting (p) id past)) → (y : Written) × (x.ids id ≡ Some y) × (y.request ≡ k) × (waiting p id past ≡ y ∷ [])
   known_write p id k x o conn i = go (x.ids id) refl
     where
-      fit : ConnFits s p old Tick (d.fr p) (d.more p) x past
+      fit : ConnFits c s p old Tick (d.fr p) (d.more p) x past
       fit = d.streams.conns p x conn
 
       all : d.fr p ≡ came_here p past
@@ -180,11 +181,11 @@ module _ (c : Conf) (s : ℕ) (old past : History) (w : What) (e : Event) (u : S
   before_of true x ys i = (refl, i)
   before_of false x ys i = absurd i
 
-  earlier : (n m : ℕ) (t : Option ℕ) → n ≤ m → is_before m t ≡ true → is_before n t ≡ true
+  earlier : (n m : ℕ) (t : Option ℕ) → n ≤ m → is_before c m t ≡ true → is_before c n t ≡ true
   earlier n m (Some t) le b = grind (arith, nat_tests)
   earlier n m None le b = absurd (cc)
 
-  begun_of : (n : ℕ) (t : Option ℕ) → is_before n t ≡ true → is_some t ≡ true
+  begun_of : (n : ℕ) (t : Option ℕ) → is_before c n t ≡ true → is_some t ≡ true
   begun_of n (Some t) b = refl
   begun_of n None b = absurd (cc)
 
@@ -200,8 +201,8 @@ module _ (c : Conf) (s : ℕ) (old past : History) (w : What) (e : Event) (u : S
 
   -- by stream
   module _ (p k id : ℕ) (q : Request) (m : Octets) (x : Comes c q Stream s p k id m past e.what (Came e ∷ past)) where
-    open_by : (is_before (now (Came e ∷ past)) (start k s Stream past) ≡ true) × IsAmong x.is_open.octets (octets_for k (waiting p id past))
-    open_by = before_of (is_before (now (Came e ∷ past)) (start k s Stream past)) x.is_open.octets (octets_for k (waiting p id past)) x.is_open.sent
+    open_by : (is_before c (now (Came e ∷ past)) (start k s Stream past) ≡ true) × IsAmong x.is_open.octets (octets_for k (waiting p id past))
+    open_by = before_of (is_before c (now (Came e ∷ past)) (start k s Stream past)) x.is_open.octets (octets_for k (waiting p id past)) x.is_open.sent
 
     on : (x : Conn) × (u.server.by_stream.conns p ≡ Some x)
     on = is_conn p x.is_open.stands.at x.is_open.stands.alive
@@ -212,14 +213,14 @@ module _ (c : Conf) (s : ℕ) (old past : History) (w : What) (e : Event) (u : S
     -- the event brings octets there
     octets : (o : Octets) × (e.what ≡ Bytes p o)
     octets = elim (bytes_or e.what) [
-      | inl other ↦ absurd (no_first id m (came p e.what past) (no_frames_came s p e.what past (Came e ∷ past) refl x.is_open.stands.at other) x.first)
+      | inl other ↦ absurd (no_first id m (came p e.what past) (no_frames_came c s p e.what past (Came e ∷ past) refl x.is_open.stands.at other) x.first)
       | inr b ↦ elim (cases_eq (b.0) p) [
         | inl is ↦ (b.1, b.2 ∙ ap (λ q. Bytes q (b.1)) is)
         | inr ne ↦ absurd (no_first id m (came p e.what past) (subst (λ w. came p w past ≡ []) (sym b.2) (elsewhere (b.0) p (b.1) past ne)) x.first)
       ]
     ]
 
-    fit : ConnFits s p old Tick (d.fr p) (d.more p) (on.0) past
+    fit : ConnFits c s p old Tick (d.fr p) (d.more p) (on.0) past
     fit = d.streams.conns p (on.0) on.1
 
     frames : (o : Octets) → came p (Bytes p o) past ≡ (fed on.0.got o).frames
@@ -230,25 +231,25 @@ module _ (c : Conf) (s : ℕ) (old past : History) (w : What) (e : Event) (u : S
         let got : reading p past ≡ on.0.got = sym fit.read.left in
         rw (it, alive, at, got) refl
 
-    soon_stream : (t : Option ℕ) (since : ℕ) → t ≡ Some since → is_before (now (Came e ∷ past)) t ≡ true → max e.moment.0 u.clock < since + stream_timeout
+    soon_stream : (t : Option ℕ) (since : ℕ) → t ≡ Some since → is_before c (now (Came e ∷ past)) t ≡ true → max e.moment.0 u.clock < since + stream_timeout c
     soon_stream None since g b = absurd (cc)
-    soon_stream (Some n) since g b = (let same : n ≡ since = cc in let c = f.clock in subst (λ n. n < since + stream_timeout) (ap (max e.moment.0) (sym c)) (subst (λ since. now (Came e ∷ past) < since + stream_timeout) same (lt_of (now (Came e ∷ past)) (n + stream_timeout) b)))
+    soon_stream (Some n) since g b = (let same : n ≡ since = cc in let same_clock = f.clock in subst (λ n. n < since + stream_timeout c) (ap (max e.moment.0) (sym same_clock)) (subst (λ since. now (Came e ∷ past) < since + stream_timeout c) same (lt_of (now (Came e ∷ past)) (n + stream_timeout c) b)))
 
     pub asks_untaken : (a : Asker) → u.server.by_stream.asks k ≡ Some a → IsUntaken (row_begun e u) p k id m a
     asks_untaken a ask =
         let phase = d.streams.owners p (on.0) on.1 id (by.0) by.1 a (ap u.server.by_stream.asks by.2 ∙ ask) in
         record { ask = ask; phase = phase; conn = record on.0 { heard = false }; is_conn = ap unheard on.1; source = InOctets octets.0 octets.1 refl (ap (first_with id) (sym (frames octets.0)) ∙ subst (λ w. first_with id (came p w past) ≡ Some m) octets.1 x.first) }
 
-    asks_expects : (a : Asker) → u.server.by_stream.asks k ≡ Some a → answers q id m ≡ true → Expects (row_begun e u) p k m
+    asks_expects : (a : Asker) → u.server.by_stream.asks k ≡ Some a → answers q id m ≡ true → Expects c (row_begun e u) p k m
     asks_expects a ask agrees =
         let f = (d.streams.asks k a ask).asked in
         let same = same_request q a.request x.is_open.stands.asked.0 f.0 k x.is_open.stands.asked.1 f.1 in
-        expects_it (row_begun e u) p k id m a (asks_untaken a ask) (soon_stream (start k s Stream past) a.since (d.streams.asks k a ask).since open_by.0) (subst (λ q. answers q id m ≡ true) same agrees)
+        expects_it c (row_begun e u) p k id m a (asks_untaken a ask) (soon_stream (start k s Stream past) a.since (d.streams.asks k a ask).since open_by.0) (subst (λ q. answers q id m ≡ true) same agrees)
 
-    stream_expects : answers q id m ≡ true → holds u k ≡ true → Expects (row_begun e u) p k m
+    stream_expects : answers q id m ≡ true → holds u k ≡ true → Expects c (row_begun e u) p k m
     stream_expects agrees held = go (u.server.by_dgram.held k) refl (u.server.by_stream.asks k) refl held
       where
-        go : (y : Option Tryer) → u.server.by_dgram.held k ≡ y → (z : Option Asker) → u.server.by_stream.asks k ≡ z → (is_some y || is_some z) ≡ true → Expects (row_begun e u) p k m
+        go : (y : Option Tryer) → u.server.by_dgram.held k ≡ y → (z : Option Asker) → u.server.by_stream.asks k ≡ z → (is_some y || is_some z) ≡ true → Expects c (row_begun e u) p k m
         go (Some a) g z i o = absurd (let n = (d.dgrams.held k a g).unstreamed in let b : started k s Stream past ≡ true = subst (λ k. started k s Stream past ≡ true) by.2 (fit.begun id (by.0) by.1) in let y : true ≡ false = sym b ∙ n in cc)
         go None g (Some a) i o = asks_expects a i agrees
         go None g None i o = absurd (cc)
@@ -270,7 +271,7 @@ module _ (c : Conf) (s : ℕ) (old past : History) (w : What) (e : Event) (u : S
       pub at : u.server.by_dgram.at p ≡ Some k
       pub moment : ℕ
       pub stage : tryer.stage ≡ Sent p id moment
-      pub soon : now (Came e ∷ past) < moment + read_timeout
+      pub soon : now (Came e ∷ past) < moment + read_timeout c
 
     own : IsOwn
     own = go (u.server.by_dgram.at p) refl
@@ -279,13 +280,13 @@ module _ (c : Conf) (s : ℕ) (old past : History) (w : What) (e : Event) (u : S
         owned j a g h Queued i t = absurd (cc)
         owned j a g h (Trying l) i t =
             absurd (let same : l ≡ p = cc in
-            let fit : TryingFits s l old Tick past = subst (λ st. StageFits c s j a.request old w Tick past st) i (d.dgrams.held j a h).stage in
+            let fit : TryingFits c s l old Tick past = subst (λ st. StageFits c s j a.request old w Tick past st) i (d.dgrams.held j a h).stage in
             let z : stand p past ≡ Opening = ap (λ p. stand p past) (sym same) ∙ fit.stand in
             let y : Opening ≡ Alive = sym z ∙ x.comes.is_open.stands.alive in cc)
         owned j a g h (Sent l n y) i t =
             let same : l ≡ p = cc in
-            let fit : SentFits s l n y j a.request old Tick past = subst (λ st. StageFits c s j a.request old w Tick past st) i (d.dgrams.held j a h).stage in
-            let one = fit.only q k id (now (Came e ∷ past)) x.comes.is_open.octets (subst (λ l. IsAmong x.comes.is_open.octets (unanswered q l k id (now (Came e ∷ past)) past)) (sym same) x.comes.is_open.sent) in
+            let fit : SentFits c s l n y j a.request old Tick past = subst (λ st. StageFits c s j a.request old w Tick past st) i (d.dgrams.held j a h).stage in
+            let one = fit.only q k id (now (Came e ∷ past)) x.comes.is_open.octets (subst (λ l. IsAmong x.comes.is_open.octets (unanswered c q l k id (now (Came e ∷ past)) past)) (sym same) x.comes.is_open.sent) in
             record { tryer = a; held = ap u.server.by_dgram.held one.0 ∙ h; at = g ∙ ap Some (sym one.0); moment = y; stage = i ∙ (ap (λ l. Sent l n y) same ∙ ap (λ n. Sent p n y) (sym one.1)); soon = one.2 }
         owned j a g h (Ending y) i t = absurd (cc)
         owned j a g h Cut i t = absurd (cc)
@@ -294,39 +295,34 @@ module _ (c : Conf) (s : ℕ) (old past : History) (w : What) (e : Event) (u : S
         go (Some j) g = (let o = d.dgrams.slots p j g in owned j o.owner g o.is_held o.owner.stage refl o.its)
         go None g = absurd (let z : is_live (stand p past) ≡ false = d.dgrams.others p (dgram_at s p past x.comes.is_open.stands.at) g in let y : is_live Alive ≡ false = subst (λ st. is_live st ≡ false) x.comes.is_open.stands.alive z in cc)
 
-    one_of : (b : Bool) (y : Octets) → first_of Dgram id (if b then y ∷ [] else []) ≡ Some m → (b ≡ true) × (y ≡ m)
-    one_of true y g = (refl, cc)
-    one_of false y g = absurd (cc)
-
     clocked : u.clock ≡ now past
     clocked = f.clock
 
-    dgram_expects : Expects (row_begun e u) p k m
-    dgram_expects = go (came_when Dgram id p e.what past m x.comes.first)
+    dgram_expects : Expects c (row_begun e u) p k m
+    dgram_expects = go (came_when c Dgram id p e.what past m x.comes.first)
       where
-        go : Brings p e.what → Expects (row_begun e u) p k m
+        go : Brings p e.what → Expects c (row_begun e u) p k m
         go (ADatagram o is) =
-            let first : first_of Dgram id (came p (Datagram p o) past) ≡ Some m = subst (λ w. first_of Dgram id (came p w past) ≡ Some m) is x.comes.first in
-            let b = one_of ((p == p) && (is_alive (stand p past) && (is_of_kind Dgram (site p past) && nat_le 12 (length (take 2000 o))))) (take 2000 o) first in
-            let long : nat_le 12 (length (take 2000 o)) ≡ true = (and_parts (is_of_kind Dgram (site p past)) (nat_le 12 (length (take 2000 o))) (and_parts (is_alive (stand p past)) (is_of_kind Dgram (site p past) && nat_le 12 (length (take 2000 o))) (and_parts (p == p) (is_alive (stand p past) && (is_of_kind Dgram (site p past) && nat_le 12 (length (take 2000 o)))) b.0).1).1).1 in
+            let first : first_of c Dgram id (came p (Datagram p o) past) ≡ Some m = subst (λ w. first_of c Dgram id (came p w past) ≡ Some m) is x.comes.first in
+            let b = received_first (recv_size c) ((p == p) && (is_alive (stand p past) && is_of_kind Dgram (site p past))) o m first in
             let f = (d.dgrams.held k own.tryer own.held).asked in
             let same = same_request q own.tryer.request x.comes.is_open.stands.asked.0 f.0 k x.comes.is_open.stands.asked.1 f.1 in
-            ByDatagram own.tryer id own.moment o is refl own.held own.at own.stage (subst (λ n. n < own.moment + read_timeout) (ap (max e.moment.0) (sym clocked)) own.soon) (le_of 12 (length (take 2000 o)) long) b.1 (subst (λ q. answers q id m ≡ true) same x.agrees) (not_false (truncated m) x.whole)
+            ByDatagram own.tryer id own.moment o is refl own.held own.at own.stage (subst (λ n. n < own.moment + read_timeout c) (ap (max e.moment.0) (sym clocked)) own.soon) (le_of 12 (length (take (recv_size c) o)) b.1) b.2 (subst (λ q. answers q id m ≡ true) same x.agrees) (not_false (truncated m) x.whole)
           where
             not_false : (b : Bool) → not b ≡ true → b ≡ false
             not_false true e = absurd (cc)
             not_false false e = refl
-        go (SomeOctets o is) = absurd (let at = x.comes.is_open.stands.at in let z : is_of_kind Stream (site p past) ≡ false = rw at refl in none (and_none (p == p) (is_alive (stand p past)) z) (subst (λ w. first_of Dgram id (came p w past) ≡ Some m) is x.comes.first))
+        go (SomeOctets o is) = absurd (let at = x.comes.is_open.stands.at in let z : is_of_kind Stream (site p past) ≡ false = rw at refl in none (and_none (p == p) (is_alive (stand p past)) z) (subst (λ w. first_of c Dgram id (came p w past) ≡ Some m) is x.comes.first))
           where
             and_none : (a b : Bool) → is_of_kind Stream (site p past) ≡ false → (a && (b && is_of_kind Stream (site p past))) ≡ false
             and_none true true e = e
             and_none true false e = refl
             and_none false b e = refl
 
-            none : ((p == p) && is_alive_stream p past) ≡ false → first_of Dgram id (if (p == p) && is_alive_stream p past then (fed (reading p past) o).frames else []) ≡ Some m → ⊥
-            none b g = (let z : first_of Dgram id [] ≡ Some m = subst (λ b. first_of Dgram id (if b then (fed (reading p past) o).frames else []) ≡ Some m) b g in cc)
+            none : ((p == p) && is_alive_stream p past) ≡ false → first_of c Dgram id (if (p == p) && is_alive_stream p past then (fed (reading p past) o).frames else []) ≡ Some m → ⊥
+            none b g = (let z : first_of c Dgram id [] ≡ Some m = subst (λ b. first_of c Dgram id (if b then (fed (reading p past) o).frames else []) ≡ Some m) b g in cc)
 
-  pub begins_expecting : (p k id : ℕ) (q : Request) (v : Via) (m : Octets) → Matches c q v s p k id m past e.what (Came e ∷ past) → (holds u k ≡ true → Expects (row_begun e u) p k m) × (holds u k ≡ false → (handed k s past ≡ true) × IsOwed c s k old w past)
+  pub begins_expecting : (p k id : ℕ) (q : Request) (v : Via) (m : Octets) → Matches c q v s p k id m past e.what (Came e ∷ past) → (holds u k ≡ true → Expects c (row_begun e u) p k m) × (holds u k ≡ false → (handed k s past ≡ true) × IsOwed c s k old w past)
   begins_expecting p k id q Stream m x = (stream_expects p k id q m x.comes x.agrees, λ none. stream_owed p k id q m x.comes)
   begins_expecting p k id q Dgram m x = (λ held. dgram_expects p k id q m x, λ none. absurd (let o = own p k id q m x in let h = o.held in let z : holds u k ≡ true = rw h refl in let y : true ≡ false = sym z ∙ none in cc))
 
@@ -338,7 +334,7 @@ module _ (c : Conf) (s : ℕ) (old past : History) (w : What) (e : Event) (u : S
       pub held : u.server.by_dgram.held k ≡ Some tryer
       pub moment : ℕ
       pub stage : tryer.stage ≡ Sent o.place o.id moment
-      pub none : has_answer o.request o.id (came o.place e.what past) ≡ false
+      pub none : has_answer o.request o.id (received (recv_size c) (came o.place e.what past)) ≡ false
 
     -- by stream: at a connection where the request holds the id
     pub record StreamOwner : Type 0 where
@@ -347,7 +343,7 @@ module _ (c : Conf) (s : ℕ) (old past : History) (w : What) (e : Event) (u : S
       pub written : Written
       pub id : conn.ids o.id ≡ Some written
       pub its : written.request ≡ k
-      pub early : is_before (now (Came e ∷ past)) (start k s Stream past) ≡ true
+      pub early : is_before c (now (Came e ∷ past)) (start k s Stream past) ≡ true
       pub was : IsAmong o.octets (octets_for k (waiting o.place o.id past))
 
     dead : is_live (stand o.place past) ≡ false → ⊥
@@ -356,26 +352,26 @@ module _ (c : Conf) (s : ℕ) (old past : History) (w : What) (e : Event) (u : S
       | inr is ↦ (let y : is_live Alive ≡ false = subst (λ st. is_live st ≡ false) is.0 z in cc)
     ]
 
-    dgram_owner : site o.place past ≡ Some (dgram_site s) → IsAmong o.octets (unanswered o.request o.place k o.id (now (Came e ∷ past)) (Came e ∷ past)) → DgramOwner
+    dgram_owner : site o.place past ≡ Some (dgram_site s) → IsAmong o.octets (unanswered c o.request o.place k o.id (now (Came e ∷ past)) (Came e ∷ past)) → DgramOwner
     dgram_owner at i = placed_at (u.server.by_dgram.at o.place) refl
       where
-        left : (b : Bool) → IsAmong o.octets (if b then [] else unanswered o.request o.place k o.id (now (Came e ∷ past)) past) → (b ≡ false) × IsAmong o.octets (unanswered o.request o.place k o.id (now (Came e ∷ past)) past)
+        left : (b : Bool) → IsAmong o.octets (if b then [] else unanswered c o.request o.place k o.id (now (Came e ∷ past)) past) → (b ≡ false) × IsAmong o.octets (unanswered c o.request o.place k o.id (now (Came e ∷ past)) past)
         left true i = absurd i
         left false i = (refl, i)
 
-        was : (has_answer o.request o.id (came o.place e.what past) ≡ false) × IsAmong o.octets (unanswered o.request o.place k o.id (now (Came e ∷ past)) past)
-        was = left (has_answer o.request o.id (came o.place e.what past)) i
+        was : (has_answer o.request o.id (received (recv_size c) (came o.place e.what past)) ≡ false) × IsAmong o.octets (unanswered c o.request o.place k o.id (now (Came e ∷ past)) past)
+        was = left (has_answer o.request o.id (received (recv_size c) (came o.place e.what past))) i
 
         staged : (j : ℕ) (a : Tryer) → u.server.by_dgram.held j ≡ Some a → (st : Stage) → a.stage ≡ st → placed st ≡ Some o.place → DgramOwner
         staged j a h Queued g t = absurd (cc)
         staged j a h (Trying l) g t =
             absurd (let same : l ≡ o.place = cc in
-            let fit : TryingFits s l old Tick past = subst (λ st. StageFits c s j a.request old w Tick past st) g (d.dgrams.held j a h).stage in
-            subst (λ os. IsAmong o.octets os) (fit.none o.request k o.id (now (Came e ∷ past))) (subst (λ l. IsAmong o.octets (unanswered o.request l k o.id (now (Came e ∷ past)) past)) (sym same) was.1))
+            let fit : TryingFits c s l old Tick past = subst (λ st. StageFits c s j a.request old w Tick past st) g (d.dgrams.held j a h).stage in
+            subst (λ os. IsAmong o.octets os) (fit.none o.request k o.id (now (Came e ∷ past))) (subst (λ l. IsAmong o.octets (unanswered c o.request l k o.id (now (Came e ∷ past)) past)) (sym same) was.1))
         staged j a h (Sent l n y) g t =
             let same : l ≡ o.place = cc in
-            let fit : SentFits s l n y j a.request old Tick past = subst (λ st. StageFits c s j a.request old w Tick past st) g (d.dgrams.held j a h).stage in
-            let one = fit.only o.request k o.id (now (Came e ∷ past)) o.octets (subst (λ l. IsAmong o.octets (unanswered o.request l k o.id (now (Came e ∷ past)) past)) (sym same) was.1) in
+            let fit : SentFits c s l n y j a.request old Tick past = subst (λ st. StageFits c s j a.request old w Tick past st) g (d.dgrams.held j a h).stage in
+            let one = fit.only o.request k o.id (now (Came e ∷ past)) o.octets (subst (λ l. IsAmong o.octets (unanswered c o.request l k o.id (now (Came e ∷ past)) past)) (sym same) was.1) in
             record { tryer = a; held = ap u.server.by_dgram.held one.0 ∙ h; moment = y; stage = g ∙ (ap (λ l. Sent l n y) same ∙ ap (λ n. Sent o.place n y) (sym one.1)); none = was.0 }
         staged j a h (Ending y) g t = absurd (cc)
         staged j a h Cut g t = absurd (cc)
@@ -384,11 +380,11 @@ module _ (c : Conf) (s : ℕ) (old past : History) (w : What) (e : Event) (u : S
         placed_at (Some j) g = (let x = d.dgrams.slots o.place j g in staged j x.owner x.is_held x.owner.stage refl x.its)
         placed_at None g = absurd (dead (d.dgrams.others o.place (dgram_at s o.place past at) g))
 
-    stream_owner : site o.place past ≡ Some (stream_site s) → IsAmong o.octets (if is_before (now (Came e ∷ past)) (start k s Stream past) then octets_for k (waiting_with (came o.place e.what past) o.place o.id (Came e ∷ past)) else []) → StreamOwner
+    stream_owner : site o.place past ≡ Some (stream_site s) → IsAmong o.octets (if is_before c (now (Came e ∷ past)) (start k s Stream past) then octets_for k (waiting_with (came o.place e.what past) o.place o.id (Came e ∷ past)) else []) → StreamOwner
     stream_owner at i = at_conn (u.server.by_stream.conns o.place) refl
       where
-        b : (is_before (now (Came e ∷ past)) (start k s Stream past) ≡ true) × IsAmong o.octets (octets_for k (waiting_with (came o.place e.what past) o.place o.id (Came e ∷ past)))
-        b = before_of (is_before (now (Came e ∷ past)) (start k s Stream past)) o.octets (octets_for k (waiting_with (came o.place e.what past) o.place o.id (Came e ∷ past))) i
+        b : (is_before c (now (Came e ∷ past)) (start k s Stream past) ≡ true) × IsAmong o.octets (octets_for k (waiting_with (came o.place e.what past) o.place o.id (Came e ∷ past)))
+        b = before_of (is_before c (now (Came e ∷ past)) (start k s Stream past)) o.octets (octets_for k (waiting_with (came o.place e.what past) o.place o.id (Came e ∷ past))) i
 
         left : (z : Bool) → IsAmong o.octets (octets_for k (if z then [] else waiting o.place o.id past)) → IsAmong o.octets (octets_for k (waiting o.place o.id past))
         left true i = absurd i
@@ -415,8 +411,8 @@ module _ (c : Conf) (s : ℕ) (old past : History) (w : What) (e : Event) (u : S
     owner = go o.via refl
       where
         go : (v : Via) → o.via ≡ v → ((o.via ≡ Dgram) × DgramOwner) ⊎ ((o.via ≡ Stream) × StreamOwner)
-        go Dgram g = inl (g, dgram_owner (subst (λ v. site o.place past ≡ Some (record { via = v; server = s })) g o.at) (subst (λ v. IsAmong o.octets (waited_for v o.request s o.place k o.id (now (Came e ∷ past)) (came_here o.place (Came e ∷ past)) (Came e ∷ past) (Came e ∷ past))) g o.sent))
-        go Stream g = inr (g, stream_owner (subst (λ v. site o.place past ≡ Some (record { via = v; server = s })) g o.at) (subst (λ v. IsAmong o.octets (waited_for v o.request s o.place k o.id (now (Came e ∷ past)) (came_here o.place (Came e ∷ past)) (Came e ∷ past) (Came e ∷ past))) g o.sent))
+        go Dgram g = inl (g, dgram_owner (subst (λ v. site o.place past ≡ Some (record { via = v; server = s })) g o.at) (subst (λ v. IsAmong o.octets (waited_for c v o.request s o.place k o.id (now (Came e ∷ past)) (came_here o.place (Came e ∷ past)) (Came e ∷ past) (Came e ∷ past))) g o.sent))
+        go Stream g = inr (g, stream_owner (subst (λ v. site o.place past ≡ Some (record { via = v; server = s })) g o.at) (subst (λ v. IsAmong o.octets (waited_for c v o.request s o.place k o.id (now (Came e ∷ past)) (came_here o.place (Came e ∷ past)) (Came e ∷ past) (Came e ∷ past))) g o.sent))
 
   -- a request that is not held and is owed nothing is owed nothing in the row that begins
   pub begins_over : (k : ℕ) → holds u k ≡ false → (IsOwed c s k old w past → ⊥) → IsOwed c s k past e.what (Came e ∷ past) → ⊥
@@ -429,7 +425,7 @@ module _ (c : Conf) (s : ℕ) (old past : History) (w : What) (e : Event) (u : S
       by_stream via x =
           let alive = (d.streams.conns o.place x.conn x.is_conn).alive in
           let bb = earlier (now past) (now (Came e ∷ past)) (start k s Stream past) (omega arith) x.early in
-          over (record { request = o.request; via = Stream; place = o.place; id = o.id; asked = asked_was; alive = inl alive; at = subst (λ v. site o.place past ≡ Some (record { via = v; server = s })) via o.at; octets = o.octets; sent = rw bb x.was; carries = subst (λ v. CarriesBy v o.octets o.request o.id) via o.carries })
+          over (record { request = o.request; via = Stream; place = o.place; id = o.id; asked = asked_was; alive = inl alive; at = subst (λ v. site o.place past ≡ Some (record { via = v; server = s })) via o.at; octets = o.octets; sent = rw bb x.was; carries = subst (λ v. CarriesBy c v o.octets o.request o.id) via o.carries })
         where
           asked_was : (t : ℕ) × (asking k past ≡ Some (record { request = o.request; moment = t }))
           asked_was =
@@ -459,7 +455,7 @@ module _ (c : Conf) (s : ℕ) (old past : History) (w : What) (e : Event) (u : S
       stream_begun : (k : ℕ) (o : IsOwed c s k past e.what (Came e ∷ past)) → StreamOwner k o → started k s Stream past ≡ true
       stream_begun k o x = subst (λ k. started k s Stream past ≡ true) x.its ((d.streams.conns o.place x.conn x.is_conn).begun o.id x.written x.id)
 
-      dgram_owed : (k : ℕ) (a : Tryer) → u.server.by_dgram.held k ≡ Some a → (o : IsOwed c s k past e.what (Came e ∷ past)) → DgramOwner k o → StageOwed e.what past a.request o.place a.stage
+      dgram_owed : (k : ℕ) (a : Tryer) → u.server.by_dgram.held k ≡ Some a → (o : IsOwed c s k past e.what (Came e ∷ past)) → DgramOwner k o → StageOwed c e.what past a.request o.place a.stage
       dgram_owed k a held o x =
           let same : x.tryer ≡ a = (let z = sym x.held ∙ held in cc) in
           let stage : a.stage ≡ Sent o.place o.id x.moment = ap (λ (a : Tryer). a.stage) (sym same) ∙ x.stage in
@@ -467,12 +463,12 @@ module _ (c : Conf) (s : ℕ) (old past : History) (w : What) (e : Event) (u : S
           let still = asked_still k (record { request = a.request; moment = asked.0 }) e past asked.1 in
           let both : record { request = o.request; moment = o.asked.0 } ≡ record { request = a.request; moment = asked.0 } = (let v = sym o.asked.1 ∙ still in cc) in
           let request : o.request ≡ a.request = ap (λ (x : Asking). x.request) both in
-          subst (λ st. StageOwed e.what past a.request o.place st) (sym stage) (refl, subst (λ r. has_answer r o.id (came o.place e.what past) ≡ false) request x.none)
+          subst (λ st. StageOwed c e.what past a.request o.place st) (sym stage) (refl, subst (λ r. has_answer r o.id (received (recv_size c) (came o.place e.what past)) ≡ false) request x.none)
 
 -- At any point of a row.
 
 pub one_id : (c : Conf) (s p k i j : ℕ) (q r : Request) (m n : Octets) (past : History) (w : What) (u : Served) (h : History) → Fits c s past w u h → Comes c q Stream s p k i m past w h → Comes c r Stream s p k j n past w h → i ≡ j
-one_id c s p k i j q r m n past w u h f x y = f.one_id p k i j x.is_open.octets y.is_open.octets at (among (is_before (now h) (start k s Stream h)) (octets_for k (waiting_with [] p i h)) x.is_open.octets x.is_open.sent) (among (is_before (now h) (start k s Stream h)) (octets_for k (waiting_with [] p j h)) y.is_open.octets y.is_open.sent)
+one_id c s p k i j q r m n past w u h f x y = f.one_id p k i j x.is_open.octets y.is_open.octets at (among (is_before c (now h) (start k s Stream h)) (octets_for k (waiting_with [] p i h)) x.is_open.octets x.is_open.sent) (among (is_before c (now h) (start k s Stream h)) (octets_for k (waiting_with [] p j h)) y.is_open.octets y.is_open.sent)
   where
     among : (b : Bool) (ys : List Octets) (o : Octets) → IsAmong o (if b then ys else []) → IsAmong o ys
     among true ys o i = i

@@ -50,7 +50,7 @@ no_asker c s past w u h k a f held = go (u.server.by_stream.asks k) refl
 comes_close : (c : Conf) (r : Request) (v : Via) (s p k id q : ℕ) (m : Octets) (past : History) (w : What) (h : History) → Comes c r v s p k id m past w (Put (Close q) ∷ h) → Comes c r v s p k id m past w h
 comes_close c r v s p k id q m past w h x = (let o = x.is_open in record { is_open = record { stands = o.stands; octets = o.octets; sent = back v o.sent; carries = o.carries }; first = x.first })
   where
-    back : (v : Via) → IsAmong x.is_open.octets (waited_for v r s p k id (now h) [] past (Put (Close q) ∷ h)) → IsAmong x.is_open.octets (waited_for v r s p k id (now h) [] past h)
+    back : (v : Via) → IsAmong x.is_open.octets (waited_for c v r s p k id (now h) [] past (Put (Close q) ∷ h)) → IsAmong x.is_open.octets (waited_for c v r s p k id (now h) [] past h)
     back Dgram i = i
     back Stream i = i
 
@@ -64,7 +64,7 @@ still_alive false x e = e
 pub owed_close : (c : Conf) (t k q : ℕ) (past : History) (w : What) (h : History) → IsOwed c t k past w (Put (Close q) ∷ h) → IsOwed c t k past w h
 owed_close c t k q past w h o = record { request = o.request; via = o.via; place = o.place; id = o.id; asked = o.asked; alive = elim o.alive [ inl e ↦ inl (still_alive (q == o.place) (stand o.place h) e) | inr e ↦ inr e ]; at = o.at; octets = o.octets; sent = back o.via o.sent; carries = o.carries }
   where
-    back : (v : Via) → IsAmong o.octets (waited_for v o.request t o.place k o.id (now h) (came_here o.place h) (Put (Close q) ∷ h) (Put (Close q) ∷ h)) → IsAmong o.octets (waited_for v o.request t o.place k o.id (now h) (came_here o.place h) h h)
+    back : (v : Via) → IsAmong o.octets (waited_for c v o.request t o.place k o.id (now h) (came_here o.place h) (Put (Close q) ∷ h) (Put (Close q) ∷ h)) → IsAmong o.octets (waited_for c v o.request t o.place k o.id (now h) (came_here o.place h) h h)
     back Dgram i = i
     back Stream i = i
 
@@ -101,7 +101,7 @@ module _ (c : Conf) (s next k : ℕ) (past : History) (w : What) (u : Served) (h
   cancels_come _ (IsGivenUp x v (server.HasPlace a q held stage)) t r via p j id m z = comes_close c r via t p j id q m past w h z
   cancels_come _ (IsGivenUp x v (server.AtStreams none)) t r via p j id m z = z
 
-  pub cancels_late : (d : Act Served) → Cancels s next k u d → Late c Served holds Expects s past w h d
+  pub cancels_late : (d : Act Served) → Cancels s next k u d → Late c Served holds (Expects c) s past w h d
   cancels_late d can t r via p j id m z = inl (record { comes = cancels_come d can t r via p j id m z.comes; agrees = z.agrees; whole = z.whole })
 
   pub cancels_over : (d : Act Served) → Cancels s next k u d → (j t : ℕ) → (IsOwed c t j past w h → ⊥) → IsOwed c t j past w (put_all d.outs h) → ⊥
@@ -113,12 +113,12 @@ module _ (c : Conf) (s next k : ℕ) (past : History) (w : What) (u : Served) (h
   place_of a p st = elim st [ inl e ↦ ap placed e | inr e ↦ ap placed e.2 ]
 
   may_close : (a : Tryer) (p : ℕ) (end : History) → u.server.by_dgram.held k ≡ Some a → RepliedHere k past end → (a.stage ≡ Trying p) ⊎ ((id : ℕ) × (t : ℕ) × (a.stage ≡ Sent p id t)) → MayCloseDgram c p past w h end
-  may_close a p end held reply (inl e) = (let g = fits.dgrams.held k a held in let f : TryingFits s p past u.pending h = subst (λ st. StageFits c s k a.request past w u.pending h st) e g.stage in ReplyBeforeItsSend (dgram_site s) f.at f.unsent k g.has_it reply)
-  may_close a p end held reply (inr e) = (let g = fits.dgrams.held k a held in let f : SentFits s p e.0 e.1 k a.request past u.pending h = subst (λ st. StageFits c s k a.request past w u.pending h st) e.2 g.stage in ItsReply _ f.sent reply)
+  may_close a p end held reply (inl e) = (let g = fits.dgrams.held k a held in let f : TryingFits c s p past u.pending h = subst (λ st. StageFits c s k a.request past w u.pending h st) e g.stage in ReplyBeforeItsSend (dgram_site s) f.at f.unsent k g.has_it reply)
+  may_close a p end held reply (inr e) = (let g = fits.dgrams.held k a held in let f : SentFits c s p e.0 e.1 k a.request past u.pending h = subst (λ st. StageFits c s k a.request past w u.pending h st) e.2 g.stage in ItsReply _ f.sent reply)
 
   was_live : (a : Tryer) (p : ℕ) → u.server.by_dgram.held k ≡ Some a → (a.stage ≡ Trying p) ⊎ ((id : ℕ) × (t : ℕ) × (a.stage ≡ Sent p id t)) → WasLive p h
-  was_live a p held (inl e) = (let f : TryingFits s p past u.pending h = subst (λ st. StageFits c s k a.request past w u.pending h st) e (fits.dgrams.held k a held).stage in ap is_live f.untold)
-  was_live a p held (inr e) = (let f : SentFits s p e.0 e.1 k a.request past u.pending h = subst (λ st. StageFits c s k a.request past w u.pending h st) e.2 (fits.dgrams.held k a held).stage in was_alive p h f.stand)
+  was_live a p held (inl e) = (let f : TryingFits c s p past u.pending h = subst (λ st. StageFits c s k a.request past w u.pending h st) e (fits.dgrams.held k a held).stage in ap is_live f.untold)
+  was_live a p held (inr e) = (let f : SentFits c s p e.0 e.1 k a.request past u.pending h = subst (λ st. StageFits c s k a.request past w u.pending h st) e.2 (fits.dgrams.held k a held).stage in was_alive p h f.stand)
 
   pub cancels_right : s < length c.servers → (d : Act Served) → Cancels s next k u d → replied k past ≡ false → (end : History) → replied k end ≡ true → ServerOutsRight c past w end h d.outs
   cancels_right known _ (IsGivenUp x v (server.Waits a held stage)) before end after = tt
@@ -128,7 +128,7 @@ module _ (c : Conf) (s next k : ℕ) (past : History) (w : What) (u : Served) (h
       ((omega arith, OfDgram s (dgram_at s p h st.1) (may_close a p end held (record { now = after; not_before = before }) stage), was_live a p held stage), tt)
   cancels_right known _ (IsGivenUp x v (server.AtStreams none)) before end after = tt
 
-  pub cancels_goes : (d : Act Served) → Cancels s next k u d → (p j : ℕ) (m : Octets) → j ≢ k → Goes Served Expects past w h u d p j m
+  pub cancels_goes : (d : Act Served) → Cancels s next k u d → (p j : ℕ) (m : Octets) → j ≢ k → Goes c Served (Expects c) past w h u d p j m
   cancels_goes _ (IsGivenUp x v (server.Waits a held stage)) p j m ne (ByDatagram b id t o pend un held' at st soon long same ok whole) = inr (inl (ByDatagram b id t o pend un (at_there k j None u.server.by_dgram.held (λ e. ne (sym e)) ∙ held') at st soon long same ok whole))
   cancels_goes _ (IsGivenUp x v (server.Waits a held stage)) p j m ne (ByOctets b id o y pend un ask soon ph conn first ok) = inr (inl (ByOctets b id o y pend un ask soon ph conn first ok))
   cancels_goes _ (IsGivenUp x v (server.Waits a held stage)) p j m ne (InFrames b id y pl tk ask soon ph conn first ok) = inr (inl (InFrames b id y pl tk ask soon ph conn first ok))

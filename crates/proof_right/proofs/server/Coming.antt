@@ -108,10 +108,10 @@ octets_among k y (w ∷ ws) its (inr i) = go (octets_among k y ws its i) (w.requ
     go rest true e = rw e (inr rest)
     go rest false e = rw e rest
 
-pub frame_comes : (c : Conf) (s : ℕ) (past : History) (p : ℕ) (o : Octets) (fr more : ℕ → List Octets) (m : Multi) (h : History) (x : Conn) (f : Octets) (rest : List Octets) (y : Written) (a : Asker) → s < length c.servers → Kept s past (Bytes p o) Tick fr more m h
-    → m.conns p ≡ Some x → more p ≡ f ∷ rest → is_bad f ≡ false → x.ids (id_in f) ≡ Some y → m.asks y.request ≡ Some a → now h < a.since + stream_timeout → replied y.request past ≡ false → Comes c a.request Stream s p y.request (id_in f) f past (Bytes p o) h
+pub frame_comes : (c : Conf) (s : ℕ) (past : History) (p : ℕ) (o : Octets) (fr more : ℕ → List Octets) (m : Multi) (h : History) (x : Conn) (f : Octets) (rest : List Octets) (y : Written) (a : Asker) → s < length c.servers → Kept c s past (Bytes p o) Tick fr more m h
+    → m.conns p ≡ Some x → more p ≡ f ∷ rest → is_bad f ≡ false → x.ids (id_in f) ≡ Some y → m.asks y.request ≡ Some a → now h < a.since + stream_timeout c → replied y.request past ≡ false → Comes c a.request Stream s p y.request (id_in f) f past (Bytes p o) h
 frame_comes c s past p o fr more m h x f rest y a known kept conn comes good held is_ask' early unreplied =
-    let fits : ConnFits s p past Tick (fr p) (f ∷ rest) x h = subst (λ l. ConnFits s p past Tick (fr p) l x h) comes (kept.conns p x conn) in
+    let fits : ConnFits c s p past Tick (fr p) (f ∷ rest) x h = subst (λ l. ConnFits c s p past Tick (fr p) l x h) comes (kept.conns p x conn) in
     let k = y.request in
     let asks = kept.asks k a is_ask' in
     let row = kept.row in
@@ -124,7 +124,7 @@ frame_comes c s past p o fr more m h x f rest y a known kept conn comes good hel
     let wait : waiting_with (fr p) p (id_in f) h ≡ y ∷ [] = fits.ids (id_in f) ∙ ap listed held in
     let i : IsWritten y (waiting_with (fr p) p (id_in f) h) = rw wait (inl refl) in
     let among = octets_among k y (waiting_with [] p (id_in f) h) refl (waits_before (fr p) p (id_in f) y h i) in
-    let before : is_before (now h) (start k s Stream h) ≡ true = (let t = asks.since in grind (arith, nat_tests)) in
+    let before : is_before c (now h) (start k s Stream h) ≡ true = (let t = asks.since in grind (arith, nat_tests)) in
     let unbrought : brings (id_in f) (fr p) ≡ false = not_brought wait in
     record {
       is_open = record {

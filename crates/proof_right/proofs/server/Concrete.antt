@@ -55,7 +55,7 @@ use Rattle.proof_right.proofs.server.Handing as handing
 use Rattle.proof_right.proofs.server.Acting as acting
 use Rattle.proof_right.proofs.server.Late as late
 
-acts_keeps : (c : Conf) (s place : ℕ) (past : History) (w : What) (u : Served) (h : History) (d : Act Served) → s < length c.servers → Fits c s past w u h → place ≡ reach h → Acts s place u d → Keeps Served (Fits c) none_more s past w h d
+acts_keeps : (c : Conf) (s place : ℕ) (past : History) (w : What) (u : Served) (h : History) (d : Act Served) → s < length c.servers → Fits c s past w u h → place ≡ reach h → Acts c s place u d → Keeps Served (Fits c) none_more s past w h d
 acts_keeps c s place past w u h _ lt f is (served.ByStream x m move) = moving.stream_keeps c s past w u h f place m x is move
 acts_keeps c s place past w u h d lt f is (served.ByDgram x e _ tries set) = trying.tries_keeps c s past w u h f place e x d is tries set
 acts_keeps c s place past w u h _ lt f is (served.FallsBack k a held stage) = falling_back.falls_keeps c s place k past w u h f a held stage is
@@ -69,8 +69,8 @@ acts_keeps c s place past w u h _ lt f is (served.ClosesFirst g gs k y m x since
     record { fits = framing.idle_fits c s past w (frames_left gs m u) h one tk x conn since mode le pumped; others = framing.idle_others c s past w (frames_left gs m u) h one tk x conn since mode le pumped; silent = λ j. refl; handed_on = λ j t. refl; reaches = is }
 acts_keeps c s place past w u h d lt f is (served.TellsDgrams x e _ un soon meets foreign set) = dgram_taken.meets_keeps c s past w u h f lt un soon place is e x meets foreign d set
 
-acts_right : (c : Conf) (s place : ℕ) (past : History) (w : What) (u : Served) (h : History) (d : Act Served) → s < length c.servers → Fits c s past w u h → place ≡ reach h → Acts s place u d → ((k : ℕ) → holds u k ≡ true → replied k past ≡ false) → (end : History) → ServerOutsRight c past w end h d.outs
-acts_right c s place past w u h _ lt f is (served.ByStream x m move) un end = moving.stream_right c s past w u h f m x lt (subst₂ (λ n next. Moves s n next u.server.by_stream x m) f.clock is move) (λ k a ask. un k (held_asker c s past w u h f k a ask)) end
+acts_right : (c : Conf) (s place : ℕ) (past : History) (w : What) (u : Served) (h : History) (d : Act Served) → s < length c.servers → Fits c s past w u h → place ≡ reach h → Acts c s place u d → ((k : ℕ) → holds u k ≡ true → replied k past ≡ false) → (end : History) → ServerOutsRight c past w end h d.outs
+acts_right c s place past w u h _ lt f is (served.ByStream x m move) un end = moving.stream_right c s past w u h f m x lt (subst₂ (λ n next. Moves c s n next u.server.by_stream x m) f.clock is move) (λ k a ask. un k (held_asker c s past w u h f k a ask)) end
 acts_right c s place past w u h d lt f is (served.ByDgram x e _ tries set) un end = trying.tries_outs c s past w u h f place e x d lt is tries set end
 acts_right c s place past w u h _ lt f is (served.FallsBack k a held stage) un end = falling_back.falls_right c s place k past w u h f a held stage lt (un k (held_tryer c s past w u h f k a held)) end
 acts_right c s place past w u h _ lt f is (served.TellsStreams x m un plain takes ignored) _ end = taken.told_right c s past w u h f un m x lt plain takes ignored end
@@ -111,11 +111,11 @@ or_more a b x e i = e ∙ or_last a b i
 fresh_whole : (c : Conf) (s : ℕ) → Whole c s [] Tick unserved []
 fresh_whole c s = record { fits = rows_begin.fresh_fits c s; owed = record { begun = λ k o. absurd (none k o o.via o.sent); by_dgram = λ k a e. absurd (cc); by_stream = λ k a e. absurd (cc) }; heard = λ k a e. absurd (cc) }
   where
-    none : (k : ℕ) (o : IsOwed c s k [] Tick []) (v : Via) → IsAmong o.octets (waited_for v o.request s o.place k o.id 0 [] [] []) → ⊥
+    none : (k : ℕ) (o : IsOwed c s k [] Tick []) (v : Via) → IsAmong o.octets (waited_for c v o.request s o.place k o.id 0 [] [] []) → ⊥
     none k o Dgram i = i
     none k o Stream i = i
 
-whole_begins : (c : Conf) (s : ℕ) (old past : History) (w : What) (e : Event) (u : Served) → Whole c s old w u past → RestsNow u → Whole c s past e.what (row_begun e u) (Came e ∷ past)
+whole_begins : (c : Conf) (s : ℕ) (old past : History) (w : What) (e : Event) (u : Served) → Whole c s old w u past → RestsNow c u → Whole c s past e.what (row_begun e u) (Came e ∷ past)
 whole_begins c s old past w e u f r = record { fits = rows_begin.begins c s old past w e u f.fits r (heard_none c s old w u past f.fits f.heard r); owed = rows_begin.begins_owed c s old past w e u f.fits r; heard = begins_heard c s old past w e u f.fits r }
 
 whole_replies : (c : Conf) (s k : ℕ) (x : Result Octets Error) (past : History) (w : What) (u : Served) (h : History) → Whole c s past w u h → Whole c s past w u (Put (Reply k x) ∷ h)
@@ -124,7 +124,7 @@ whole_replies c s k x past w u h f = other_whole c s past w u (Reply k x ∷ [])
 whole_marks : (c : Conf) (s k : ℕ) (past : History) (w : What) (u : Served) (h : History) → Whole c s past w u h → Whole c s past w u (Put (Stale k) ∷ h)
 whole_marks c s k past w u h f = other_whole c s past w u (Stale k ∷ []) h (moved.marks c s k past w u h f.fits) (λ j e. e) (λ j o. mute_put c s past w u h f.fits (Stale k) tt tt j s o) (λ r p j id m y. comes_out c r Stream s p j id m past w (Stale k) h tt y) f
 
-whole_acts : (c : Conf) (s place : ℕ) (past : History) (w : What) (u : Served) (h : History) (d : Act Served) → s < length c.servers → Whole c s past w u h → place ≡ reach h → Acts s place u d → Keeps Served (Whole c) none_more s past w h d
+whole_acts : (c : Conf) (s place : ℕ) (past : History) (w : What) (u : Served) (h : History) (d : Act Served) → s < length c.servers → Whole c s past w u h → place ≡ reach h → Acts c s place u d → Keeps Served (Whole c) none_more s past w h d
 whole_acts c s place past w u h d lt f is act =
     let k = acts_keeps c s place past w u h d lt f.fits is act in
     let more : (j t : ℕ) → handed j t h ≡ true → handed j t (put_all d.outs h) ≡ true = λ j t. or_more false (handed j t h) (handed j t (put_all d.outs h)) (k.handed_on j t) in
@@ -168,11 +168,11 @@ part c = record {
   fresh = unserved;
   holds = holds;
   begin = row_begun;
-  Acts = Acts;
+  Acts = Acts c;
   Starts = Starts c;
   Cancels = Cancels;
-  Rests = RestsNow;
-  Expects = Expects;
+  Rests = RestsNow c;
+  Expects = Expects c;
   has_taken = λ u. u.taken;
   Fits = Whole c;
   fresh_fits = fresh_whole c;
@@ -205,8 +205,8 @@ part c = record {
   cancels_taken = λ s place k past w u h d lt f is held can taken. cancels.cancels_taken c s place k past w u h f.fits d can taken;
   cancels_over = λ s place k past w u h d lt f is held can j t only none o. cancels.cancels_over c s place k past w u h f.fits d can j t none o;
   cancels_goes = λ s place k past w u h d p j m lt f is held can ne. cancels.cancels_goes c s place k past w u h f.fits d can p j m ne;
-  expects_held = rows_begin.expects_held;
-  rested = rows_begin.rested;
+  expects_held = rows_begin.expects_held c;
+  rested = rows_begin.rested c;
   busy = λ s k a past w u h lt f r held asked valid waiting. ends.busy c s past w u h lt f.fits r k a held asked valid waiting;
   few_places = λ s past w u h lt f r all. ends.few_places c s past w u h lt f.fits r all;
   just_so_many = λ s past w u h lt f r all back. ends.just_so_many c s past w u h lt f.fits r all back;

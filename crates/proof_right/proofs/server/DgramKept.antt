@@ -6,11 +6,11 @@ use Rattle.client_request.specs.declared.event.What.{What}
 use Rattle.client_request.specs.declared.event.What.TheVariants.{OpenFailed, Tick}
 use Rattle.client_request.specs.declared.event.Via.TheVariants.{Dgram, Stream}
 use Rattle.right_trace.specs.Trace.{History, Conf}
-use Rattle.right_trace.specs.Time.{read_timeout, now, one_if, count_below}
+use Rattle.right_trace.specs.Time.{read_timeout, now, one_if, count_below, recv_size, max_places, max_tries}
 use Rattle.right_trace.specs.Messages.{Octets, CarriesBy}
 use Rattle.right_trace.specs.Requests.{asks, asking, replied, started}
 use Rattle.right_trace.specs.Places.{Site, site, is_at, Stand, Unused, Opening, Alive, Gone, on_event, stand, stand_untold, is_live, reach, live}
-use Rattle.right_trace.specs.Frames.{came}
+use Rattle.right_trace.specs.Frames.{came, received}
 use Rattle.right_trace.specs.Exchanges.{has_answer, unanswered, IsAmong}
 use Rattle.right_trace.specs.Causes.{sends, last_try, named, IsOneOf}
 use Rattle.right_trace.specs.Orderly.{sending, CutAnswerCame}
@@ -38,40 +38,40 @@ has_place None = false
 has_place (Some a) = is_some (placed a.stage)
 
 -- place p opens, as far as the machine knows: an event that it has not taken yet may have changed that
-pub record TryingFits (s p : ℕ) (past : History) (pend : What) (h : History) : Type 0 where
+pub record TryingFits (c : Conf) (s p : ℕ) (past : History) (pend : What) (h : History) : Type 0 where
   pub was : (stand p past ≡ Opening) ⊎ (stand p past ≡ Unused)
   pub stand : stand p h ≡ on_event pend p Opening
   pub untold : stand_untold p h ≡ Opening
   pub at : site p h ≡ Some (dgram_site s)
   pub unsent : sending p h ≡ None
-  pub none : (r : Request) (j i n : ℕ) → unanswered r p j i n h ≡ []
+  pub none : (r : Request) (j i n : ℕ) → unanswered c r p j i n h ≡ []
 
 -- before the row, request k was sent at place p as these octets and not answered
-pub record Old (s p id t k : ℕ) (r : Request) (octets : Octets) (past : History) : Type 0 where
+pub record Old (c : Conf) (s p id t k : ℕ) (r : Request) (octets : Octets) (past : History) : Type 0 where
   pub alive : stand p past ≡ Alive
   pub at : site p past ≡ Some (dgram_site s)
   pub asked : (u : ℕ) × (asking k past ≡ Some (record { request = r; moment = u }))
-  pub unanswered : (n : ℕ) → n < t + read_timeout → unanswered r p k id n past ≡ octets ∷ []
+  pub unanswered : (n : ℕ) → n < t + read_timeout c → unanswered c r p k id n past ≡ octets ∷ []
   pub named : IsOneOf (record { id = id; octets = octets }) (named p k past)
   pub begun : started k s Dgram past ≡ true
 
 -- request k was sent at place p under this id at moment t
-pub record SentFits (s p id t k : ℕ) (r : Request) (past : History) (pend : What) (h : History) : Type 0 where
+pub record SentFits (c : Conf) (s p id t k : ℕ) (r : Request) (past : History) (pend : What) (h : History) : Type 0 where
   pub octets : Octets
-  pub carries : CarriesBy Dgram octets r id
+  pub carries : CarriesBy c Dgram octets r id
   pub stand : stand p h ≡ Alive
   pub at : site p h ≡ Some (dgram_site s)
   pub sent : sending p h ≡ Some (record { request = k; moment = t })
   pub named : IsOneOf (record { id = id; octets = octets }) (named p k h)
   pub last : last_try k s h ≡ Some (record { place = p; moment = t })
-  pub lived : ((pend ≡ Tick) × (t ≡ now h)) ⊎ Old s p id t k r octets past
-  pub is_open : has_answer r id (came p pend past) ≡ false → (n : ℕ) → n < t + read_timeout → unanswered r p k id n h ≡ octets ∷ []
-  pub only : (r' : Request) (j i n : ℕ) (o : Octets) → IsAmong o (unanswered r' p j i n h) → (j ≡ k) × (i ≡ id) × (n < t + read_timeout)
+  pub lived : ((pend ≡ Tick) × (t ≡ now h)) ⊎ Old c s p id t k r octets past
+  pub is_open : has_answer r id (received (recv_size c) (came p pend past)) ≡ false → (n : ℕ) → n < t + read_timeout c → unanswered c r p k id n h ≡ octets ∷ []
+  pub only : (r' : Request) (j i n : ℕ) (o : Octets) → IsAmong o (unanswered c r' p j i n h) → (j ≡ k) × (i ≡ id) × (n < t + read_timeout c)
 
 abbrev pub StageFits : (c : Conf) (s k : ℕ) → Request → (past : History) (w pend : What) → History → Stage → Type 0
 StageFits c s k r past w pend h Queued = Unit {0}
-StageFits c s k r past w pend h (Trying p) = TryingFits s p past pend h
-StageFits c s k r past w pend h (Sent p id t) = SentFits s p id t k r past pend h
+StageFits c s k r past w pend h (Trying p) = TryingFits c s p past pend h
+StageFits c s k r past w pend h (Sent p id t) = SentFits c s p id t k r past pend h
 StageFits c s k r past w pend h (Ending x) = replied k past ≡ false → x ≢ Err errors.TimedOut → PostRight c k x past w h
 StageFits c s k r past w pend h Cut = replied k past ≡ false → CutAnswerCame c k s past w h
 
@@ -80,7 +80,7 @@ pub record TryerFits (c : Conf) (s k : ℕ) (a : Tryer) (past : History) (w pend
   pub has_it : started k s Dgram h ≡ true
   pub unstreamed : started k s Stream h ≡ false
   pub trials : sends k s h ≡ a.tries
-  pub few : a.tries + owing a.stage ≤ 6
+  pub few : a.tries + owing a.stage ≤ max_tries c
   pub stage : StageFits c s k a.request past w pend h a.stage
 
 -- a live place is its request's
@@ -90,13 +90,13 @@ pub record HasOwner (held : ℕ → Option Tryer) (p k : ℕ) : Type 0 where
   pub its : placed owner.stage ≡ Some p
 
 -- no out has opened p yet
-pub record IsNew (p : ℕ) (past : History) (d : Dgrams) (h : History) : Type 0 where
+pub record IsNew (c : Conf) (p : ℕ) (past : History) (d : Dgrams) (h : History) : Type 0 where
   pub was : stand p past ≡ Unused
   pub unheld : d.at p ≡ None
   pub stand : stand p h ≡ Unused
   pub nowhere : site p h ≡ None
   pub unsent : sending p h ≡ None
-  pub none : (r : Request) (j i n : ℕ) → unanswered r p j i n h ≡ []
+  pub none : (r : Request) (j i n : ℕ) → unanswered c r p j i n h ≡ []
 
 -- the place that the pending event ends still has its slot
 abbrev pub is_ended : Stand → Bool
@@ -113,7 +113,7 @@ pub record KeptD (c : Conf) (s : ℕ) (past : History) (w pend : What) (d : Dgra
   pub slots : (p k : ℕ) → d.at p ≡ Some k → HasOwner d.held p k
   pub points : (k : ℕ) (a : Tryer) → d.held k ≡ Some a → (p : ℕ) → placed a.stage ≡ Some p → d.at p ≡ Some k
   pub others : (p : ℕ) → is_at Dgram s p h ≡ true → d.at p ≡ None → is_live (stand p h) ≡ false
-  pub new : (p : ℕ) → reach h ≤ p → IsNew p past d h
+  pub new : (p : ℕ) → reach h ≤ p → IsNew c p past d h
   pub lives : live s h + lost pend d.at h ≡ d.used
   pub places : count_below (λ k. has_place (d.held k)) (asks h) ≡ d.used
-  pub few : d.used ≤ 100
+  pub few : d.used ≤ max_places c

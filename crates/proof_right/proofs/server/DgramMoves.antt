@@ -11,7 +11,7 @@ use Rattle.client_request.specs.declared.event.Out.{Out}
 use Rattle.client_request.specs.declared.event.Out.TheVariants.{Start}
 use Rattle.client_request.specs.declared.event.Via.TheVariants.{Dgram, Stream}
 use Rattle.right_trace.specs.Trace.{History, Conf, Put}
-use Rattle.right_trace.specs.Time.{count_below, one_if}
+use Rattle.right_trace.specs.Time.{count_below, one_if, max_tries}
 use Rattle.right_trace.specs.Requests.{asking, asks, started}
 use Rattle.right_trace.specs.Places.{site, is_at, Opening, Alive, Gone, on_event, stand, is_live, reach, live}
 use Rattle.right_trace.specs.Causes.{Named, last_try, named, IsOneOf}
@@ -74,8 +74,8 @@ dgram_at s p h e = (let z : (s == s) ≡ true = grind (arith, nat_tests) in rw (
 abbrev pub is_live_at : (s p : ℕ) → History → Bool
 is_live_at s p h = is_at Dgram s p h && is_live (stand p h)
 
-pub live_same : (s p : ℕ) (o : Out) (h : History) → reaches p o ≡ false → is_live_at s p (Put o ∷ h) ≡ is_live_at s p h
-live_same s p o h e = (let f = dgram_same p o h e in rw (f.stand, f.at) refl)
+pub live_same : (c : Conf) → (s p : ℕ) (o : Out) (h : History) → reaches p o ≡ false → is_live_at s p (Put o ∷ h) ≡ is_live_at s p h
+live_same c s p o h e = (let f = dgram_same c p o h e in rw (f.stand, f.at) refl)
 
 -- An out that is about nothing that server s has by datagrams.
 pub record IsOther (s : ℕ) (d : Dgrams) (o : Out) (h : History) : Type 0 where
@@ -85,13 +85,13 @@ pub record IsOther (s : ℕ) (d : Dgrams) (o : Out) (h : History) : Type 0 where
   pub elsewhere : (q : ℕ) → reaches q o ≡ true → (is_at Dgram s q (Put o ∷ h) ≡ false) × (is_at Dgram s q h ≡ false)
   pub next : (reach (Put o ∷ h) ≡ reach h) ⊎ (reach (Put o ∷ h) ≡ suc (reach h))
 
-lost_put : (pend : What) (at : ℕ → Option ℕ) (o : Out) (h : History) → ((q k : ℕ) → at q ≡ Some k → reaches q o ≡ false) → lost pend at (Put o ∷ h) ≡ lost pend at h
-lost_put (OpenFailed p f) at o h far = go (at p) refl
+lost_put : (c : Conf) → (pend : What) (at : ℕ → Option ℕ) (o : Out) (h : History) → ((q k : ℕ) → at q ≡ Some k → reaches q o ≡ false) → lost pend at (Put o ∷ h) ≡ lost pend at h
+lost_put c (OpenFailed p f) at o h far = go (at p) refl
   where
     go : (x : Option ℕ) → at p ≡ x → one_if (is_some (at p) && is_ended (stand p (Put o ∷ h))) ≡ one_if (is_some (at p) && is_ended (stand p h))
     go None e = rw e refl
-    go (Some k) e = (let same = dgram_same p o h (far p k e) in rw same.stand refl)
-lost_put _ at o h far = refl
+    go (Some k) e = (let same = dgram_same c p o h (far p k e) in rw same.stand refl)
+lost_put c _ at o h far = refl
 
 pub kept_put_d : (c : Conf) (s : ℕ) (past : History) (w pend : What) (d : Dgrams) (o : Out) (h : History) → IsOther s d o h → KeptD c s past w pend d h → KeptD c s past w pend d (Put o ∷ h)
 kept_put_d c s past w pend d o h other kept =
@@ -101,15 +101,15 @@ kept_put_d c s past w pend d o h other kept =
       slots = kept.slots;
       points = kept.points;
       others = λ q e g. others q e g (reaches q o) refl;
-      new = λ q le. new_put q past d d o h (far q le (reaches q o) refl) refl (kept.new q (let r = reach_put o h in omega arith));
-      lives = (let a : live s (Put o ∷ h) ≡ live s h = lives test other.next in let b = lost_put pend d.at o h other.places in let e = kept.lives in omega arith);
+      new = λ q le. new_put c q past d d o h (far q le (reaches q o) refl) refl (kept.new q (let r = reach_put o h in omega arith));
+      lives = (let a : live s (Put o ∷ h) ≡ live s h = lives test other.next in let b = lost_put c pend d.at o h other.places in let e = kept.lives in omega arith);
       places = kept.places;
       few = kept.few;
     }
   where
     tested : (q : ℕ) (b : Bool) → reaches q o ≡ b → is_live_at s q (Put o ∷ h) ≡ is_live_at s q h
     tested q true t = (let e = other.elsewhere q t in rw (e.0, e.1) refl)
-    tested q false t = live_same s q o h t
+    tested q false t = live_same c s q o h t
 
     far : (q : ℕ) → reach (Put o ∷ h) ≤ q → (b : Bool) → reaches q o ≡ b → reaches q o ≡ false
     far q le true t = absurd (let i = other.below q t in omega arith)
@@ -117,7 +117,7 @@ kept_put_d c s past w pend d o h other kept =
 
     others : (q : ℕ) → is_at Dgram s q (Put o ∷ h) ≡ true → d.at q ≡ None → (b : Bool) → reaches q o ≡ b → is_live (stand q (Put o ∷ h)) ≡ false
     others q e g true t = absurd (let z = (other.elsewhere q t).0 in cc)
-    others q e g false t = (let same = dgram_same q o h t in rw same.stand (kept.others q (rw same.at at e) g))
+    others q e g false t = (let same = dgram_same c q o h t in rw same.stand (kept.others q (rw same.at at e) g))
 
     lives : ((q : ℕ) → is_live_at s q (Put o ∷ h) ≡ is_live_at s q h) → (reach (Put o ∷ h) ≡ reach h) ⊎ (reach (Put o ∷ h) ≡ suc (reach h)) → live s (Put o ∷ h) ≡ live s h
     lives test (inl e) = rw e (count_same (λ q. is_live_at s q (Put o ∷ h)) (λ q. is_live_at s q h) (reach h) (λ q lt. test q))
@@ -131,6 +131,7 @@ kept_put_d c s past w pend d o h other kept =
 
 pub begins_d : (c : Conf) (s : ℕ) (past : History) (w pend : What) (d : Dgrams) (h : History) (k : ℕ) (r : Request) (t : ℕ) → KeptD c s past w pend d h → asking k h ≡ Some (record { request = r; moment = t }) → started k s Stream h ≡ false → Causes.sends k s h ≡ 0 → d.held k ≡ None
     → KeptD c s past w pend (record d { held = with_at k (Some (record { request = r; tries = 0; stage = Queued })) d.held }) (Put (Start k s Dgram) ∷ h)
+unfolding max_tries
 begins_d c s past w pend d h k r t kept asked unstreamed unsent unheld =
     let o : Out = Start k s Dgram in
     let a : Tryer = record { request = r; tries = 0; stage = Queued } in
@@ -141,8 +142,8 @@ begins_d c s past w pend d h k r t kept asked unstreamed unsent unheld =
       slots = λ p j e. (let x = kept.slots p j e in let ne : k ≢ j = λ g. (let y = x.is_held in let z = ap d.held g in cc) in record { owner = x.owner; is_held = at_there k j (Some a) d.held ne ∙ x.is_held; its = x.its });
       points = each_at (λ j b. (p : ℕ) → placed b.stage ≡ Some p → d.at p ≡ Some j) k a d.held (λ p e. absurd (cc)) (λ j b ne e p g. kept.points j b e p g);
       others = kept.others;
-      new = λ q le. new_put q past d _ o h refl refl (kept.new q le);
-      lives = (let b = lost_put pend d.at o h (λ q j e. refl) in let e = kept.lives in omega arith);
+      new = λ q le. new_put c q past d _ o h refl refl (kept.new q le);
+      lives = (let b = lost_put c pend d.at o h (λ q j e. refl) in let e = kept.lives in omega arith);
       places = (let z = count_same (λ j. has_place (with_at k (Some a) d.held j)) (λ j. has_place (d.held j)) (asks h) (λ j lt. same j (cases_eq k j)) in let e = kept.places in z ∙ e);
       few = kept.few;
     }

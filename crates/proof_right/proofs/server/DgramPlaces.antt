@@ -10,7 +10,7 @@ use Rattle.client_request.specs.declared.event.Out.{Out}
 use Rattle.client_request.specs.declared.event.Out.TheVariants.{OpenDgram, Close}
 use Rattle.client_request.specs.declared.event.Via.TheVariants.{Dgram}
 use Rattle.right_trace.specs.Trace.{History, Conf, Put}
-use Rattle.right_trace.specs.Time.{newest, count_below, one_if}
+use Rattle.right_trace.specs.Time.{newest, count_below, one_if, max_places, max_tries}
 use Rattle.right_trace.specs.Requests.{asks}
 use Rattle.right_trace.specs.Places.{site, is_at, Opening, Alive, Gone, on_event, stand, is_live, reach, live}
 use Rattle.proof_right.specs.machine.Dgrams.{Stage, Queued, Trying, Tryer, Dgrams, staged, try_at, leave}
@@ -60,7 +60,7 @@ opened_lives (Opened q) s p k at h none st = (let z : is_live (if q == p then Al
     go false = refl
 opened_lives _ s p k at h none st = refl
 
-pub opens_d : (c : Conf) (s : ℕ) (past : History) (w pend : What) (d : Dgrams) (h : History) (k : ℕ) (a : Tryer) → KeptD c s past w pend d h → d.held k ≡ Some a → a.stage ≡ Queued → d.used < 100 → newest h ≡ w → on_event w (reach h) Opening ≡ on_event pend (reach h) Opening
+pub opens_d : (c : Conf) (s : ℕ) (past : History) (w pend : What) (d : Dgrams) (h : History) (k : ℕ) (a : Tryer) → KeptD c s past w pend d h → d.held k ≡ Some a → a.stage ≡ Queued → d.used < max_places c → newest h ≡ w → on_event w (reach h) Opening ≡ on_event pend (reach h) Opening
     → KeptD c s past w pend (try_at (reach h) k a d) (Put (OpenDgram (reach h) s) ∷ h)
 opens_d c s past w pend d h k a kept held stage few new free =
     let p = reach h in
@@ -72,7 +72,7 @@ opens_d c s past w pend d h k a kept held stage few new free =
     let reach' : reach (Put o ∷ h) ≡ suc (reach h) = grind arith in
     let f = kept.held k a held in
     let low = held_below c s past w pend d h k a kept held in
-    let owes : a.tries + 1 ≤ 6 = subst (λ st. a.tries + owing st ≤ 6) stage f.few in
+    let owes : a.tries + 1 ≤ max_tries c = subst (λ st. a.tries + owing st ≤ max_tries c) stage f.few in
     let off : (q j : ℕ) → d.at q ≡ Some j → p ≢ q = λ q j e g. (let u = n.unheld in let v = ap d.at g in cc) in
     record {
       held = each_at (λ j b. TryerFits c s j b past w pend (Put o ∷ h)) k (staged a (Trying p)) d.held
@@ -83,9 +83,9 @@ opens_d c s past w pend d h k a kept held stage few new free =
           (λ q e. (let same : p ≡ q = cc in ap (with_at p (Some k) d.at) (sym same) ∙ at_here p (Some k) d.at))
           (λ j b ne e q g. (let old = kept.points j b e q g in at_there p q (Some k) d.at (off q j old) ∙ old));
       others = λ q e g. others q e g (cases_eq p q);
-      new = λ q le. (let ne : p ≢ q = λ g. omega arith in new_put q past d (try_at p k a d) o h (far_open p q s ne) (at_there p q (Some k) d.at ne) (kept.new q (omega arith)));
+      new = λ q le. (let ne : p ≢ q = λ g. omega arith in new_put c q past d (try_at p k a d) o h (far_open p q s ne) (at_there p q (Some k) d.at ne) (kept.new q (omega arith)));
       lives = (
-          let last = count_last (λ q. is_live_at s q h) (λ q. is_live_at s q (Put o ∷ h)) (reach h) (λ q ne. sym (live_same s q o h (far_open p q s (λ g. ne (sym g))))) in
+          let last = count_last (λ q. is_live_at s q h) (λ q. is_live_at s q (Put o ∷ h)) (reach h) (λ q ne. sym (live_same c s q o h (far_open p q s (λ g. ne (sym g))))) in
           let test : is_live_at s p (Put o ∷ h) ≡ is_live (on_event pend p Opening) = (let a = dgram_at s p (Put o ∷ h) at' in rw (a, st) refl) in
           let more = opened_lives pend s p k d.at h n.unheld st in
           let old = kept.lives in
@@ -109,7 +109,7 @@ opens_d c s past w pend d h k a kept held stage few new free =
     others : (q : ℕ) → is_at Dgram s q (Put (OpenDgram (reach h) s) ∷ h) ≡ true → with_at (reach h) (Some k) d.at q ≡ None → (reach h ≡ q) ⊎ (reach h ≡ q → ⊥) → is_live (stand q (Put (OpenDgram (reach h) s) ∷ h)) ≡ false
     others q e g (inl is) = absurd (let z = sym (at_here (reach h) (Some k) d.at) ∙ (ap (with_at (reach h) (Some k) d.at) is ∙ g) in cc)
     others q e g (inr ne) =
-        let same = dgram_same q (OpenDgram (reach h) s) h (far_open (reach h) q s ne) in
+        let same = dgram_same c q (OpenDgram (reach h) s) h (far_open (reach h) q s ne) in
         rw same.stand (kept.others q (rw same.at at e) (sym (at_there (reach h) q (Some k) d.at ne) ∙ g))
 
 -- A place is left: closed, or as the pending event says.
@@ -138,9 +138,9 @@ lost_close _ p k at h e live = refl
 lost_gone : (p : ℕ) (f : Fault) (k : ℕ) (at : ℕ → Option ℕ) (h h' : History) → at p ≡ Some k → stand p h ≡ Gone → lost (OpenFailed p f) (with_at p None at) h' + 1 ≡ lost (OpenFailed p f) at h
 lost_gone p f k at h h' e gone = (let here = at_here p None at in rw (here, e, gone) refl)
 
-pub closes_lives : (s p k : ℕ) (pend : What) (at : ℕ → Option ℕ) (h : History) → at p ≡ Some k → p < reach h → site p h ≡ Some (dgram_site s) → Standing pend p h → Leaves s p pend pend at h (Put (Close p) ∷ h)
-closes_lives s p k pend at h e low site' (inl st) =
-    let c = count_change (λ q. is_live_at s q h) (λ q. is_live_at s q (Put (Close p) ∷ h)) (reach h) p low (λ q ne. sym (live_same s q (Close p) h (close_far p q (λ g. ne (sym g))))) in
+pub closes_lives : (c : Conf) → (s p k : ℕ) (pend : What) (at : ℕ → Option ℕ) (h : History) → at p ≡ Some k → p < reach h → site p h ≡ Some (dgram_site s) → Standing pend p h → Leaves s p pend pend at h (Put (Close p) ∷ h)
+closes_lives c s p k pend at h e low site' (inl st) =
+    let c = count_change (λ q. is_live_at s q h) (λ q. is_live_at s q (Put (Close p) ∷ h)) (reach h) p low (λ q ne. sym (live_same c s q (Close p) h (close_far p q (λ g. ne (sym g))))) in
     let it : (p == p) ≡ true = grind (arith, nat_tests) in
     let a = dgram_at s p h site' in
     let old : is_live_at s p h ≡ true = rw (a, st) refl in
@@ -149,8 +149,8 @@ closes_lives s p k pend at h e low site' (inl st) =
     let new' = ap one_if new in
     let l = lost_close pend p k at h e (rw st refl) in
     record { count = omega arith }
-closes_lives s p k pend at h e low site' (inr (inl st)) =
-    let c = count_change (λ q. is_live_at s q h) (λ q. is_live_at s q (Put (Close p) ∷ h)) (reach h) p low (λ q ne. sym (live_same s q (Close p) h (close_far p q (λ g. ne (sym g))))) in
+closes_lives c s p k pend at h e low site' (inr (inl st)) =
+    let c = count_change (λ q. is_live_at s q h) (λ q. is_live_at s q (Put (Close p) ∷ h)) (reach h) p low (λ q ne. sym (live_same c s q (Close p) h (close_far p q (λ g. ne (sym g))))) in
     let it : (p == p) ≡ true = grind (arith, nat_tests) in
     let a = dgram_at s p h site' in
     let old : is_live_at s p h ≡ true = rw (a, st) refl in
@@ -159,8 +159,8 @@ closes_lives s p k pend at h e low site' (inr (inl st)) =
     let new' = ap one_if new in
     let l = lost_close pend p k at h e (rw st refl) in
     record { count = omega arith }
-closes_lives s p k pend at h e low site' (inr (inr st)) =
-    let c = count_change (λ q. is_live_at s q h) (λ q. is_live_at s q (Put (Close p) ∷ h)) (reach h) p low (λ q ne. sym (live_same s q (Close p) h (close_far p q (λ g. ne (sym g))))) in
+closes_lives c s p k pend at h e low site' (inr (inr st)) =
+    let c = count_change (λ q. is_live_at s q h) (λ q. is_live_at s q (Put (Close p) ∷ h)) (reach h) p low (λ q ne. sym (live_same c s q (Close p) h (close_far p q (λ g. ne (sym g))))) in
     let it : (p == p) ≡ true = grind (arith, nat_tests) in
     let a = dgram_at s p h site' in
     let gone = st.0 in
@@ -172,7 +172,7 @@ closes_lives s p k pend at h e low site' (inr (inr st)) =
     record { count = omega arith }
 
 -- a place is closed, and its request comes to a stage without one
-pub closes_d : (c : Conf) (s : ℕ) (past : History) (w pend : What) (d : Dgrams) (h : History) (p k : ℕ) (a : Tryer) (st : Stage) → KeptD c s past w pend d h → d.held k ≡ Some a → placed a.stage ≡ Some p → placed st ≡ None → a.tries + owing st ≤ 6 → StageFits c s k a.request past w pend (Put (Close p) ∷ h) st
+pub closes_d : (c : Conf) (s : ℕ) (past : History) (w pend : What) (d : Dgrams) (h : History) (p k : ℕ) (a : Tryer) (st : Stage) → KeptD c s past w pend d h → d.held k ≡ Some a → placed a.stage ≡ Some p → placed st ≡ None → a.tries + owing st ≤ max_tries c → StageFits c s k a.request past w pend (Put (Close p) ∷ h) st
     → KeptD c s past w pend (leave p k a st d) (Put (Close p) ∷ h)
 closes_d c s past w pend d h p k a st kept held at free few' fits =
     let o : Out = Close p in
@@ -181,7 +181,7 @@ closes_d c s past w pend d h p k a st kept held at free few' fits =
     let low = place_below c s past w pend d h p k kept owner in
     let below = held_below c s past w pend d h k a kept held in
     let stands = standing c s k p a.request past w pend h a.stage at f.stage in
-    let leaves = closes_lives s p k pend d.at h owner low stands.1 stands.0 in
+    let leaves = closes_lives c s p k pend d.at h owner low stands.1 stands.0 in
     let one : one_if (is_some (placed a.stage)) ≡ 1 = ap (λ x. one_if (is_some x)) at in
     let none : one_if (is_some (placed st)) ≡ 0 = ap (λ x. one_if (is_some x)) free in
     let change = places_change k a (staged a st) d.held (asks h) below held in
@@ -197,7 +197,7 @@ closes_d c s past w pend d h p k a st kept held at free few' fits =
           (λ q e. absurd (let z = sym free ∙ e in cc))
           (λ j b ne e q g. (let far : p ≢ q = λ is. (let z = one_owner c s past w pend d h p j k b kept owner e (g ∙ ap Some (sym is)) in ne (sym z)) in at_there p q None d.at far ∙ kept.points j b e q g));
       others = λ q e g. others q e g (cases_eq p q) stands.0;
-      new = λ q le. (let ne : p ≢ q = λ g. omega arith in new_put q past d (leave p k a st d) o h (close_far p q ne) (at_there p q None d.at ne) (kept.new q le));
+      new = λ q le. (let ne : p ≢ q = λ g. omega arith in new_put c q past d (leave p k a st d) o h (close_far p q ne) (at_there p q None d.at ne) (kept.new q le));
       lives = (let x = leaves.count in let y = kept.lives in omega arith);
       places = (let y = kept.places in omega arith);
       few = (let y = kept.few in omega arith);
@@ -214,5 +214,5 @@ closes_d c s past w pend d h p k a st kept held at free few' fits =
         dead (inr (inl st)) = (let it : (p == p) ≡ true = grind (arith, nat_tests) in rw (it, st) refl)
         dead (inr (inr st)) = (let it : (p == p) ≡ true = grind (arith, nat_tests) in let gone = st.0 in rw (it, gone) refl)
     others q e g (inr ne) stands =
-        let same = dgram_same q (Close p) h (close_far p q ne) in
+        let same = dgram_same c q (Close p) h (close_far p q ne) in
         rw same.stand (kept.others q (rw same.at at e) (sym (at_there p q None d.at ne) ∙ g))

@@ -37,24 +37,24 @@ concerns k (Send p j i o) = j == k
 concerns k _ = false
 
 -- two histories tell the same of place q
-pub record SameDgram (q : ℕ) (h h' : History) : Type 0 where
+pub record SameDgram (c : Conf) (q : ℕ) (h h' : History) : Type 0 where
   pub stand : stand q h' ≡ stand q h
   pub untold : stand_untold q h' ≡ stand_untold q h
   pub at : site q h' ≡ site q h
   pub sent : sending q h' ≡ sending q h
   pub names : (k : ℕ) → named q k h' ≡ named q k h
-  pub exchange : (r : Request) (j i n : ℕ) → unanswered r q j i n h' ≡ unanswered r q j i n h
+  pub exchange : (r : Request) (j i n : ℕ) → unanswered c r q j i n h' ≡ unanswered c r q j i n h
 
-pub dgram_same : (q : ℕ) (o : Out) (h : History) → reaches q o ≡ false → SameDgram q h (Put o ∷ h)
-dgram_same q (Start k t v) h e = record { stand = refl; untold = refl; at = refl; sent = refl; names = λ k. refl; exchange = λ r j i n. refl }
-dgram_same q (OpenDgram p t) h e = record { stand = rw e refl; untold = rw e refl; at = rw e refl; sent = refl; names = λ k. refl; exchange = λ r j i n. refl }
-dgram_same q (OpenStream p t) h e = record { stand = rw e refl; untold = rw e refl; at = rw e refl; sent = refl; names = λ k. refl; exchange = λ r j i n. refl }
-dgram_same q (Send p k i o) h e = record { stand = refl; untold = refl; at = refl; sent = rw e refl; names = λ k. rw e refl; exchange = λ r j i n. rw e refl }
-dgram_same q (Write p k i o) h e = record { stand = refl; untold = refl; at = refl; sent = refl; names = λ k. refl; exchange = λ r j i n. refl }
-dgram_same q (Resume p o) h e = record { stand = refl; untold = refl; at = refl; sent = refl; names = λ k. refl; exchange = λ r j i n. refl }
-dgram_same q (Stale l) h e = record { stand = refl; untold = refl; at = refl; sent = refl; names = λ k. refl; exchange = λ r j i n. refl }
-dgram_same q (Close p) h e = record { stand = rw e refl; untold = rw e refl; at = refl; sent = refl; names = λ k. refl; exchange = λ r j i n. refl }
-dgram_same q (Reply k x) h e = record { stand = refl; untold = refl; at = refl; sent = refl; names = λ k. refl; exchange = λ r j i n. refl }
+pub dgram_same : (c : Conf) → (q : ℕ) (o : Out) (h : History) → reaches q o ≡ false → SameDgram c q h (Put o ∷ h)
+dgram_same c q (Start k t v) h e = record { stand = refl; untold = refl; at = refl; sent = refl; names = λ k. refl; exchange = λ r j i n. refl }
+dgram_same c q (OpenDgram p t) h e = record { stand = rw e refl; untold = rw e refl; at = rw e refl; sent = refl; names = λ k. refl; exchange = λ r j i n. refl }
+dgram_same c q (OpenStream p t) h e = record { stand = rw e refl; untold = rw e refl; at = rw e refl; sent = refl; names = λ k. refl; exchange = λ r j i n. refl }
+dgram_same c q (Send p k i o) h e = record { stand = refl; untold = refl; at = refl; sent = rw e refl; names = λ k. rw e refl; exchange = λ r j i n. rw e refl }
+dgram_same c q (Write p k i o) h e = record { stand = refl; untold = refl; at = refl; sent = refl; names = λ k. refl; exchange = λ r j i n. refl }
+dgram_same c q (Resume p o) h e = record { stand = refl; untold = refl; at = refl; sent = refl; names = λ k. refl; exchange = λ r j i n. refl }
+dgram_same c q (Stale l) h e = record { stand = refl; untold = refl; at = refl; sent = refl; names = λ k. refl; exchange = λ r j i n. refl }
+dgram_same c q (Close p) h e = record { stand = rw e refl; untold = rw e refl; at = refl; sent = refl; names = λ k. refl; exchange = λ r j i n. refl }
+dgram_same c q (Reply k x) h e = record { stand = refl; untold = refl; at = refl; sent = refl; names = λ k. refl; exchange = λ r j i n. refl }
 
 -- two histories tell the same of request k
 pub record SameTryer (s k : ℕ) (h h' : History) : Type 0 where
@@ -150,25 +150,25 @@ among_longer k true (Stale l) n x ws i = i
 among_longer k true (Close p) n x ws i = i
 among_longer k true (Reply j y) n x ws i = i
 
-among_put : (r : Request) (v : Via) (s p k id : ℕ) (past : History) (o : Out) (x : Octets) (h : History) → is_start k s Stream o ≡ false → IsAmong x (waited_for v r s p k id (now h) [] past h) → IsAmong x (waited_for v r s p k id (now h) [] past (Put o ∷ h))
-among_put r Dgram s p k id past o x h e i = i
-among_put r Stream s p k id past o x h e i = go (is_before (now h) (start k s Stream h)) refl
+among_put : (c : Conf) → (r : Request) (v : Via) (s p k id : ℕ) (past : History) (o : Out) (x : Octets) (h : History) → is_start k s Stream o ≡ false → IsAmong x (waited_for c v r s p k id (now h) [] past h) → IsAmong x (waited_for c v r s p k id (now h) [] past (Put o ∷ h))
+among_put c r Dgram s p k id past o x h e i = i
+among_put c r Stream s p k id past o x h e i = go (is_before c (now h) (start k s Stream h)) refl
   where
-    go : (b : Bool) → is_before (now h) (start k s Stream h) ≡ b → IsAmong x (waited_for Stream r s p k id (now h) [] past (Put o ∷ h))
-    go false f = absurd (subst (λ l. IsAmong x l) (let z : waited_for Stream r s p k id (now h) [] past h ≡ [] = rw f refl in z) i)
+    go : (b : Bool) → is_before c (now h) (start k s Stream h) ≡ b → IsAmong x (waited_for c Stream r s p k id (now h) [] past (Put o ∷ h))
+    go false f = absurd (subst (λ l. IsAmong x l) (let z : waited_for c Stream r s p k id (now h) [] past h ≡ [] = rw f refl in z) i)
     go true f =
-        let j : IsAmong x (octets_for k (waiting_with [] p id h)) = subst (λ l. IsAmong x l) (let z : waited_for Stream r s p k id (now h) [] past h ≡ octets_for k (waiting_with [] p id h) = rw f refl in z) i in
+        let j : IsAmong x (octets_for k (waiting_with [] p id h)) = subst (λ l. IsAmong x l) (let z : waited_for c Stream r s p k id (now h) [] past h ≡ octets_for k (waiting_with [] p id h) = rw f refl in z) i in
         rw (e, f) (among_longer k (is_write p id o && true) o (now h) x (waiting_with [] p id h) j)
 
 pub comes_put : (c : Conf) (r : Request) (v : Via) (s p k id : ℕ) (m : Octets) (past : History) (w : What) (o : Out) (h : History) → is_start k s Stream o ≡ false → Comes c r v s p k id m past w h → Comes c r v s p k id m past w (Put o ∷ h)
-comes_put c r v s p k id m past w o h e x = record { is_open = record { stands = x.is_open.stands; octets = x.is_open.octets; sent = among_put r v s p k id past o x.is_open.octets h e x.is_open.sent; carries = x.is_open.carries }; first = x.first }
+comes_put c r v s p k id m past w o h e x = record { is_open = record { stands = x.is_open.stands; octets = x.is_open.octets; sent = among_put c r v s p k id past o x.is_open.octets h e x.is_open.sent; carries = x.is_open.carries }; first = x.first }
 
 pub cause_put : (c : Conf) (past : History) (w : What) (o : Out) (h : History) (k : ℕ) (e : Error) → IsSilentOn k o h → ServerCause c k past w h e → ServerCause c k past w (Put o ∷ h) e
 cause_put c past w o h k _ same (NotOpened f x) = NotOpened f (record { place = x.place; server = x.server; told = x.told; was = was_opening_put x.place past o h x.was; at = is_at_put Dgram x.server x.place o h x.at; has_it = started_put k x.server Dgram o h x.has_it })
 cause_put c past w o h k _ same (NotSent f x) = NotSent f x
 cause_put c past w o h k _ same (SentShort x) = SentShort x
 cause_put c past w o h k _ same (NotReceived f x) = NotReceived f x
-cause_put c past w o h k _ same (NoAnswer x) = NoAnswer (record { server = x.server; six = same.tries x.server ∙ x.six; last = x.last; is_last = same.last x.server ∙ x.is_last; old = x.old; lived = x.lived })
+cause_put c past w o h k _ same (NoAnswer x) = NoAnswer (record { server = x.server; all = same.tries x.server ∙ x.all; last = x.last; is_last = same.last x.server ∙ x.is_last; old = x.old; lived = x.lived })
 cause_put c past w o h k _ same (WrongReply x) = WrongReply (record { request = x.request; server = x.server; place = x.place; id = x.id; message = x.message; comes = comes_put c x.request Stream x.server x.place k x.id x.message past w o h (same.starts x.server) x.comes; differs = x.differs })
 cause_put c past w o h k _ same (StreamSilence x) = StreamSilence x
 cause_put c past w o h k _ same (NotRead x) = NotRead (record { asking_of = x.asking_of; asked = x.asked; reason = x.reason })
@@ -202,10 +202,10 @@ is_short k o h e Cut = tt
 pub stage_put : (c : Conf) (s k : ℕ) (r : Request) (past : History) (w pend : What) (o : Out) (h : History) → SameTryer s k h (Put o ∷ h) → (st : Stage) → IsShort k o h st → ((p : ℕ) → placed st ≡ Some p → reaches p o ≡ false) → StageFits c s k r past w pend h st → StageFits c s k r past w pend (Put o ∷ h) st
 stage_put c s k r past w pend o h known Queued short far f = tt
 stage_put c s k r past w pend o h known (Trying p) short far f =
-    let same = dgram_same p o h (far p refl) in
+    let same = dgram_same c p o h (far p refl) in
     record { was = f.was; stand = same.stand ∙ f.stand; untold = same.untold ∙ f.untold; at = same.at ∙ f.at; unsent = same.sent ∙ f.unsent; none = λ r j i n. same.exchange r j i n ∙ f.none r j i n }
 stage_put c s k r past w pend o h known (Sent p id t) short far f =
-    let same = dgram_same p o h (far p refl) in
+    let same = dgram_same c p o h (far p refl) in
     record {
       octets = f.octets;
       carries = f.carries;
@@ -235,7 +235,7 @@ pub record IsApart (s k : ℕ) (a : Tryer) (o : Out) (h : History) : Type 0 wher
 pub apart_by : (s k : ℕ) (a : Tryer) (o : Out) (h : History) → concerns k o ≡ false → IsApart s k a o h
 apart_by s k a o h e = record { same = tryer_same s k o h e; short = is_short k o h e a.stage }
 
-pub new_put : (q : ℕ) (past : History) (d d' : Dgrams) (o : Out) (h : History) → reaches q o ≡ false → d'.at q ≡ d.at q → IsNew q past d h → IsNew q past d' (Put o ∷ h)
-new_put q past d d' o h e same f =
-    let at = dgram_same q o h e in
+pub new_put : (c : Conf) → (q : ℕ) (past : History) (d d' : Dgrams) (o : Out) (h : History) → reaches q o ≡ false → d'.at q ≡ d.at q → IsNew c q past d h → IsNew c q past d' (Put o ∷ h)
+new_put c q past d d' o h e same f =
+    let at = dgram_same c q o h e in
     record { was = f.was; unheld = same ∙ f.unheld; stand = at.stand ∙ f.stand; nowhere = at.at ∙ f.nowhere; unsent = at.sent ∙ f.unsent; none = λ r j i n. at.exchange r j i n ∙ f.none r j i n }

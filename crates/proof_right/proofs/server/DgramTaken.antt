@@ -79,7 +79,7 @@ module _ (c : Conf) (s : ℕ) (past : History) (w : What) (u : Served) (h : Hist
         unsent = f.unsent;
       }
 
-  meets_plain : (n : ℕ) (v : What) (d d' : Dgrams) (x : Act) → KeptD c s past w v d h → IsSettled d → Meets n d v x d' → Plain s v d' h x
+  meets_plain : (n : ℕ) (v : What) (d d' : Dgrams) (x : Act) → KeptD c s past w v d h → IsSettled d → Meets c n d v x d' → Plain s v d' h x
   meets_plain n _ d _ _ kept set (dgrams.IsSent k a p id o at held stage carries) =
       let site' = here _ d k a p kept held (ap placed stage) in
       let low = place_below c s past w _ d h p k kept at in
@@ -128,7 +128,7 @@ module _ (c : Conf) (s : ℕ) (past : History) (w : What) (u : Served) (h : Hist
   meets_plain n _ d _ _ kept set (dgrams.IsAnswered k a p id t o at held stage long ok) = closed _ d k a p _ kept set held (ap placed stage) (λ q le. refl) (λ q e. absurd (cc)) (λ q z e. cc)
 
   -- all facts, once the event is taken
-  fits_met : (d : Dgrams) (asks : ℕ → Option Asker) (outs : List Out) → Kept s past w Tick (λ q. []) (λ q. came q w past) (record u.server.by_stream { asks = asks }) (put_all outs h) → KeptD c s past w Tick d (put_all outs h) → ((q : ℕ) → reach h ≤ q → on_event w q Opening ≡ Opening) → ((p : ℕ) → is_told p w ≡ true → site p h ≡ Some (dgram_site s)) → ((p : ℕ) (o : Octets) → w ≢ Bytes p o)
+  fits_met : (d : Dgrams) (asks : ℕ → Option Asker) (outs : List Out) → Kept c s past w Tick (λ q. []) (λ q. came q w past) (record u.server.by_stream { asks = asks }) (put_all outs h) → KeptD c s past w Tick d (put_all outs h) → ((q : ℕ) → reach h ≤ q → on_event w q Opening ≡ Opening) → ((p : ℕ) → is_told p w ≡ true → site p h ≡ Some (dgram_site s)) → ((p : ℕ) (o : Octets) → w ≢ Bytes p o)
       → ((k : ℕ) (a : Tryer) → d.held k ≡ Some a → use_at s c.servers ≡ Some ByDatagrams) → IsSettled d → ((k : ℕ) (a : Asker) → asks k ≡ Some a → ((b : Asker) × (u.server.by_stream.asks k ≡ Some b)) ⊎ (start k s Stream h ≡ None)) → OneId s (put_all outs h) → BegunBy s (put_all outs h) → UnsentBy s (put_all outs h)
       → Fits c s past w (has_taken_it (record { by_dgram = d; by_stream = record u.server.by_stream { asks = asks } }) u) (put_all outs h)
   fits_met d asks outs streams keptd free told other by set asked ids begun unsent = record {
@@ -149,17 +149,17 @@ module _ (c : Conf) (s : ℕ) (past : History) (w : What) (u : Served) (h : Hist
   }
     where
       none : (q : ℕ) (y : Conn) → u.server.by_stream.conns q ≡ Some y → came q w past ≡ []
-      none q y e = no_frames_came s q w past (put_all outs h) streams.row.before (streams.conns q y e).at other
+      none q y e = no_frames_came c s q w past (put_all outs h) streams.row.before (streams.conns q y e).at other
 
-  module _ (lt : s < length c.servers) (un : u.taken ≡ false) (soon : IsInTime u.clock u.server) (next : ℕ) (is : next ≡ reach h) (e : Dgrams) (x : Act) (meets : Meets u.clock u.server.by_dgram u.pending x e) (foreign : IsForeign u.pending u.server.by_stream) where
+  module _ (lt : s < length c.servers) (un : u.taken ≡ false) (soon : IsInTime c u.clock u.server) (next : ℕ) (is : next ≡ reach h) (e : Dgrams) (x : Act) (meets : Meets c u.clock u.server.by_dgram u.pending x e) (foreign : IsForeign u.pending u.server.by_stream) where
     v : u.pending ≡ w
     v = (f.untaken un).pending
 
     pub met : meeting.Met c s past lt w u.server.by_stream e h (outs_of x)
-    met = meeting.meets_met c s past lt w u.server.by_stream u.server.by_dgram h (taken.base c s past w u h f un) (taken.base_d c s past w u h f un) (λ k a p id t held stage. (let z = soon.sent k a p id t held stage in let n = f.clock in omega arith)) e x (subst (λ v. Meets (now h) u.server.by_dgram v x e) v (subst (λ n. Meets n u.server.by_dgram u.pending x e) f.clock meets)) (subst (λ v. IsForeign v u.server.by_stream) v foreign)
+    met = meeting.meets_met c s past lt w u.server.by_stream u.server.by_dgram h (taken.base c s past w u h f un) (taken.base_d c s past w u h f un) (λ k a p id t held stage. (let z = soon.sent k a p id t held stage in let n = f.clock in omega arith)) e x (subst (λ v. Meets c (now h) u.server.by_dgram v x e) v (subst (λ n. Meets c n u.server.by_dgram u.pending x e) f.clock meets)) (subst (λ v. IsForeign v u.server.by_stream) v foreign)
 
     plain : Plain s w e h x
-    plain = meets_plain u.clock w u.server.by_dgram e x (taken.base_d c s past w u h f un) f.settled (subst (λ v. Meets u.clock u.server.by_dgram v x e) v meets)
+    plain = meets_plain u.clock w u.server.by_dgram e x (taken.base_d c s past w u h f un) f.settled (subst (λ v. Meets c u.clock u.server.by_dgram v x e) v meets)
 
     by : (k : ℕ) (a : Tryer) → e.held k ≡ Some a → use_at s c.servers ≡ Some ByDatagrams
     by k a held = (let b = (late.meets_late c s next past w u h f e u.pending x meets).1 k a held in f.by_dgram k (b.0) b.1)

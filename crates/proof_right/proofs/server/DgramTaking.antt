@@ -1,6 +1,7 @@
 -- An event is taken by datagrams, and a row begins.
-use Rattle.std.proofs.Common.{◌≡◌, ℕ, suc, ◌+◌, ◌<◌, ◌≤◌, Bool, true, false, ◌&&◌, ◌⊎◌, inl, inr, Option, Some, None, [], ◌∷◌, ◌≢◌, refl, arith, ◌∙◌, sym, subst, ap, ◌==◌, length, take, Result}
-use Rattle.std.specs.Prelude.{if◌then◌else◌, nat_lt, nat_le, is_some}
+use Rattle.proof_right.proofs.Received.{received_answer}
+use Rattle.std.proofs.Common.{◌≡◌, ℕ, suc, ◌+◌, ◌<◌, ◌≤◌, Bool, true, false, ◌&&◌, ◌⊎◌, inl, inr, Option, Some, None, [], ◌∷◌, ◌≢◌, refl, arith, ◌∙◌, sym, subst, ap, ◌==◌, Result}
+use Rattle.std.specs.Prelude.{if◌then◌else◌, nat_lt, is_some}
 use Rattle.std.proofs.lemmas.Bool.{cases_eq, eqb-true}
 use Rattle.std.proofs.lemmas.Bool.Decides.{nat_tests}
 use Rattle.client_request.specs.Request.{Request}
@@ -13,11 +14,11 @@ use Rattle.client_request.specs.declared.event.Out.TheVariants.{Send}
 use Rattle.client_request.specs.declared.event.Via.TheVariants.{Dgram}
 use Rattle.right_trace.specs.Trace.{History, Conf, Came, Put}
 use Rattle.proof_right.specs.machine.Dgrams.{IsIgnored, Stage, Queued, Trying, Sent, Ending, Cut, Tryer, Dgrams, staged, send_at, leave}
-use Rattle.right_trace.specs.Time.{now, row_before, count_below, one_if, read_timeout}
-use Rattle.right_trace.specs.Messages.{Octets, CarriesBy, answers}
+use Rattle.right_trace.specs.Time.{now, row_before, count_below, one_if, read_timeout, recv_size, max_tries}
+use Rattle.right_trace.specs.Messages.{Octets, CarriesBy}
 use Rattle.right_trace.specs.Requests.{asking, is_ask, asks, started}
 use Rattle.right_trace.specs.Places.{Site, site, is_of_kind, is_alive, is_at, Stand, Unused, Opening, Alive, Gone, opened, failed, on_event, stand, is_live, reach, live}
-use Rattle.right_trace.specs.Frames.{is_alive_stream, fed, reading, came}
+use Rattle.right_trace.specs.Frames.{is_alive_stream, fed, reading, came, received}
 use Rattle.right_trace.specs.Exchanges.{has_answer, is_send, unanswered, IsAmong}
 use Rattle.right_trace.specs.Causes.{Named, named, IsOneOf}
 use Rattle.right_trace.specs.Updates.{with_at}
@@ -32,7 +33,7 @@ use Rattle.proof_right.proofs.server.Beginning.{asked_still, on_alive, on_dead, 
 
 -- The pending event says nothing more.
 
-turn_stage : (c : Conf) (s k : ℕ) (r : Request) (past : History) (w pend : What) (h : History) (st : Stage) → ((p : ℕ) → st ≡ Trying p → on_event pend p Opening ≡ Opening) → ((p id t : ℕ) → st ≡ Sent p id t → has_answer r id (came p pend past) ≡ false) → StageFits c s k r past w pend h st → StageFits c s k r past w Tick h st
+turn_stage : (c : Conf) (s k : ℕ) (r : Request) (past : History) (w pend : What) (h : History) (st : Stage) → ((p : ℕ) → st ≡ Trying p → on_event pend p Opening ≡ Opening) → ((p id t : ℕ) → st ≡ Sent p id t → has_answer r id (received (recv_size c) (came p pend past)) ≡ false) → StageFits c s k r past w pend h st → StageFits c s k r past w Tick h st
 turn_stage c s k r past w pend h Queued opens none f = tt
 turn_stage c s k r past w pend h (Trying p) opens none f = record { was = f.was; stand = f.stand ∙ opens p refl; untold = f.untold; at = f.at; unsent = f.unsent; none = f.none }
 turn_stage c s k r past w pend h (Sent p id t) opens none f = record {
@@ -51,7 +52,7 @@ turn_stage c s k r past w pend h (Ending x) opens none f = f
 turn_stage c s k r past w pend h Cut opens none f = f
 
 pub turn_d : (c : Conf) (s : ℕ) (past : History) (w pend : What) (d : Dgrams) (h : History) → KeptD c s past w pend d h → ((k : ℕ) (a : Tryer) → d.held k ≡ Some a → (p : ℕ) → a.stage ≡ Trying p → on_event pend p Opening ≡ Opening)
-    → ((k : ℕ) (a : Tryer) → d.held k ≡ Some a → (p id t : ℕ) → a.stage ≡ Sent p id t → has_answer a.request id (came p pend past) ≡ false) → lost pend d.at h ≡ 0 → KeptD c s past w Tick d h
+    → ((k : ℕ) (a : Tryer) → d.held k ≡ Some a → (p id t : ℕ) → a.stage ≡ Sent p id t → has_answer a.request id (received (recv_size c) (came p pend past)) ≡ false) → lost pend d.at h ≡ 0 → KeptD c s past w Tick d h
 turn_d c s past w pend d h kept opens none no_loss = record {
   held = λ k a e. (let f = kept.held k a e in record { asked = f.asked; has_it = f.has_it; unstreamed = f.unstreamed; trials = f.trials; few = f.few; stage = turn_stage c s k a.request past w pend h a.stage (opens k a e) (none k a e) f.stage });
   slots = kept.slots;
@@ -82,31 +83,25 @@ no_stream s p past h before at = go (site p past) refl
         and_false true = refl
         and_false false = refl
 
-if_answer : (r : Request) (id : ℕ) (b : Bool) (m : Octets) → (b ≡ true → answers r id m ≡ false) → has_answer r id (if b then m ∷ [] else []) ≡ false
-if_answer r id true m e = rw (e refl) refl
-if_answer r id false m e = refl
-
-pub sent_site : (c : Conf) (s : ℕ) (past : History) (w pend : What) (d : Dgrams) (h : History) (k : ℕ) (a : Tryer) (p id t : ℕ) → KeptD c s past w pend d h → d.held k ≡ Some a → a.stage ≡ Sent p id t → SentFits s p id t k a.request past pend h
+pub sent_site : (c : Conf) (s : ℕ) (past : History) (w pend : What) (d : Dgrams) (h : History) (k : ℕ) (a : Tryer) (p id t : ℕ) → KeptD c s past w pend d h → d.held k ≡ Some a → a.stage ≡ Sent p id t → SentFits c s p id t k a.request past pend h
 sent_site c s past w pend d h k a p id t kept held stage = subst (λ st. StageFits c s k a.request past w pend h st) stage (kept.held k a held).stage
 
 -- no frames come where a request was sent by datagram
-pub no_frames : (c : Conf) (s : ℕ) (past : History) (w pend : What) (d : Dgrams) (h : History) (q : ℕ) (o : Octets) → KeptD c s past w pend d h → row_before h ≡ past → (k : ℕ) (a : Tryer) → d.held k ≡ Some a → (p id t : ℕ) → a.stage ≡ Sent p id t → has_answer a.request id (came p (Bytes q o) past) ≡ false
+pub no_frames : (c : Conf) (s : ℕ) (past : History) (w pend : What) (d : Dgrams) (h : History) (q : ℕ) (o : Octets) → KeptD c s past w pend d h → row_before h ≡ past → (k : ℕ) (a : Tryer) → d.held k ≡ Some a → (p id t : ℕ) → a.stage ≡ Sent p id t → has_answer a.request id (received (recv_size c) (came p (Bytes q o) past)) ≡ false
 no_frames c s past w pend d h q o kept before k a held p id t stage =
     let f = sent_site c s past w pend d h k a p id t kept held stage in
     let n = no_stream s p past h before f.at in
     rw n (go (q == p))
   where
-    go : (b : Bool) → has_answer a.request id (if b && false then (fed (reading p past) o).frames else []) ≡ false
+    go : (b : Bool) → has_answer a.request id (received (recv_size c) (if b && false then (fed (reading p past) o).frames else [])) ≡ false
     go true = refl
     go false = refl
 
-long_of : (x y z : Bool) (n : ℕ) → (x && (y && (z && nat_le 12 n))) ≡ true → (x ≡ true) × (12 ≤ n)
-long_of true true true n e = (refl, (grind (arith, nat_tests)))
-long_of true true false n e = absurd (cc)
-long_of true false z n e = absurd (cc)
-long_of false y z n e = absurd (cc)
+first_of_three : (x y z : Bool) → (x && (y && z)) ≡ true → x ≡ true
+first_of_three true y z e = refl
+first_of_three false y z e = absurd (cc)
 
-pub ignores : (c : Conf) (s : ℕ) (past : History) (w pend : What) (d : Dgrams) (h : History) → KeptD c s past w pend d h → row_before h ≡ past → IsIgnored pend d → KeptD c s past w Tick d h
+pub ignores : (c : Conf) (s : ℕ) (past : History) (w pend : What) (d : Dgrams) (h : History) → KeptD c s past w pend d h → row_before h ≡ past → IsIgnored c pend d → KeptD c s past w Tick d h
 ignores c s past w (Ask r) d h kept before i = turn_d c s past w (Ask r) d h kept (λ k a e p g. refl) (λ k a e p id t g. refl) refl
 ignores c s past w (Opened q) d h kept before i = turn_d c s past w (Opened q) d h kept (λ k a e p g. (let ne : q ≢ p = λ is. i (k, a, (ap d.at is ∙ kept.points k a e p (ap placed g)), e, g ∙ ap Trying (sym is)) in grind (arith, nat_tests))) (λ k a e p id t g. refl) refl
 ignores c s past w (OpenFailed q f) d h kept before i = turn_d c s past w (OpenFailed q f) d h kept (λ k a e p g. (let ne : q ≢ p = λ is. i (k, a, (ap d.at is ∙ kept.points k a e p (ap placed g)), e, g ∙ ap Trying (sym is)) in grind (arith, nat_tests))) (λ k a e p id t g. refl) (none (d.at q) refl)
@@ -124,9 +119,9 @@ ignores c s past w (OpenFailed q f) d h kept before i = turn_d c s past w (OpenF
 ignores c s past w (SendFailed q f) d h kept before i = turn_d c s past w (SendFailed q f) d h kept (λ k a e p g. refl) (λ k a e p id t g. refl) refl
 ignores c s past w (ShortSend q) d h kept before i = turn_d c s past w (ShortSend q) d h kept (λ k a e p g. refl) (λ k a e p id t g. refl) refl
 ignores c s past w (Datagram q o) d h kept before i = turn_d c s past w (Datagram q o) d h kept (λ k a e p g. refl)
-    (λ k a e p id t g. if_answer a.request id ((q == p) && (is_alive (stand p past) && (is_of_kind Dgram (site p past) && nat_le 12 (length (take 2000 o))))) (take 2000 o)
-    (λ x. (let y = long_of (q == p) (is_alive (stand p past)) (is_of_kind Dgram (site p past)) (length (take 2000 o)) x in let is : q ≡ p = eqb-true q p y.0 in
-    i k a id t (ap d.at is ∙ kept.points k a e p (ap placed g)) e (g ∙ ap (λ p. Sent p id t) (sym is)) y.1))) refl
+    (λ k a e p id t g. received_answer (recv_size c) a.request id ((q == p) && (is_alive (stand p past) && is_of_kind Dgram (site p past))) o
+    (λ x long. (let is : q ≡ p = eqb-true q p (first_of_three (q == p) (is_alive (stand p past)) (is_of_kind Dgram (site p past)) x) in
+    i k a id t (ap d.at is ∙ kept.points k a e p (ap placed g)) e (g ∙ ap (λ p. Sent p id t) (sym is)) (grind (arith, nat_tests))))) refl
 ignores c s past w (RecvFailed q f) d h kept before i = turn_d c s past w (RecvFailed q f) d h kept (λ k a e p g. refl) (λ k a e p id t g. refl) refl
 ignores c s past w (Wrote q n) d h kept before i = turn_d c s past w (Wrote q n) d h kept (λ k a e p g. refl) (λ k a e p id t g. refl) refl
 ignores c s past w (WriteFailed q f) d h kept before i = turn_d c s past w (WriteFailed q f) d h kept (λ k a e p g. refl) (λ k a e p id t g. refl) refl
@@ -140,13 +135,13 @@ ignores c s past w Tick d h kept before i = kept
 send_far : (p k id q : ℕ) (o : Octets) → p ≢ q → reaches q (Send p k id o) ≡ false
 send_far p k id q o ne = grind (arith, nat_tests)
 
-only_send : (p k id : ℕ) (o : Octets) (h : History) → ((r : Request) (j i n : ℕ) → unanswered r p j i n h ≡ []) → (r : Request) (j i n : ℕ) (x : Octets) → IsAmong x (unanswered r p j i n (Put (Send p k id o) ∷ h)) → (j ≡ k) × (i ≡ id) × (n < now h + read_timeout)
-only_send p k id o h none r j i n x e = go (is_send p j i (Send p k id o) && nat_lt n (now h + read_timeout)) refl
+only_send : (c : Conf) → (p k id : ℕ) (o : Octets) (h : History) → ((r : Request) (j i n : ℕ) → unanswered c r p j i n h ≡ []) → (r : Request) (j i n : ℕ) (x : Octets) → IsAmong x (unanswered c r p j i n (Put (Send p k id o) ∷ h)) → (j ≡ k) × (i ≡ id) × (n < now h + read_timeout c)
+only_send c p k id o h none r j i n x e = go (is_send p j i (Send p k id o) && nat_lt n (now h + read_timeout c)) refl
   where
-    go : (b : Bool) → (is_send p j i (Send p k id o) && nat_lt n (now h + read_timeout)) ≡ b → (j ≡ k) × (i ≡ id) × (n < now h + read_timeout)
+    go : (b : Bool) → (is_send p j i (Send p k id o) && nat_lt n (now h + read_timeout c)) ≡ b → (j ≡ k) × (i ≡ id) × (n < now h + read_timeout c)
     go true is = (grind (arith, nat_tests), grind (arith, nat_tests), grind (arith, nat_tests))
     go false is =
-        let z : unanswered r p j i n (Put (Send p k id o) ∷ h) ≡ [] = rw is (none r j i n) in
+        let z : unanswered c r p j i n (Put (Send p k id o) ∷ h) ≡ [] = rw is (none r j i n) in
         absurd (subst (λ os. IsAmong x os) z e)
 
 named_here : (p k id : ℕ) (o : Octets) (h : History) → IsOneOf (record { id = id; octets = o }) (named p k (Put (Send p k id o) ∷ h))
@@ -155,8 +150,8 @@ named_here p k id o h =
     let e : named p k (Put (Send p k id o) ∷ h) ≡ x ∷ named p k h = grind (arith, nat_tests) in
     subst (λ l. IsOneOf x l) (sym e) (inl refl)
 
-sent_now : (s p k id : ℕ) (r : Request) (o : Octets) (past h : History) → TryingFits s p past (Opened p) h → CarriesBy Dgram o r id → SentFits s p id (now h) k r past Tick (Put (Send p k id o) ∷ h)
-sent_now s p k id r o past h f carries =
+sent_now : (c : Conf) → (s p k id : ℕ) (r : Request) (o : Octets) (past h : History) → TryingFits c s p past (Opened p) h → CarriesBy c Dgram o r id → SentFits c s p id (now h) k r past Tick (Put (Send p k id o) ∷ h)
+sent_now c s p k id r o past h f carries =
     let at = dgram_at s p h f.at in
     let it : (p == p) ≡ true = grind (arith, nat_tests) in
     let me : (k == k) ≡ true = grind (arith, nat_tests) in
@@ -171,30 +166,30 @@ sent_now s p k id r o past h f carries =
       last = rw (me, at) refl;
       lived = inl (refl, refl);
       is_open = λ e n lt. (let none = f.none r k id n in grind (arith, nat_tests));
-      only = only_send p k id o h f.none;
+      only = only_send c p k id o h f.none;
     }
 
-pub sends_d : (c : Conf) (s : ℕ) (past : History) (w : What) (d : Dgrams) (h : History) (p k id : ℕ) (a : Tryer) (o : Octets) → KeptD c s past w (Opened p) d h → d.held k ≡ Some a → a.stage ≡ Trying p → CarriesBy Dgram o a.request id → KeptD c s past w Tick (send_at p id (now h) k a d) (Put (Send p k id o) ∷ h)
+pub sends_d : (c : Conf) (s : ℕ) (past : History) (w : What) (d : Dgrams) (h : History) (p k id : ℕ) (a : Tryer) (o : Octets) → KeptD c s past w (Opened p) d h → d.held k ≡ Some a → a.stage ≡ Trying p → CarriesBy c Dgram o a.request id → KeptD c s past w Tick (send_at p id (now h) k a d) (Put (Send p k id o) ∷ h)
 sends_d c s past w d h p k id a o kept held stage carries =
     let f = kept.held k a held in
-    let try : TryingFits s p past (Opened p) h = subst (λ st. StageFits c s k a.request past w (Opened p) h st) stage f.stage in
+    let try : TryingFits c s p past (Opened p) h = subst (λ st. StageFits c s k a.request past w (Opened p) h st) stage f.stage in
     let at : placed a.stage ≡ Some p = ap placed stage in
     let owner = kept.points k a held p at in
     let a' : Tryer = record { request = a.request; tries = suc a.tries; stage = Sent p id (now h) } in
-    let few' : a.tries + 1 ≤ 6 = subst (λ st. a.tries + owing st ≤ 6) stage f.few in
+    let few' : a.tries + 1 ≤ max_tries c = subst (λ st. a.tries + owing st ≤ max_tries c) stage f.few in
     let me : (k == k) ≡ true = grind (arith, nat_tests) in
     let site' = dgram_at s p h try.at in
     let trials = f.trials in
     let off : (j : ℕ) (b : Tryer) → k ≢ j → d.held j ≡ Some b → (q : ℕ) → placed b.stage ≡ Some q → p ≢ q = λ j b ne e q g is. (let z = one_owner c s past w (Opened p) d h p j k b kept owner e (g ∙ ap Some (sym is)) in ne (sym z)) in
     record {
       held = each_at (λ j b. TryerFits c s j b past w Tick (Put (Send p k id o) ∷ h)) k a' d.held
-          (record { asked = f.asked; has_it = f.has_it; unstreamed = f.unstreamed; trials = rw (me, site') (ap suc trials); few = omega arith; stage = sent_now s p k id a.request o past h try carries })
+          (record { asked = f.asked; has_it = f.has_it; unstreamed = f.unstreamed; trials = rw (me, site') (ap suc trials); few = omega arith; stage = sent_now c s p k id a.request o past h try carries })
           (λ j b ne e. (let g = tryer_put c s j b past w (Opened p) (Send p k id o) h (grind (arith, nat_tests)) (λ q g. send_far p k id q o (off j b ne e q g)) (kept.held j b e) in
           record { asked = g.asked; has_it = g.has_it; unstreamed = g.unstreamed; trials = g.trials; few = g.few; stage = turn_stage c s j b.request past w (Opened p) (Put (Send p k id o) ∷ h) b.stage (λ q i. (let ne' : p ≢ q = off j b ne e q (ap placed i) in grind (arith, nat_tests))) (λ q i t g. refl) g.stage }));
       slots = λ q j e. slots q j e (cases_eq k j);
       points = each_at (λ j b. (q : ℕ) → placed b.stage ≡ Some q → d.at q ≡ Some j) k a' d.held (λ q e. kept.points k a held q (at ∙ e)) (λ j b ne e q g. kept.points j b e q g);
       others = kept.others;
-      new = λ q le. (let low = place_below c s past w (Opened p) d h p k kept owner in let ne : p ≢ q = λ g. omega arith in new_put q past d _ (Send p k id o) h (send_far p k id q o ne) refl (kept.new q le));
+      new = λ q le. (let low = place_below c s past w (Opened p) d h p k kept owner in let ne : p ≢ q = λ g. omega arith in new_put c q past d _ (Send p k id o) h (send_far p k id q o ne) refl (kept.new q le));
       lives = kept.lives;
       places = (let z = places_change k a a' d.held (asks h) (held_below c s past w (Opened p) d h k a kept held) held in let u : one_if (is_some (placed a.stage)) ≡ 1 = ap (λ x. one_if (is_some x)) at in let y = kept.places in omega arith);
       few = kept.few;
@@ -213,7 +208,7 @@ sends_d c s past w d h p k id a o kept held stage carries =
 pub fails_d : (c : Conf) (s : ℕ) (past : History) (w : What) (d : Dgrams) (h : History) (p k : ℕ) (g : Fault) (a : Tryer) (st : Stage) → KeptD c s past w (OpenFailed p g) d h → d.held k ≡ Some a → a.stage ≡ Trying p → placed st ≡ None → owing st ≡ 0 → StageFits c s k a.request past w Tick h st → KeptD c s past w Tick (leave p k a st d) h
 fails_d c s past w d h p k g a st kept held stage free owes fits =
     let f = kept.held k a held in
-    let try : TryingFits s p past (OpenFailed p g) h = subst (λ st. StageFits c s k a.request past w (OpenFailed p g) h st) stage f.stage in
+    let try : TryingFits c s p past (OpenFailed p g) h = subst (λ st. StageFits c s k a.request past w (OpenFailed p g) h st) stage f.stage in
     let at : placed a.stage ≡ Some p = ap placed stage in
     let owner = kept.points k a held p at in
     let it : (p == p) ≡ true = grind (arith, nat_tests) in
@@ -261,10 +256,10 @@ stage_begins c s k r past w e h (Trying p) asked begun ending cut f = record {
   untold = f.stand;
   at = f.at;
   unsent = f.unsent;
-  none = λ r j i n. none r j i n (has_answer r i (came p e.what h)) (f.none r j i n);
+  none = λ r j i n. none r j i n (has_answer r i (received (recv_size c) (came p e.what h))) (f.none r j i n);
 }
   where
-    none : (r : Request) (j i n : ℕ) (b : Bool) → unanswered r p j i n h ≡ [] → (if b then [] else unanswered r p j i n h) ≡ []
+    none : (r : Request) (j i n : ℕ) (b : Bool) → unanswered c r p j i n h ≡ [] → (if b then [] else unanswered c r p j i n h) ≡ []
     none r j i n true g = refl
     none r j i n false g = g
 stage_begins c s k r past w e h (Sent p id t) asked begun ending cut f = record {
@@ -277,10 +272,10 @@ stage_begins c s k r past w e h (Sent p id t) asked begun ending cut f = record 
   last = f.last;
   lived = inr (record { alive = f.stand; at = f.at; asked = asked; unanswered = λ n lt. f.is_open refl n lt; named = f.named; begun = begun });
   is_open = λ g n lt. rw g (f.is_open refl n lt);
-  only = λ r' j i n o g. only r' j i n o (has_answer r' i (came p e.what h)) g;
+  only = λ r' j i n o g. only r' j i n o (has_answer r' i (received (recv_size c) (came p e.what h))) g;
 }
   where
-    only : (r' : Request) (j i n : ℕ) (o : Octets) (b : Bool) → IsAmong o (if b then [] else unanswered r' p j i n h) → (j ≡ k) × (i ≡ id) × (n < t + read_timeout)
+    only : (r' : Request) (j i n : ℕ) (o : Octets) (b : Bool) → IsAmong o (if b then [] else unanswered c r' p j i n h) → (j ≡ k) × (i ≡ id) × (n < t + read_timeout c)
     only r' j i n o true g = absurd g
     only r' j i n o false g = f.only r' j i n o g
 stage_begins c s k r past w e h (Ending x) asked begun ending cut f = absurd (ending x refl)
@@ -343,7 +338,7 @@ live_begins c s past w d e h kept rest (OpenFailed p f) is = go (d.at p) refl
     held k at a g Queued i u = absurd (cc)
     held k at a g (Trying q) i u =
         let q_is : q ≡ p = cc in
-        let fit : TryingFits s q past Tick h = subst (λ st. StageFits c s k a.request past w Tick h st) i (kept.held k a g).stage in
+        let fit : TryingFits c s q past Tick h = subst (λ st. StageFits c s k a.request past w Tick h st) i (kept.held k a g).stage in
         let st : stand p h ≡ Opening = ap (λ q. stand q h) (sym q_is) ∙ fit.stand in
         let site' = ap (λ q. site q h) (sym q_is) ∙ fit.at in
         let a' = dgram_at s p h site' in
@@ -393,13 +388,13 @@ row_begins_d c s past w d e h kept rest = record {
   slots = kept.slots;
   points = kept.points;
   others = λ p g n. on_dead e.what p (stand p h) (kept.others p g n);
-  new = λ p le. (let n = kept.new p le in record { was = n.stand; unheld = n.unheld; stand = ap (on_event e.what p) n.stand ∙ on_unused e.what p; nowhere = n.nowhere; unsent = n.unsent; none = λ r j i n'. none p r j i n' (has_answer r i (came p e.what h)) (n.none r j i n') });
+  new = λ p le. (let n = kept.new p le in record { was = n.stand; unheld = n.unheld; stand = ap (on_event e.what p) n.stand ∙ on_unused e.what p; nowhere = n.nowhere; unsent = n.unsent; none = λ r j i n'. none p r j i n' (has_answer r i (received (recv_size c) (came p e.what h))) (n.none r j i n') });
   lives = (let a = live_begins c s past w d e h kept rest e.what refl in let b = kept.lives in omega arith);
   places = places (is_ask e.what) refl (d.held (asks h)) refl;
   few = kept.few;
 }
   where
-    none : (p : ℕ) (r : Request) (j i n : ℕ) (b : Bool) → unanswered r p j i n h ≡ [] → (if b then [] else unanswered r p j i n h) ≡ []
+    none : (p : ℕ) (r : Request) (j i n : ℕ) (b : Bool) → unanswered c r p j i n h ≡ [] → (if b then [] else unanswered c r p j i n h) ≡ []
     none p r j i n true g = refl
     none p r j i n false g = g
 

@@ -58,7 +58,7 @@ module _ (c : Conf) (s next k : ℕ) (past : History) (w : What) (u : Served) (h
       let g = f.dgrams.held k a held in
       let none = none_started k s h unstreamed in
       record {
-        streams = subst (λ n. Kept s past w u.pending f.fr f.more (record u.server.by_stream { asks = with_at k (Some (record { request = a.request; since = n; phase = multi.Free })) u.server.by_stream.asks }) (Put (Start k s Stream) ∷ h)) (sym f.clock) (opening.begins s past w u.pending f.fr f.more u.server.by_stream h k a.request (g.asked.0) f.streams g.asked.1 none);
+        streams = subst (λ n. Kept c s past w u.pending f.fr f.more (record u.server.by_stream { asks = with_at k (Some (record { request = a.request; since = n; phase = multi.Free })) u.server.by_stream.asks }) (Put (Start k s Stream) ∷ h)) (sym f.clock) (opening.begins c s past w u.pending f.fr f.more u.server.by_stream h k a.request (g.asked.0) f.streams g.asked.1 none);
         dgrams = kept_put_d c s past w u.pending (forget k u.server.by_dgram) (Start k s Stream) h (quiet_other s (forget k u.server.by_dgram) (Start k s Stream) h (λ j b e. (let ne = apart j b e in grind (arith, nat_tests))) (λ q. refl) refl) (forgets c s past w u.pending u.server.by_dgram h k a f.dgrams held (ap placed stage));
         conns = same_conns u.server.by_stream.conns;
         asks = each_at (λ j b. ((b : Asker) × (u.server.by_stream.asks j ≡ Some b)) ⊎ (start j s Stream h ≡ None)) k (record { request = a.request; since = u.clock; phase = multi.Free }) u.server.by_stream.asks (inr none) (λ j b ne e. inl (b, e));

@@ -1,6 +1,6 @@
 -- What ties one server's part to the history, at each point between two moves.
-use Rattle.std.proofs.Common.{◌≡◌, ◌≢◌, ℕ, ◌≤◌, Bool, true, false, ◌&&◌, ◌⊎◌, inl, inr, Option, Some, None, List, [], ◌∷◌, refl, arith, ◌∙◌, sym, subst, ap, ◌==◌, length, take}
-use Rattle.std.specs.Prelude.{if◌then◌else◌, nat_le}
+use Rattle.std.proofs.Common.{◌≡◌, ◌≢◌, ℕ, ◌≤◌, Bool, true, false, ◌&&◌, ◌⊎◌, inl, inr, Option, Some, None, List, [], ◌∷◌, refl, arith, ◌∙◌, sym, subst, ap, ◌==◌}
+use Rattle.std.specs.Prelude.{if◌then◌else◌}
 use Rattle.std.proofs.lemmas.Bool.{cases_eq}
 use Rattle.std.proofs.lemmas.Bool.Decides.{nat_tests}
 use Rattle.client_request.specs.declared.event.What.{What}
@@ -53,7 +53,7 @@ pub record Fits (c : Conf) (s : ℕ) (past : History) (w : What) (u : Served) (h
   pub fr : ℕ → List Octets
   pub more : ℕ → List Octets
   pub clock : u.clock ≡ now h
-  pub streams : Kept s past w u.pending fr more u.server.by_stream h
+  pub streams : Kept c s past w u.pending fr more u.server.by_stream h
   pub dgrams : KeptD c s past w u.pending u.server.by_dgram h
   pub untaken : u.taken ≡ false → IsUntaken past w fr more u
   pub taken : u.taken ≡ true → IsTaken fr more u
@@ -67,22 +67,22 @@ pub record Fits (c : Conf) (s : ℕ) (past : History) (w : What) (u : Served) (h
 
 -- The row is done.
 
-pub no_frames_came : (s p : ℕ) (w : What) (past h : History) → row_before h ≡ past → site p h ≡ Some (stream_site s) → ((q : ℕ) (o : Octets) → w ≢ Bytes q o) → came p w past ≡ []
-no_frames_came s p (Datagram q o) past h before at ne = go (site p past) refl
+pub no_frames_came : (c : Conf) → (s p : ℕ) (w : What) (past h : History) → row_before h ≡ past → site p h ≡ Some (stream_site s) → ((q : ℕ) (o : Octets) → w ≢ Bytes q o) → came p w past ≡ []
+no_frames_came c s p (Datagram q o) past h before at ne = go (site p past) refl
   where
-    none : (x y z : Bool) → (if x && (y && (false && z)) then take 2000 o ∷ [] else []) ≡ []
-    none true true z = refl
-    none true false z = refl
-    none false y z = refl
+    none : (x y : Bool) → (if x && (y && false) then o ∷ [] else []) ≡ []
+    none true true = refl
+    none true false = refl
+    none false y = refl
 
     go : (x : Option Site) → site p past ≡ x → came p (Datagram q o) past ≡ []
-    go None e = rw e (none (q == p) (is_alive (stand p past)) (nat_le 12 (length (take 2000 o))))
+    go None e = rw e (none (q == p) (is_alive (stand p past)))
     go (Some z) e =
         let y = site_past p z h (ap (site p) before ∙ e) in
         let same : z ≡ stream_site s = (let u = sym y ∙ at in cc) in
-        rw (e, same) (none (q == p) (is_alive (stand p past)) (nat_le 12 (length (take 2000 o))))
-no_frames_came s p (Bytes q o) past h before at ne = absurd (ne q o refl)
-no_frames_came s p _ past h before at ne = refl
+        rw (e, same) (none (q == p) (is_alive (stand p past)))
+no_frames_came c s p (Bytes q o) past h before at ne = absurd (ne q o refl)
+no_frames_came c s p _ past h before at ne = refl
 
 pub elsewhere : (p q : ℕ) (o : Octets) (past : History) → p ≢ q → came q (Bytes p o) past ≡ []
 elsewhere p q o past ne = (let z : (p == q) ≡ false = grind (arith, nat_tests) in rw z refl)
@@ -105,15 +105,15 @@ bytes_or Tick = inl (λ q o e. cc)
 pub record RowDone (c : Conf) (s : ℕ) (past : History) (w : What) (u : Served) (h : History) : Type 0 where
   pub fr : ℕ → List Octets
   pub more : ℕ → List Octets
-  pub streams : Kept s past w Tick fr more u.server.by_stream h
+  pub streams : Kept c s past w Tick fr more u.server.by_stream h
   pub dgrams : KeptD c s past w Tick u.server.by_dgram h
   pub whole : (q : ℕ) (x : Conn) → u.server.by_stream.conns q ≡ Some x → more q ≡ []
 
-pub rests_end : (c : Conf) (s : ℕ) (past : History) (w : What) (u : Served) (h : History) → Fits c s past w u h → RestsNow u → RowDone c s past w u h
+pub rests_end : (c : Conf) (s : ℕ) (past : History) (w : What) (u : Served) (h : History) → Fits c s past w u h → RestsNow c u → RowDone c s past w u h
 rests_end c s past w u h f r = record {
   fr = f.fr;
   more = f.more;
-  streams = turns s past w u.pending f.fr f.more u.server.by_stream h f.streams (foreign_done u.pending u.server.by_stream r.foreign);
+  streams = turns c s past w u.pending f.fr f.more u.server.by_stream h f.streams (foreign_done u.pending u.server.by_stream r.foreign);
   dgrams = dgrams;
   whole = λ q x e. whole q x e u.taken refl;
 }
@@ -123,11 +123,11 @@ rests_end c s past w u h f r = record {
       where
         go : (b : Bool) → u.taken ≡ b → KeptD c s past w Tick u.server.by_dgram h
         go true e = subst (λ v. KeptD c s past w v u.server.by_dgram h) (f.taken e).pending f.dgrams
-        go false e = (let v : u.pending ≡ w = (f.untaken e).pending in ignores c s past w w u.server.by_dgram h (subst (λ v. KeptD c s past w v u.server.by_dgram h) v f.dgrams) f.streams.row.before (subst (λ v. IsIgnored v u.server.by_dgram) v r.ignored))
+        go false e = (let v : u.pending ≡ w = (f.untaken e).pending in ignores c s past w w u.server.by_dgram h (subst (λ v. KeptD c s past w v u.server.by_dgram h) v f.dgrams) f.streams.row.before (subst (λ v. IsIgnored c v u.server.by_dgram) v r.ignored))
 
     none_came : (q : ℕ) (x : Conn) → u.server.by_stream.conns q ≡ Some x → u.pending ≡ w → came q w past ≡ []
     none_came q x e same = elim (bytes_or w) [
-      | inl other ↦ no_frames_came s q w past h f.streams.row.before (f.streams.conns q x e).at other
+      | inl other ↦ no_frames_came c s q w past h f.streams.row.before (f.streams.conns q x e).at other
       | inr b ↦
           (let p = b.0 in
           let none : u.server.by_stream.conns p ≡ None = subst (λ v. IsForeign v u.server.by_stream) (same ∙ b.2) r.foreign in

@@ -3,7 +3,7 @@ use Rattle.std.proofs.Common.{◌≡◌, ℕ, Bool, true, false, not, ◌||◌, 
 use Rattle.std.specs.Prelude.{if◌then◌else◌}
 use Rattle.std.proofs.lemmas.Bool.{or_right}
 use Rattle.std.proofs.lemmas.Bool.Decides.{nat_tests}
-use Rattle.right_trace.specs.Trace.{History, Came, Put}
+use Rattle.right_trace.specs.Trace.{History, Came, Put, Conf}
 use Rattle.right_trace.specs.Messages.{Octets, id_in, keepalive_of}
 use Rattle.right_trace.specs.Frames.{came_here, is_bad, has_bad, has_id, brings, first_with, last_of, but_last}
 use Rattle.right_trace.specs.Writes.{Written, waiting_with, is_any, IsWritten, is_unwritten}
@@ -52,14 +52,14 @@ keepalive_more [] f n e = rw e refl
 keepalive_more (m ∷ ms) f n e = keepalive_more ms f (if is_bad m then n else told_idle (keepalive_of m) n) e
 
 -- so it is in a row in which a frame came
-pub idle_more : (ms : List Octets) (f : Octets) (rest : List Octets) (p : ℕ) (h : History) → ms ++ f ∷ rest ≡ came_here p h → is_bad f ≡ false → idle_with (ms ++ f ∷ []) p h ≡ told_idle (keepalive_of f) (idle_with ms p h)
-idle_more ms f rest p [] e g = absurd (no ms e)
+pub idle_more : (c : Conf) → (ms : List Octets) (f : Octets) (rest : List Octets) (p : ℕ) (h : History) → ms ++ f ∷ rest ≡ came_here p h → is_bad f ≡ false → idle_with c (ms ++ f ∷ []) p h ≡ told_idle (keepalive_of f) (idle_with c ms p h)
+idle_more c ms f rest p [] e g = absurd (no ms e)
   where
     no : (ms : List Octets) → ms ++ f ∷ rest ≡ [] → ⊥
     no [] e = cc
     no (m ∷ ms) e = cc
-idle_more ms f rest p (Came w ∷ h) e g = keepalive_more ms f (idle_with (came_here p h) p h) g
-idle_more ms f rest p (Put o ∷ h) e g = idle_more ms f rest p h e g
+idle_more c ms f rest p (Came w ∷ h) e g = keepalive_more ms f (idle_with c (came_here p h) p h) g
+idle_more c ms f rest p (Put o ∷ h) e g = idle_more c ms f rest p h e g
 
 last_more : (m : Octets) (ms : List Octets) (f : Octets) → last_of m (ms ++ f ∷ []) ≡ f
 last_more m [] f = refl

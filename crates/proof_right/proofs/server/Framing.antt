@@ -57,8 +57,8 @@ module _ (c : Conf) (s : ℕ) (past : History) (w : What) (u : Served) (h : Hist
   t : IsTaken f.fr f.more u
   t = f.taken is_taken
 
-  pub kept : Kept s past w Tick f.fr f.more m h
-  kept = subst (λ v. Kept s past w v f.fr f.more m h) t.pending f.streams
+  pub kept : Kept c s past w Tick f.fr f.more m h
+  kept = subst (λ v. Kept c s past w v f.fr f.more m h) t.pending f.streams
 
   kept_d : KeptD c s past w Tick u.server.by_dgram h
   kept_d = subst (λ v. KeptD c s past w v u.server.by_dgram h) t.pending f.dgrams
@@ -67,12 +67,12 @@ module _ (c : Conf) (s : ℕ) (past : History) (w : What) (u : Served) (h : Hist
   here x e = (let z = t.here x e in (z.0 ∙ is_next, z.1 (λ none. (let y = sym none ∙ is_next in cc))))
 
   -- a frame at a connection that stays
-  stays : (x : Conn) (mode : Mode) (asks : ℕ → Option Asker) → m.conns p ≡ Some x → Kept s past w Tick (put_at p (f.fr p ++ g ∷ []) f.fr) (put_at p gs f.more) (record m { conns = with_at p (Some (framed g mode x)) m.conns; asks = asks }) h → ((k : ℕ) (a : Asker) → asks k ≡ Some a → m.asks k ≡ Some a) → Fits c s past w (frames_left gs (record m { conns = with_at p (Some (framed g mode x)) m.conns; asks = asks }) u) h
+  stays : (x : Conn) (mode : Mode) (asks : ℕ → Option Asker) → m.conns p ≡ Some x → Kept c s past w Tick (put_at p (f.fr p ++ g ∷ []) f.fr) (put_at p gs f.more) (record m { conns = with_at p (Some (framed g mode x)) m.conns; asks = asks }) h → ((k : ℕ) (a : Asker) → asks k ≡ Some a → m.asks k ≡ Some a) → Fits c s past w (frames_left gs (record m { conns = with_at p (Some (framed g mode x)) m.conns; asks = asks }) u) h
   stays x mode asks conn kept' left = record {
     fr = put_at p (f.fr p ++ g ∷ []) f.fr;
     more = put_at p gs f.more;
     clock = f.clock;
-    streams = subst (λ v. Kept s past w v (put_at p (f.fr p ++ g ∷ []) f.fr) (put_at p gs f.more) (record m { conns = with_at p (Some (framed g mode x)) m.conns; asks = asks }) h) (sym t.pending) kept';
+    streams = subst (λ v. Kept c s past w v (put_at p (f.fr p ++ g ∷ []) f.fr) (put_at p gs f.more) (record m { conns = with_at p (Some (framed g mode x)) m.conns; asks = asks }) h) (sym t.pending) kept';
     dgrams = f.dgrams;
     untaken = λ e. absurd (let z = sym is_taken ∙ e in cc);
     taken = λ e. record {
@@ -90,13 +90,13 @@ module _ (c : Conf) (s : ℕ) (past : History) (w : What) (u : Served) (h : Hist
   }
 
   -- the place is closed
-  closed : (fs : List Octets) → Kept s past w Tick f.fr f.more (multi.end_at p m) (Put (Close p) ∷ h) → (x : Conn) → m.conns p ≡ Some x → Fits c s past w (frames_left fs (multi.end_at p m) u) (Put (Close p) ∷ h)
+  closed : (fs : List Octets) → Kept c s past w Tick f.fr f.more (multi.end_at p m) (Put (Close p) ∷ h) → (x : Conn) → m.conns p ≡ Some x → Fits c s past w (frames_left fs (multi.end_at p m) u) (Put (Close p) ∷ h)
   closed fs kept' x conn = record {
     fr = f.fr;
     more = f.more;
     clock = f.clock;
-    streams = subst (λ v. Kept s past w v f.fr f.more (multi.end_at p m) (Put (Close p) ∷ h)) (sym t.pending) kept';
-    dgrams = kept_put_d c s past w u.pending u.server.by_dgram (Close p) h (close_other c s past w u.pending u.server.by_dgram h p f.dgrams (kept.conns p x conn).at (conn_below s past w Tick f.fr f.more m h p x kept conn)) f.dgrams;
+    streams = subst (λ v. Kept c s past w v f.fr f.more (multi.end_at p m) (Put (Close p) ∷ h)) (sym t.pending) kept';
+    dgrams = kept_put_d c s past w u.pending u.server.by_dgram (Close p) h (close_other c s past w u.pending u.server.by_dgram h p f.dgrams (kept.conns p x conn).at (conn_below c s past w Tick f.fr f.more m h p x kept conn)) f.dgrams;
     untaken = λ e. absurd (let z = sym is_taken ∙ e in cc);
     taken = λ e. record { pending = t.pending; here = λ y i. absurd (let z = sym (at_here p None m.conns) ∙ i in cc); others = λ q y ne i. t.others q y ne (sym (at_there p q None m.conns ne) ∙ i) };
     free = f.free;
@@ -110,28 +110,28 @@ module _ (c : Conf) (s : ℕ) (past : History) (w : What) (u : Served) (h : Hist
 
   frame_keeps_at : (next : ℕ) (m' : Multi) (x : Act) → next ≡ reach h → TakesFrame (now h) p g m x m' → Keeps Served (Fits c) none_more s past w h (does (frames_left gs m' u) next x)
   frame_keeps_at next _ _ is (multi.IsBad x conn bad) =
-      let wrong = bad_ends s past w Tick f.fr f.more m h p x g gs kept conn (here x conn).0 bad in
-      record { fits = closed gs (ends s past w Tick f.fr f.more m h p x kept conn (λ k b e there. ByBadFrame wrong)) x conn; others = λ i y ne z. others_all c s i past w y (Close p ∷ []) h (λ e. ne (sym e)) ((Stream, (kept.conns p x conn).at), tt) z; silent = λ j. refl; handed_on = λ j i. refl; reaches = is }
+      let wrong = bad_ends c s past w Tick f.fr f.more m h p x g gs kept conn (here x conn).0 bad in
+      record { fits = closed gs (ends c s past w Tick f.fr f.more m h p x kept conn (λ k b e there. ByBadFrame wrong)) x conn; others = λ i y ne z. others_all c s i past w y (Close p ∷ []) h (λ e. ne (sym e)) ((Stream, (kept.conns p x conn).at), tt) z; silent = λ j. refl; handed_on = λ j i. refl; reaches = is }
   frame_keeps_at next _ _ is (multi.IsUnknown x conn good none) =
-      let fits : ConnFits s p past Tick (f.fr p) (f.more p) x h = kept.conns p x conn in
-      record { fits = stays x (Active (now h)) m.asks conn (after_frame s past w f.fr f.more m m.asks p g gs x (Active (now h)) h kept conn (here x conn).0 good (here x conn).1 (λ k b e. (e, λ z i. absurd (cc))) (mode_unknown s p past (f.fr p) (f.more p) x g h fits none) (λ since e. cc)) (λ k a e. e); others = λ i y ne z. z; silent = λ j. refl; handed_on = λ j i. refl; reaches = is }
+      let fits : ConnFits c s p past Tick (f.fr p) (f.more p) x h = kept.conns p x conn in
+      record { fits = stays x (Active (now h)) m.asks conn (after_frame c s past w f.fr f.more m m.asks p g gs x (Active (now h)) h kept conn (here x conn).0 good (here x conn).1 (λ k b e. (e, λ z i. absurd (cc))) (mode_unknown c s p past (f.fr p) (f.more p) x g h fits none) (λ since e. cc)) (λ k a e. e); others = λ i y ne z. z; silent = λ j. refl; handed_on = λ j i. refl; reaches = is }
   frame_keeps_at next _ _ is (multi.IsLate x y mode conn good held late leaves') =
-      let fits : ConnFits s p past Tick (f.fr p) (f.more p) x h = kept.conns p x conn in
+      let fits : ConnFits c s p past Tick (f.fr p) (f.more p) x h = kept.conns p x conn in
       record {
-        fits = stays x mode m.asks conn (after_frame s past w f.fr f.more m m.asks p g gs x mode h kept conn (here x conn).0 good (here x conn).1
+        fits = stays x mode m.asks conn (after_frame c s past w f.fr f.more m m.asks p g gs x mode h kept conn (here x conn).0 good (here x conn).1
             (λ k b e. (e, λ z i j. (let same : y ≡ z = (let u = sym held ∙ i in cc) in let mine : m.asks y.request ≡ Some b = ap m.asks (ap (λ y. y.request) same ∙ j) ∙ e in late b mine (kept.owners p x conn (id_in g) y held b mine))))
-            (mode_after s p past (f.fr p) (f.more p) m x g mode h fits leaves') (mode_new m p (now h) (framed g mode x) mode leaves')) (λ k a e. e);
+            (mode_after c s p past (f.fr p) (f.more p) m x g mode h fits leaves') (mode_new m p (now h) (framed g mode x) mode leaves')) (λ k a e. e);
         others = λ i y ne z. z;
         silent = λ j. refl;
         handed_on = λ j i. refl;
         reaches = is;
       }
   frame_keeps_at next _ _ is (multi.IsResult x y mode b conn good held ask phase leaves') =
-      let fits : ConnFits s p past Tick (f.fr p) (f.more p) x h = kept.conns p x conn in
+      let fits : ConnFits c s p past Tick (f.fr p) (f.more p) x h = kept.conns p x conn in
       record {
-        fits = stays x mode (with_at y.request None m.asks) conn (after_frame s past w f.fr f.more m (with_at y.request None m.asks) p g gs x mode h kept conn (here x conn).0 good (here x conn).1
+        fits = stays x mode (with_at y.request None m.asks) conn (after_frame c s past w f.fr f.more m (with_at y.request None m.asks) p g gs x mode h kept conn (here x conn).0 good (here x conn).1
             (each_other (λ k b. (m.asks k ≡ Some b) × ((z : Written) → x.ids (id_in g) ≡ Some z → z.request ≢ k)) y.request m.asks (λ k b ne e. (e, λ z i j. (let same : y ≡ z = (let u = sym held ∙ i in cc) in ne (ap (λ y. y.request) same ∙ j)))))
-            (mode_after s p past (f.fr p) (f.more p) m x g mode h fits leaves') (mode_new m p (now h) (framed g mode x) mode leaves')) (each_other (λ k b. m.asks k ≡ Some b) y.request m.asks (λ k b ne e. e));
+            (mode_after c s p past (f.fr p) (f.more p) m x g mode h fits leaves') (mode_new m p (now h) (framed g mode x) mode leaves')) (each_other (λ k b. m.asks k ≡ Some b) y.request m.asks (λ k b ne e. e));
         others = λ i y ne z. z;
         silent = λ j. refl;
         handed_on = λ j i. refl;
@@ -149,7 +149,7 @@ module _ (c : Conf) (s : ℕ) (past : History) (w : What) (u : Served) (h : Hist
   frame_keeps next m' x is frame = frame_keeps_at next m' x is (subst (λ n. TakesFrame n p g m x m') f.clock frame)
 
   pub frame_right : (n : ℕ) (m' : Multi) (x : Act) → s < length c.servers → TakesFrame n p g m x m' → (end : History) → ServerOutsRight c past w end h (outs_of x)
-  frame_right n _ _ lt (multi.IsBad x conn bad) end = (let wrong = bad_ends s past w Tick f.fr f.more m h p x g gs kept conn (here x conn).0 bad in ((omega arith, may_close c s p past w h end (kept.conns p x conn).at (BadFrame (ap has_bad (sym (kept.row.came p)) ∙ wrong)), was_alive p h (kept.conns p x conn).alive), tt))
+  frame_right n _ _ lt (multi.IsBad x conn bad) end = (let wrong = bad_ends c s past w Tick f.fr f.more m h p x g gs kept conn (here x conn).0 bad in ((omega arith, may_close c s p past w h end (kept.conns p x conn).at (BadFrame (ap has_bad (sym (kept.row.came p)) ∙ wrong)), was_alive p h (kept.conns p x conn).alive), tt))
   frame_right n _ _ lt (multi.IsUnknown x conn good none) end = tt
   frame_right n _ _ lt (multi.IsLate x y mode conn good held late leaves') end = tt
   frame_right n _ _ lt (multi.IsResult x y mode b conn good held ask phase leaves') end = tt
@@ -160,19 +160,19 @@ module _ (c : Conf) (s : ℕ) (past : History) (w : What) (u : Served) (h : Hist
   tk : IsTaken f.fr f.more u
   tk = f.taken is_taken
 
-  kept_now : Kept s past w Tick f.fr f.more u.server.by_stream h
-  kept_now = subst (λ v. Kept s past w v f.fr f.more u.server.by_stream h) tk.pending f.streams
+  kept_now : Kept c s past w Tick f.fr f.more u.server.by_stream h
+  kept_now = subst (λ v. Kept c s past w v f.fr f.more u.server.by_stream h) tk.pending f.streams
 
   pub idle_right : s < length c.servers → (end : History) → ServerOutsRight c past w end h (Close u.place ∷ [])
-  idle_right lt end = ((omega arith, may_close c s u.place past w h end (kept_now.conns u.place x conn).at (IdleTimer (idle_is_due s past w Tick f.fr f.more u.server.by_stream h u.place x since kept_now conn mode late)), was_alive u.place h (kept_now.conns u.place x conn).alive), tt)
+  idle_right lt end = ((omega arith, may_close c s u.place past w h end (kept_now.conns u.place x conn).at (IdleTimer (idle_is_due c s past w Tick f.fr f.more u.server.by_stream h u.place x since kept_now conn mode late)), was_alive u.place h (kept_now.conns u.place x conn).alive), tt)
 
   pub idle_fits : Fits c s past w (frames_left [] (multi.end_at u.place u.server.by_stream) u) (Put (Close u.place) ∷ h)
   idle_fits = record {
     fr = f.fr;
     more = f.more;
     clock = f.clock;
-    streams = subst (λ v. Kept s past w v f.fr f.more (multi.end_at u.place u.server.by_stream) (Put (Close u.place) ∷ h)) (sym tk.pending) (ends s past w Tick f.fr f.more u.server.by_stream h u.place x kept_now conn (idle_ends s past w Tick f.fr f.more u.server.by_stream h u.place x since kept_now conn mode late pumped));
-    dgrams = kept_put_d c s past w u.pending u.server.by_dgram (Close u.place) h (close_other c s past w u.pending u.server.by_dgram h u.place f.dgrams (kept_now.conns u.place x conn).at (conn_below s past w Tick f.fr f.more u.server.by_stream h u.place x kept_now conn)) f.dgrams;
+    streams = subst (λ v. Kept c s past w v f.fr f.more (multi.end_at u.place u.server.by_stream) (Put (Close u.place) ∷ h)) (sym tk.pending) (ends c s past w Tick f.fr f.more u.server.by_stream h u.place x kept_now conn (idle_ends c s past w Tick f.fr f.more u.server.by_stream h u.place x since kept_now conn mode late pumped));
+    dgrams = kept_put_d c s past w u.pending u.server.by_dgram (Close u.place) h (close_other c s past w u.pending u.server.by_dgram h u.place f.dgrams (kept_now.conns u.place x conn).at (conn_below c s past w Tick f.fr f.more u.server.by_stream h u.place x kept_now conn)) f.dgrams;
     untaken = λ e. absurd (let z = sym is_taken ∙ e in cc);
     taken = λ e. record { pending = tk.pending; here = λ y i. absurd (let z = sym (at_here u.place None u.server.by_stream.conns) ∙ i in cc); others = λ q y ne i. tk.others q y ne (sym (at_there u.place q None u.server.by_stream.conns ne) ∙ i) };
     free = f.free;

@@ -1,4 +1,5 @@
 -- Results that a move of its own of one server's part gives: whose they are, and that they are right.
+use Rattle.proof_right.proofs.Received.{waits_on}
 use Rattle.std.proofs.Common.{◌≡◌, ◌≢◌, ℕ, ◌+◌, ◌≤◌, ◌<◌, Bool, true, false, ◌||◌, ◌⊎◌, inl, inr, Option, Some, None, List, [], ◌∷◌, ◌++◌, is_some, refl, arith, ◌∙◌, sym, subst, subst₂, ap, ◌==◌, length, take}
 use Rattle.std.specs.Prelude.{if◌then◌else◌, Result, Ok, Err}
 use Rattle.std.proofs.lemmas.Bool.{cases_eq}
@@ -10,7 +11,7 @@ use Rattle.client_request.specs.declared.event.Out.TheVariants.{Close}
 use Rattle.client_request.specs.declared.event.Via.TheVariants.{Stream}
 use Rattle.client_request.specs.Request.{Request}
 use Rattle.right_trace.specs.Trace.{History, Conf, Came, Put, put_all}
-use Rattle.right_trace.specs.Time.{now, row_before, EarlierRow, stream_timeout}
+use Rattle.right_trace.specs.Time.{now, row_before, EarlierRow, stream_timeout, recv_size}
 use Rattle.right_trace.specs.Messages.{Octets, answers, id_in, truncated, IsComposingFault}
 use Rattle.right_trace.specs.Requests.{is_start, start, replied}
 use Rattle.right_trace.specs.Places.{reach}
@@ -108,28 +109,28 @@ StreamHeld (Puts o) m m' = (j : ℕ) → is_some (m'.asks j) ≡ is_some (m.asks
 StreamHeld (Gives k x) m m' = ((a : Asker) × (m.asks k ≡ Some a)) × ((j : ℕ) → is_some (m'.asks j) ≡ (if k == j then false else is_some (m.asks j)))
 StreamHeld Nothing m m' = (j : ℕ) → is_some (m'.asks j) ≡ is_some (m.asks j)
 
-moves_held : (s n next : ℕ) (m m' : Multi) (x : Act) → Moves s n next m x m' → StreamHeld x m m'
-moves_held s n next m _ _ (multi.Joins k a p x ask phase conn) = some_same k a _ m.asks ask
-moves_held s n next m _ _ (multi.Expects k a p ask phase op) = some_same k a _ m.asks ask
-moves_held s n next m _ _ (multi.Opens k a ask phase none full) = some_same k a _ m.asks ask
-moves_held s n next m _ _ (multi.Meets k a until ask phase calm low high) = some_same k a _ m.asks ask
-moves_held s n next m _ _ (multi.BacksOff k a until ask phase low high) = some_same k a _ m.asks ask
-moves_held s n next m _ _ (multi.Writes k a p x id o ask phase conn none quiet unheld carries some) = some_same k a _ m.asks ask
-moves_held s n next m _ _ (multi.CannotWrite k a p x ask phase conn none bad) = some_same k a _ m.asks ask
-moves_held s n next m _ _ (multi.FindsNoId k a p x ask phase conn none full) = some_same k a _ m.asks ask
-moves_held s n next m _ _ (multi.GoesOn k a until ask phase late) = some_same k a _ m.asks ask
-moves_held s n next m _ _ (multi.TimesOut k a ask late) = ((a, ask), some_less k m.asks)
-moves_held s n next m _ _ (multi.ReadsNothing p x since conn mode late) = λ j. every_same (multi.broken_at p) (m.asks j)
-moves_held s n next m _ _ (multi.RestsTooLong p x since conn mode late pumped) = λ j. every_same (multi.broken_at p) (m.asks j)
+moves_held : (c : Conf) → (s n next : ℕ) (m m' : Multi) (x : Act) → Moves c s n next m x m' → StreamHeld x m m'
+moves_held c s n next m _ _ (multi.Joins k a p x ask phase conn) = some_same k a _ m.asks ask
+moves_held c s n next m _ _ (multi.Expects k a p ask phase op) = some_same k a _ m.asks ask
+moves_held c s n next m _ _ (multi.Opens k a ask phase none full) = some_same k a _ m.asks ask
+moves_held c s n next m _ _ (multi.Meets k a until ask phase calm low high) = some_same k a _ m.asks ask
+moves_held c s n next m _ _ (multi.BacksOff k a until ask phase low high) = some_same k a _ m.asks ask
+moves_held c s n next m _ _ (multi.Writes k a p x id o ask phase conn none quiet unheld carries some) = some_same k a _ m.asks ask
+moves_held c s n next m _ _ (multi.CannotWrite k a p x ask phase conn none bad) = some_same k a _ m.asks ask
+moves_held c s n next m _ _ (multi.FindsNoId k a p x ask phase conn none full) = some_same k a _ m.asks ask
+moves_held c s n next m _ _ (multi.GoesOn k a until ask phase late) = some_same k a _ m.asks ask
+moves_held c s n next m _ _ (multi.TimesOut k a ask late) = ((a, ask), some_less k m.asks)
+moves_held c s n next m _ _ (multi.ReadsNothing p x since conn mode late) = λ j. every_same (multi.broken_at p) (m.asks j)
+moves_held c s n next m _ _ (multi.RestsTooLong p x since conn mode late pumped) = λ j. every_same (multi.broken_at p) (m.asks j)
 
-pub takes_held : (n : ℕ) (m m' : Multi) (v : What) (x : Act) → Takes n m v x m' → (posts_of x ≡ []) × ((j : ℕ) → is_some (m'.asks j) ≡ is_some (m.asks j))
-takes_held n m _ _ _ (multi.ItOpens p op) = (refl, λ j. every_same (multi.expected multi.Free) (m.asks j))
-takes_held n m _ _ _ (multi.ItDoesNotOpen p g calm op lt) = (refl, λ j. every_same (multi.expected multi.Broken) (m.asks j))
-takes_held n m _ _ _ (multi.ItFails w p x conn told) = (refl, λ j. every_same (multi.broken_at p) (m.asks j))
-takes_held n m _ _ _ (multi.SomeWritten p c x o conn lt) = (refl, λ j. refl)
-takes_held n m _ _ _ (multi.AllWritten p c x conn some le) = (refl, λ j. refl)
-takes_held n m _ _ _ (multi.NothingToWrite p c x conn none) = (refl, λ j. refl)
-takes_held n m _ _ _ (multi.OctetsCome p o x conn) = (refl, λ j. refl)
+pub takes_held : (c : Conf) → (n : ℕ) (m m' : Multi) (v : What) (x : Act) → Takes c n m v x m' → (posts_of x ≡ []) × ((j : ℕ) → is_some (m'.asks j) ≡ is_some (m.asks j))
+takes_held c n m _ _ _ (multi.ItOpens p op) = (refl, λ j. every_same (multi.expected multi.Free) (m.asks j))
+takes_held c n m _ _ _ (multi.ItDoesNotOpen p g calm op lt) = (refl, λ j. every_same (multi.expected multi.Broken) (m.asks j))
+takes_held c n m _ _ _ (multi.ItFails w p x conn told) = (refl, λ j. every_same (multi.broken_at p) (m.asks j))
+takes_held c n m _ _ _ (multi.SomeWritten p b x o conn lt) = (refl, λ j. refl)
+takes_held c n m _ _ _ (multi.AllWritten p b x conn some le) = (refl, λ j. refl)
+takes_held c n m _ _ _ (multi.NothingToWrite p b x conn none) = (refl, λ j. refl)
+takes_held c n m _ _ _ (multi.OctetsCome p o x conn) = (refl, λ j. refl)
 
 frame_held : (n p : ℕ) (g : Octets) (m m' : Multi) (x : Act) → TakesFrame n p g m x m' → StreamHeld x m m'
 frame_held n p g m _ _ (multi.IsBad x conn bad) = λ j. every_same (multi.broken_at p) (m.asks j)
@@ -140,20 +141,20 @@ frame_held n p g m _ _ (multi.IsDropped none) = λ j. refl
 
 -- By datagram
 
-pub tries_held : (s n next : ℕ) (d d' : Dgrams) (x : Act) → IsSettled d → Tries s n next d x d' → (posts_of x ≡ []) × ((j : ℕ) → is_some (d'.held j) ≡ is_some (d.held j))
-tries_held s n next d _ _ set (dgrams.Opens k a held stage few) = (refl, some_same k a _ d.held held)
-tries_held s n next d _ _ set (dgrams.Retries k a p id t held stage late few) = (refl, some_same k a _ d.held held)
-tries_held s n next d _ _ set (dgrams.StopsTrying k a p id t held stage late six) = (refl, some_same k a _ d.held held)
-tries_held s n next d _ _ set (dgrams.Ends k a x held stage) = absurd (set k a held x stage)
+pub tries_held : (c : Conf) → (s n next : ℕ) (d d' : Dgrams) (x : Act) → IsSettled d → Tries c s n next d x d' → (posts_of x ≡ []) × ((j : ℕ) → is_some (d'.held j) ≡ is_some (d.held j))
+tries_held c s n next d _ _ set (dgrams.Opens k a held stage few) = (refl, some_same k a _ d.held held)
+tries_held c s n next d _ _ set (dgrams.Retries k a p id t held stage late few) = (refl, some_same k a _ d.held held)
+tries_held c s n next d _ _ set (dgrams.StopsTrying k a p id t held stage late six) = (refl, some_same k a _ d.held held)
+tries_held c s n next d _ _ set (dgrams.Ends k a x held stage) = absurd (set k a held x stage)
 
-pub meets_held : (n : ℕ) (d d' : Dgrams) (v : What) (x : Act) → Meets n d v x d' → (posts_of x ≡ []) × ((j : ℕ) → is_some (d'.held j) ≡ is_some (d.held j))
-meets_held n d _ _ _ (dgrams.IsSent k a p id o at held stage carries) = (refl, some_same k a _ d.held held)
-meets_held n d _ _ _ (dgrams.CannotBeSent k a p e at held stage bad) = (refl, some_same k a _ d.held held)
-meets_held n d _ _ _ (dgrams.DoesNotOpen k a p g at held stage) = (refl, some_same k a _ d.held held)
-meets_held n d _ _ _ (dgrams.NotSent k a p id t g at held stage) = (refl, some_same k a _ d.held held)
-meets_held n d _ _ _ (dgrams.SentShort k a p id t at held stage) = (refl, some_same k a _ d.held held)
-meets_held n d _ _ _ (dgrams.NotReceived k a p id t g at held stage) = (refl, some_same k a _ d.held held)
-meets_held n d _ _ _ (dgrams.IsAnswered k a p id t o at held stage long ok) = (refl, some_same k a _ d.held held)
+pub meets_held : (c : Conf) → (n : ℕ) (d d' : Dgrams) (v : What) (x : Act) → Meets c n d v x d' → (posts_of x ≡ []) × ((j : ℕ) → is_some (d'.held j) ≡ is_some (d.held j))
+meets_held c n d _ _ _ (dgrams.IsSent k a p id o at held stage carries) = (refl, some_same k a _ d.held held)
+meets_held c n d _ _ _ (dgrams.CannotBeSent k a p e at held stage bad) = (refl, some_same k a _ d.held held)
+meets_held c n d _ _ _ (dgrams.DoesNotOpen k a p g at held stage) = (refl, some_same k a _ d.held held)
+meets_held c n d _ _ _ (dgrams.NotSent k a p id t g at held stage) = (refl, some_same k a _ d.held held)
+meets_held c n d _ _ _ (dgrams.SentShort k a p id t at held stage) = (refl, some_same k a _ d.held held)
+meets_held c n d _ _ _ (dgrams.NotReceived k a p id t g at held stage) = (refl, some_same k a _ d.held held)
+meets_held c n d _ _ _ (dgrams.IsAnswered k a p id t o at held stage long ok) = (refl, some_same k a _ d.held held)
 
 module _ (c : Conf) (s next : ℕ) (past : History) (w : What) (u : Served) (h : History) (f : Fits c s past w u h) where
   asks_held : (k : ℕ) → is_some (u.server.by_stream.asks k) ≡ true → holds u k ≡ true
@@ -204,12 +205,12 @@ module _ (c : Conf) (s next : ℕ) (past : History) (w : What) (u : Served) (h :
     | inr ne ↦ (let t : (k == j) ≡ false = grind (arith, nat_tests) in rw t refl)
   ]
 
-  pub acts_held : (d : Step Served) → Acts s next u d → Handed (holds u) (holds d.state) d.posts
-  acts_held d (served.ByDgram x e _ tries set) = (let t = tries_held s u.clock next u.server.by_dgram e x f.settled tries in settles_held _ x d t.0 refl t.1 set)
-  acts_held _ (served.ByStream x m move) = stream_held (has_moved (record u.server { by_stream = m }) u) x refl (moves_held s u.clock next u.server.by_stream m x move)
+  pub acts_held : (d : Step Served) → Acts c s next u d → Handed (holds u) (holds d.state) d.posts
+  acts_held d (served.ByDgram x e _ tries set) = (let t = tries_held c s u.clock next u.server.by_dgram e x f.settled tries in settles_held _ x d t.0 refl t.1 set)
+  acts_held _ (served.ByStream x m move) = stream_held (has_moved (record u.server { by_stream = m }) u) x refl (moves_held c s u.clock next u.server.by_stream m x move)
   acts_held _ (served.FallsBack k a held stage) = hands_none (holds u) _ [] refl (falls_held k a held)
-  acts_held d (served.TellsDgrams x e _ un soon meets foreign set) = (let t = meets_held u.clock u.server.by_dgram e u.pending x meets in settles_held _ x d t.0 refl t.1 set)
-  acts_held _ (served.TellsStreams x m un plain takes ignored) = (let t = takes_held u.clock u.server.by_stream m u.pending x takes in hands_none (holds u) _ (posts_of x) t.0 (λ k. (let z = t.1 k in rw z refl)))
+  acts_held d (served.TellsDgrams x e _ un soon meets foreign set) = (let t = meets_held c u.clock u.server.by_dgram e u.pending x meets in settles_held _ x d t.0 refl t.1 set)
+  acts_held _ (served.TellsStreams x m un plain takes ignored) = (let t = takes_held c u.clock u.server.by_stream m u.pending x takes in hands_none (holds u) _ (posts_of x) t.0 (λ k. (let z = t.1 k in rw z refl)))
   acts_held _ (served.Reads p o x un pend conn) = hands_none (holds u) _ [] refl (λ k. refl)
   acts_held _ (served.TakesOne g gs x m is soon frame) = stream_held (served.frames_left gs m u) x refl (frame_held u.clock u.place g u.server.by_stream m x frame)
   acts_held _ (served.ClosesFirst g gs k y m x since is soon frame conn mode late pumped) = (let e = frame_held u.clock u.place g u.server.by_stream m (Gives k y) frame in stream_held (served.frames_left [] (multi.end_at u.place m) u) (Gives k y) refl (e.0, λ j. every_same (multi.broken_at u.place) (m.asks j) ∙ e.1 j))
@@ -240,11 +241,11 @@ untimed_at k b d set un = each_at (λ j (a : Tryer). IsUntimed a) k b d.held un 
 untimed_err : (b : Tryer) (e : Error) → b.stage ≡ Ending (Err e) → e ≢ errors.TimedOut → IsUntimed b
 untimed_err b e is ne y g same = ne (let z : Ending (Err e) ≡ Ending (Err errors.TimedOut) = sym is ∙ (g ∙ ap Ending same) in cc)
 
-tries_untimed : (s n next : ℕ) (d d' : Dgrams) (x : Act) → IsSettled d → Tries s n next d x d' → (j : ℕ) (a : Tryer) → d'.held j ≡ Some a → IsUntimed a
-tries_untimed s n next d _ _ set (dgrams.Opens k b held stage few) = untimed_at k (dgrams.staged b (Trying next)) d set (λ y g. absurd (cc))
-tries_untimed s n next d _ _ set (dgrams.Retries k b p id t held stage late few) = untimed_at k (dgrams.staged b Queued) d set (λ y g. absurd (cc))
-tries_untimed s n next d _ _ set (dgrams.StopsTrying k b p id t held stage late six) = untimed_at k (dgrams.staged b (Ending (Err (errors.Dgram query.Timeout)))) d set (untimed_err (dgrams.staged b (Ending (Err (errors.Dgram query.Timeout)))) (errors.Dgram query.Timeout) refl (λ e. cc))
-tries_untimed s n next d _ _ set (dgrams.Ends k b x held stage) = absurd (set k b held x stage)
+tries_untimed : (c : Conf) → (s n next : ℕ) (d d' : Dgrams) (x : Act) → IsSettled d → Tries c s n next d x d' → (j : ℕ) (a : Tryer) → d'.held j ≡ Some a → IsUntimed a
+tries_untimed c s n next d _ _ set (dgrams.Opens k b held stage few) = untimed_at k (dgrams.staged b (Trying next)) d set (λ y g. absurd (cc))
+tries_untimed c s n next d _ _ set (dgrams.Retries k b p id t held stage late few) = untimed_at k (dgrams.staged b Queued) d set (λ y g. absurd (cc))
+tries_untimed c s n next d _ _ set (dgrams.StopsTrying k b p id t held stage late six) = untimed_at k (dgrams.staged b (Ending (Err (errors.Dgram query.Timeout)))) d set (untimed_err (dgrams.staged b (Ending (Err (errors.Dgram query.Timeout)))) (errors.Dgram query.Timeout) refl (λ e. cc))
+tries_untimed c s n next d _ _ set (dgrams.Ends k b x held stage) = absurd (set k b held x stage)
 
 composing_untimed : (r : Request) (e : Error) → IsComposingFault r e → e ≢ errors.TimedOut
 composing_untimed r e f is = elim f [ inl x ↦ (let z = sym x.0 ∙ is in cc) | inr x ↦ (let z = sym x.0 ∙ is in cc) ]
@@ -253,14 +254,14 @@ ok_untimed : (b : Tryer) (m : Octets) (cut : Bool) → b.stage ≡ (if cut then 
 ok_untimed b m true is y g same = (let z : Cut ≡ Ending y = sym is ∙ g in cc)
 ok_untimed b m false is y g same = (let z : Ending (Ok m) ≡ Ending (Err errors.TimedOut) = sym is ∙ (g ∙ ap Ending same) in cc)
 
-meets_untimed : (n : ℕ) (d d' : Dgrams) (v : What) (x : Act) → IsSettled d → Meets n d v x d' → (j : ℕ) (a : Tryer) → d'.held j ≡ Some a → IsUntimed a
-meets_untimed n d _ _ _ set (dgrams.IsSent k b p id o at held stage carries) = untimed_at k _ d set (λ y g. absurd (cc))
-meets_untimed n d _ _ _ set (dgrams.CannotBeSent k b p e at held stage bad) = untimed_at k (dgrams.staged b (Ending (Err e))) d set (untimed_err (dgrams.staged b (Ending (Err e))) e refl (composing_untimed b.request e bad))
-meets_untimed n d _ _ _ set (dgrams.DoesNotOpen k b p g at held stage) = untimed_at k (dgrams.staged b (Ending (Err (errors.Dgram (query.Connect g))))) d set (untimed_err (dgrams.staged b (Ending (Err (errors.Dgram (query.Connect g))))) (errors.Dgram (query.Connect g)) refl (λ e. cc))
-meets_untimed n d _ _ _ set (dgrams.NotSent k b p id t g at held stage) = untimed_at k (dgrams.staged b (Ending (Err (errors.Dgram (query.Send g))))) d set (untimed_err (dgrams.staged b (Ending (Err (errors.Dgram (query.Send g))))) (errors.Dgram (query.Send g)) refl (λ e. cc))
-meets_untimed n d _ _ _ set (dgrams.SentShort k b p id t at held stage) = untimed_at k (dgrams.staged b (Ending (Err (errors.Dgram (query.Send fault.ShortSend))))) d set (untimed_err (dgrams.staged b (Ending (Err (errors.Dgram (query.Send fault.ShortSend))))) (errors.Dgram (query.Send fault.ShortSend)) refl (λ e. cc))
-meets_untimed n d _ _ _ set (dgrams.NotReceived k b p id t g at held stage) = untimed_at k (dgrams.staged b (Ending (Err (errors.Dgram (query.Receive g))))) d set (untimed_err (dgrams.staged b (Ending (Err (errors.Dgram (query.Receive g))))) (errors.Dgram (query.Receive g)) refl (λ e. cc))
-meets_untimed n d _ _ _ set (dgrams.IsAnswered k b p id t o at held stage long ok) = untimed_at k (dgrams.staged b (stage_of (take 2000 o))) d set (ok_untimed (dgrams.staged b (stage_of (take 2000 o))) (take 2000 o) (truncated (take 2000 o)) refl)
+meets_untimed : (c : Conf) → (n : ℕ) (d d' : Dgrams) (v : What) (x : Act) → IsSettled d → Meets c n d v x d' → (j : ℕ) (a : Tryer) → d'.held j ≡ Some a → IsUntimed a
+meets_untimed c n d _ _ _ set (dgrams.IsSent k b p id o at held stage carries) = untimed_at k _ d set (λ y g. absurd (cc))
+meets_untimed c n d _ _ _ set (dgrams.CannotBeSent k b p e at held stage bad) = untimed_at k (dgrams.staged b (Ending (Err e))) d set (untimed_err (dgrams.staged b (Ending (Err e))) e refl (composing_untimed b.request e bad))
+meets_untimed c n d _ _ _ set (dgrams.DoesNotOpen k b p g at held stage) = untimed_at k (dgrams.staged b (Ending (Err (errors.Dgram (query.Connect g))))) d set (untimed_err (dgrams.staged b (Ending (Err (errors.Dgram (query.Connect g))))) (errors.Dgram (query.Connect g)) refl (λ e. cc))
+meets_untimed c n d _ _ _ set (dgrams.NotSent k b p id t g at held stage) = untimed_at k (dgrams.staged b (Ending (Err (errors.Dgram (query.Send g))))) d set (untimed_err (dgrams.staged b (Ending (Err (errors.Dgram (query.Send g))))) (errors.Dgram (query.Send g)) refl (λ e. cc))
+meets_untimed c n d _ _ _ set (dgrams.SentShort k b p id t at held stage) = untimed_at k (dgrams.staged b (Ending (Err (errors.Dgram (query.Send fault.ShortSend))))) d set (untimed_err (dgrams.staged b (Ending (Err (errors.Dgram (query.Send fault.ShortSend))))) (errors.Dgram (query.Send fault.ShortSend)) refl (λ e. cc))
+meets_untimed c n d _ _ _ set (dgrams.NotReceived k b p id t g at held stage) = untimed_at k (dgrams.staged b (Ending (Err (errors.Dgram (query.Receive g))))) d set (untimed_err (dgrams.staged b (Ending (Err (errors.Dgram (query.Receive g))))) (errors.Dgram (query.Receive g)) refl (λ e. cc))
+meets_untimed c n d _ _ _ set (dgrams.IsAnswered k b p id t o at held stage long ok) = untimed_at k (dgrams.staged b (stage_of (take (recv_size c) o))) d set (ok_untimed (dgrams.staged b (stage_of (take (recv_size c) o))) (take (recv_size c) o) (truncated (take (recv_size c) o)) refl)
 
 module _ (c : Conf) (s : ℕ) (past : History) (w : What) (u : Served) (h : History) (f : Fits c s past w u h) where
   -- the result that a small move gives is right
@@ -274,14 +275,14 @@ module _ (c : Conf) (s : ℕ) (past : History) (w : What) (u : Served) (h : Hist
   post_right Nothing r z i un = absurd i
   post_right (Gives k y) r z i un = elim i [ inl e ↦ subst (λ (z : Post). replied z.request past ≡ false → PostRight c z.request z.result past w h) e r un | inr b ↦ absurd b ]
 
-  times_out : (k : ℕ) (a : Asker) → u.server.by_stream.asks k ≡ Some a → a.since + stream_timeout ≤ now h → PostRight c k (Err errors.StreamReadTimeout) past w h
+  times_out : (k : ℕ) (a : Asker) → u.server.by_stream.asks k ≡ Some a → a.since + stream_timeout c ≤ now h → PostRight c k (Err errors.StreamReadTimeout) past w h
   unfolding stream_timeout
   times_out k a ask late =
-      let began = start_past k s a.since h (f.streams.asks k a ask).since (omega arith) in
+      let began = start_past k s a.since h (f.streams.asks k a ask).since (let pos = waits_on c in omega (arith, pos)) in
       let before = f.streams.row.before in
       (StreamSilence (record { server = s; begun = a.since; is_begun = subst (λ past. start k s Stream past ≡ Some a.since) before began; passed = late; silent = λ x. f.silent k a ask (earlier_past (Heard c k s) k s a.since h began (subst (λ past. Heard c k s past ⊎ EarlierRow (Heard c k s) past) (sym before) x)) }), λ e. absurd (cc))
 
-  moves_act : (next : ℕ) (m : Multi) (x : Act) → Moves s u.clock next u.server.by_stream x m → ActRight x
+  moves_act : (next : ℕ) (m : Multi) (x : Act) → Moves c s u.clock next u.server.by_stream x m → ActRight x
   moves_act next _ _ (multi.Joins k a p x ask phase conn) = tt
   moves_act next _ _ (multi.Expects k a p ask phase op) = tt
   moves_act next _ _ (multi.Opens k a ask phase none full) = tt
@@ -291,11 +292,11 @@ module _ (c : Conf) (s : ℕ) (past : History) (w : What) (u : Served) (h : Hist
   moves_act next _ _ (multi.CannotWrite k a p x ask phase conn none bad) = tt
   moves_act next _ _ (multi.FindsNoId k a p x ask phase conn none full) = tt
   moves_act next _ _ (multi.GoesOn k a until ask phase late) = tt
-  moves_act next _ _ (multi.TimesOut k a ask late) = λ un. times_out k a ask (subst (λ n. a.since + stream_timeout ≤ n) f.clock late)
+  moves_act next _ _ (multi.TimesOut k a ask late) = λ un. times_out k a ask (subst (λ n. a.since + stream_timeout c ≤ n) f.clock late)
   moves_act next _ _ (multi.ReadsNothing p x since conn mode late) = tt
   moves_act next _ _ (multi.RestsTooLong p x since conn mode late pumped) = tt
 
-  module _ (g : Octets) (gs : List Octets) (is_next : u.frames ≡ g ∷ gs) (soon : IsInTime u.clock u.server) (lt : s < length c.servers) where
+  module _ (g : Octets) (gs : List Octets) (is_next : u.frames ≡ g ∷ gs) (soon : IsInTime c u.clock u.server) (lt : s < length c.servers) where
     frame_act : (m' : Multi) (x : Act) → TakesFrame u.clock u.place g u.server.by_stream x m' → ActRight x
     frame_act _ _ (multi.IsBad x conn bad) = tt
     frame_act _ _ (multi.IsUnknown x conn good none) = tt
@@ -306,7 +307,7 @@ module _ (c : Conf) (s : ℕ) (past : History) (w : What) (u : Served) (h : Hist
         p : ℕ
         p = u.place
 
-        kept : Kept s past w Tick f.fr f.more u.server.by_stream h
+        kept : Kept c s past w Tick f.fr f.more u.server.by_stream h
         kept = framing.kept c s past w u h f g gs is_next
 
         more : f.more p ≡ g ∷ gs
@@ -321,7 +322,7 @@ module _ (c : Conf) (s : ℕ) (past : History) (w : What) (u : Served) (h : Hist
 
         event : (o : Octets) × (w ≡ Bytes p o)
         event = elim (bytes_or w) [
-          | inl other ↦ absurd (none_came (no_frames_came s p w past h kept.row.before (kept.conns p x conn).at other))
+          | inl other ↦ absurd (none_came (no_frames_came c s p w past h kept.row.before (kept.conns p x conn).at other))
           | inr b ↦ elim (cases_eq b.0 p) [
             | inl is ↦ (b.1, b.2 ∙ ap (λ q. Bytes q b.1) is)
             | inr ne ↦ absurd (none_came (subst (λ w. came p w past ≡ []) (sym b.2) (elsewhere b.0 p b.1 past ne)))
@@ -329,7 +330,7 @@ module _ (c : Conf) (s : ℕ) (past : History) (w : What) (u : Served) (h : Hist
         ]
 
         comes : replied y.request past ≡ false → Comes c a.request Stream s p y.request (id_in g) g past w h
-        comes un = subst (λ w. Comes c a.request Stream s p y.request (id_in g) g past w h) (sym event.1) (frame_comes c s past p event.0 f.fr f.more u.server.by_stream h x g gs y a lt (subst (λ w. Kept s past w Tick f.fr f.more u.server.by_stream h) event.1 kept) conn more good held ask (let z = soon.asked y.request a ask in let n = f.clock in omega arith) un)
+        comes un = subst (λ w. Comes c a.request Stream s p y.request (id_in g) g past w h) (sym event.1) (frame_comes c s past p event.0 f.fr f.more u.server.by_stream h x g gs y a lt (subst (λ w. Kept c s past w Tick f.fr f.more u.server.by_stream h) event.1 kept) conn more good held ask (let z = soon.asked y.request a ask in let n = f.clock in omega arith) un)
 
         go : replied y.request past ≡ false → (b : Bool) → answers a.request (id_in g) g ≡ b → PostRight c y.request (if b then Ok g else Err errors.WrongReplyForQuery) past w h
         go un true e = is_fresh c s p y.request (id_in g) a.request g past w h (comes un) e
@@ -340,12 +341,12 @@ module _ (c : Conf) (s : ℕ) (past : History) (w : What) (u : Served) (h : Hist
   settles_post next v x _ none kept untimed (AsItIs set) z i un = absurd (subst (λ ps. IsPosted z ps) none i)
   settles_post next v x _ none kept untimed (WithResult k a y held stage) z i un = elim i [ inl e ↦ subst (λ (z : Post). replied z.request past ≡ false → PostRight c z.request z.result past w (put_all (outs_of x) h)) e (λ un. (let st : StageFits c s k a.request past w v.pending (put_all (outs_of x) h) (Ending y) = subst (λ st. StageFits c s k a.request past w v.pending (put_all (outs_of x) h) st) stage (kept.held k a held).stage in st un (untimed k a held y stage))) un | inr b ↦ absurd b ]
 
-  pub acts_post : (next : ℕ) → next ≡ reach h → s < length c.servers → (d : Step Served) → Acts s next u d → (z : Post) → IsPosted z d.posts → replied z.request past ≡ false → PostRight c z.request z.result past w (put_all d.outs h)
-  acts_post next is lt d (served.ByDgram x e _ tries set) z i un = settles_post next (has_moved (record u.server { by_dgram = e }) u) x d (tries_held s u.clock next u.server.by_dgram e x f.settled tries).0 (trying.tries_half c s past w u h f e x (subst₂ (λ n next. Tries s n next u.server.by_dgram x e) f.clock is tries)).dgrams (tries_untimed s u.clock next u.server.by_dgram e x f.settled tries) set z i un
+  pub acts_post : (next : ℕ) → next ≡ reach h → s < length c.servers → (d : Step Served) → Acts c s next u d → (z : Post) → IsPosted z d.posts → replied z.request past ≡ false → PostRight c z.request z.result past w (put_all d.outs h)
+  acts_post next is lt d (served.ByDgram x e _ tries set) z i un = settles_post next (has_moved (record u.server { by_dgram = e }) u) x d (tries_held c s u.clock next u.server.by_dgram e x f.settled tries).0 (trying.tries_half c s past w u h f e x (subst₂ (λ n next. Tries c s n next u.server.by_dgram x e) f.clock is tries)).dgrams (tries_untimed c s u.clock next u.server.by_dgram e x f.settled tries) set z i un
   acts_post next is lt _ (served.ByStream x m move) z i un = post_right x (moves_act next m x move) z i un
   acts_post next is lt _ (served.FallsBack k a held stage) z i un = absurd i
-  acts_post next is lt d (served.TellsDgrams x e _ untaken soon meets foreign set) z i un = settles_post next (served.has_taken_it (record u.server { by_dgram = e }) u) x d (meets_held u.clock u.server.by_dgram e u.pending x meets).0 (dgram_taken.met c s past w u h f lt untaken soon next is e x meets foreign).dgrams (meets_untimed u.clock u.server.by_dgram e u.pending x f.settled meets) set z i un
-  acts_post next is lt _ (served.TellsStreams x m untaken plain takes ignored) z i un = absurd (subst (λ ps. IsPosted z ps) (takes_held u.clock u.server.by_stream m u.pending x takes).0 i)
+  acts_post next is lt d (served.TellsDgrams x e _ untaken soon meets foreign set) z i un = settles_post next (served.has_taken_it (record u.server { by_dgram = e }) u) x d (meets_held c u.clock u.server.by_dgram e u.pending x meets).0 (dgram_taken.met c s past w u h f lt untaken soon next is e x meets foreign).dgrams (meets_untimed c u.clock u.server.by_dgram e u.pending x f.settled meets) set z i un
+  acts_post next is lt _ (served.TellsStreams x m untaken plain takes ignored) z i un = absurd (subst (λ ps. IsPosted z ps) (takes_held c u.clock u.server.by_stream m u.pending x takes).0 i)
   acts_post next is lt _ (served.Reads p o x untaken pend conn) z i un = absurd i
   acts_post next is lt _ (served.TakesOne g gs x m more soon frame) z i un = post_right x (frame_act g gs more soon lt m x frame) z i un
   acts_post next is lt _ (served.ClosesFirst g gs k y m x since more soon frame conn mode late pumped) z i un = (let r = post_right (Gives k y) (frame_act g gs more soon lt m (Gives k y) frame) z i in reply_put c past w (Close u.place) h z.request z.result (silent_on z.request (Close u.place) h refl) (r un))

@@ -9,7 +9,7 @@ use Rattle.client_request.specs.declared.event.What.TheVariants.{Datagram, Bytes
 use Rattle.client_request.specs.declared.event.Out.TheVariants.{Start, OpenStream, Write, Close}
 use Rattle.client_request.specs.declared.event.Via.TheVariants.{Stream}
 use Rattle.right_trace.specs.Trace.{History, Conf, Put, put_all}
-use Rattle.right_trace.specs.Time.{now, read_timeout, response_timeout, stream_timeout}
+use Rattle.right_trace.specs.Time.{now, read_timeout, response_timeout, stream_timeout, recv_size}
 use Rattle.right_trace.specs.Messages.{Octets, answers, truncated, id_in}
 use Rattle.right_trace.specs.Places.{site, is_of_kind, is_told, reach}
 use Rattle.right_trace.specs.Writes.{Written}
@@ -54,16 +54,16 @@ module _ (c : Conf) (s next : ℕ) (past : History) (w : What) (u : Served) (h :
   -- what becomes of a message that is to be taken
   pub data Fate (p k id : ℕ) (m : Octets) (a : Asker) (d : Step Served) : Type 0 where
     Given : IsPosted (record { request = k; result = result_of a.request id m }) d.posts → Fate p k id m a d
-    TimedOut : a.since + stream_timeout ≤ u.clock → d.state.server.by_stream.asks k ≡ None → Fate p k id m a d
+    TimedOut : a.since + stream_timeout c ≤ u.clock → d.state.server.by_stream.asks k ≡ None → Fate p k id m a d
     Remains : (b : Asker) → IsUntaken d.state p k id m b → b.request ≡ a.request → b.since ≡ a.since → Fate p k id m a d
-    Excused : IsExcused p past w (put_all d.outs h) → Fate p k id m a d
+    Excused : IsExcused c p past w (put_all d.outs h) → Fate p k id m a d
 
   -- a place that its read timer closes
-  excused : (p q : ℕ) (z : Conn) (since : ℕ) → q ≡ p → u.server.by_stream.conns q ≡ Some z → z.mode ≡ multi.Active since → since + response_timeout < now h → IsExcused p past w (Put (Close q) ∷ h)
+  excused : (p q : ℕ) (z : Conn) (since : ℕ) → q ≡ p → u.server.by_stream.conns q ≡ Some z → z.mode ≡ multi.Active since → since + response_timeout c < now h → IsExcused c p past w (Put (Close q) ∷ h)
   unfolding IsExcused
   excused p q z since is conn mode late = (
     let t : (q == p) ≡ true = grind (arith, nat_tests) in rw t refl,
-    subst (λ q. ReadTimerIsDue q (now h) past) is (f.streams.late q z conn since mode late),
+    subst (λ q. ReadTimerIsDue c q (now h) past) is (f.streams.late q z conn since mode late),
     subst (λ q. is_of_kind Stream (site q h) ≡ true) is (subst (λ x. is_of_kind Stream x ≡ true) (sym (f.streams.conns q z conn).at) refl),
   )
 
@@ -76,7 +76,7 @@ module _ (c : Conf) (s next : ℕ) (past : History) (w : What) (u : Served) (h :
 
     -- its id is held
     its_id : HoldsId u.server.by_stream.conns p id k
-    its_id = subst (λ ph. PhaseFits s k a.request u.server.by_stream.conns u.server.by_stream.opening h ph) x.phase (f.streams.asks k a x.ask).phase
+    its_id = subst (λ ph. PhaseFits c s k a.request u.server.by_stream.conns u.server.by_stream.opening h ph) x.phase (f.streams.asks k a x.ask).phase
 
     its_written : (y : Conn) → u.server.by_stream.conns p ≡ Some y → (z : Written) × (y.ids id ≡ Some z) × (z.request ≡ k)
     its_written y conn = (let i = its_id in let z : Some i.conn ≡ Some y = sym i.is_conn ∙ conn in let same : i.conn ≡ y = cc in (i.written, subst (λ (y : Conn). y.ids id ≡ Some i.written) same i.is_held, i.its))
@@ -105,7 +105,7 @@ module _ (c : Conf) (s next : ℕ) (past : History) (w : What) (u : Served) (h :
     remains : (m' : Multi) (y : Act) → Keeps m' → Fate p k id m a (does (has_moved (record u.server { by_stream = m' }) u) next y)
     remains m' y z = Remains z.asker (still u (has_moved (record u.server { by_stream = m' }) u) p k id m a x refl refl refl refl z) z.request z.since
 
-    moves_go : (m' : Multi) (y : Act) → Moves s u.clock next u.server.by_stream y m' → Fate p k id m a (does (has_moved (record u.server { by_stream = m' }) u) next y)
+    moves_go : (m' : Multi) (y : Act) → Moves c s u.clock next u.server.by_stream y m' → Fate p k id m a (does (has_moved (record u.server { by_stream = m' }) u) next y)
     moves_go _ _ (multi.Joins j b q z ask phase conn) = remains _ Nothing (other_asks j (Some (multi.moved b (multi.Lined q))) (multi.move j b (multi.Lined q) u.server.by_stream) refl refl (differ j b multi.Free ask phase (λ q i e. cc)))
     moves_go _ _ (multi.Expects j b q ask phase op) = remains _ Nothing (other_asks j (Some (multi.moved b multi.Expecting)) (multi.move j b multi.Expecting u.server.by_stream) refl refl (differ j b multi.Free ask phase (λ q i e. cc)))
     moves_go _ _ (multi.Opens j b ask phase none full) = remains _ (Puts (OpenStream next s)) (other_asks j (Some (multi.moved b multi.Expecting)) (record (multi.move j b multi.Expecting u.server.by_stream) { opening = Some next }) refl refl (differ j b multi.Free ask phase (λ q i e. cc)))
@@ -116,11 +116,11 @@ module _ (c : Conf) (s next : ℕ) (past : History) (w : What) (u : Served) (h :
     moves_go _ _ (multi.FindsNoId j b q z ask phase conn none full) = remains _ Nothing (other_asks j (Some (multi.moved b multi.Broken)) (multi.move j b multi.Broken u.server.by_stream) refl refl (differ j b (multi.Lined q) ask phase (λ q i e. cc)))
     moves_go _ _ (multi.GoesOn j b until ask phase late) = remains _ Nothing (other_asks j (Some (multi.moved b multi.Free)) (multi.move j b multi.Free u.server.by_stream) refl refl (differ j b (multi.BackingOff until) ask phase (λ q i e. cc)))
     moves_go _ _ (multi.TimesOut j b ask late) = elim (cases_eq j k) [
-      | inl is ↦ (let z : Some b ≡ Some a = sym ask ∙ (ap u.server.by_stream.asks is ∙ x.ask) in let same : b ≡ a = cc in TimedOut (subst (λ (b : Asker). b.since + stream_timeout ≤ u.clock) same late) (subst (λ j. with_at j None u.server.by_stream.asks k ≡ None) (sym is) (at_here k None u.server.by_stream.asks)))
+      | inl is ↦ (let z : Some b ≡ Some a = sym ask ∙ (ap u.server.by_stream.asks is ∙ x.ask) in let same : b ≡ a = cc in TimedOut (subst (λ (b : Asker). b.since + stream_timeout c ≤ u.clock) same late) (subst (λ j. with_at j None u.server.by_stream.asks k ≡ None) (sym is) (at_here k None u.server.by_stream.asks)))
       | inr ne ↦ remains _ (Gives j (Err errors.StreamReadTimeout)) (other_asks j None (multi.drop j u.server.by_stream) refl refl ne)
     ]
     moves_go _ _ (multi.ReadsNothing q z since conn mode late) = elim (cases_eq q p) [
-      | inl is ↦ Excused (excused p q z since is conn mode (subst (λ n. since + response_timeout < n) f.clock late))
+      | inl is ↦ Excused (excused p q z since is conn mode (subst (λ n. since + response_timeout c < n) f.clock late))
       | inr ne ↦ remains _ (Puts (Close q)) (ended_there q ne)
     ]
     moves_go _ _ (multi.RestsTooLong q z since conn mode late pumped) = elim (cases_eq q p) [
@@ -203,7 +203,7 @@ module _ (c : Conf) (s next : ℕ) (past : History) (w : What) (u : Served) (h :
     falls_go j b held = Remains a (record { ask = at_there j k _ u.server.by_stream.asks (dgram_other j b held) ∙ x.ask; phase = x.phase; conn = x.conn; is_conn = x.is_conn; source = source_same u _ p id m x.conn.got x.conn.got refl refl refl refl refl x.source }) refl refl
 
     -- the event is for datagrams
-    not_octets : (e : Dgrams) (v : What) (y : Act) → Meets u.clock u.server.by_dgram v y e → (q : ℕ) (o : Octets) → v ≢ Bytes q o
+    not_octets : (e : Dgrams) (v : What) (y : Act) → Meets c u.clock u.server.by_dgram v y e → (q : ℕ) (o : Octets) → v ≢ Bytes q o
     not_octets _ _ _ (dgrams.IsSent j b q i o at held stage carries) r z = λ e. cc
     not_octets _ _ _ (dgrams.CannotBeSent j b q e at held stage bad) r z = λ e. cc
     not_octets _ _ _ (dgrams.DoesNotOpen j b q g at held stage) r z = λ e. cc
@@ -219,7 +219,7 @@ module _ (c : Conf) (s next : ℕ) (past : History) (w : What) (u : Served) (h :
         go (InOctets o pend un' first) = plain p o pend
         go (AmongFrames place tk first) = (let z : true ≡ false = sym tk ∙ un in cc)
 
-    pub stream_goes : (d : Step Served) → Acts s next u d → Fate p k id m a d
+    pub stream_goes : (d : Step Served) → Acts c s next u d → Fate p k id m a d
     stream_goes d (served.ByDgram y e _ tries set) = settles_go _ y d refl refl refl refl refl (late.tries_late c s next past w u h f e y tries).1 set
     stream_goes _ (served.ByStream y m' move) = moves_go m' y move
     stream_goes _ (served.FallsBack j b held stage) = falls_go j b held
@@ -252,7 +252,7 @@ module _ (c : Conf) (s next : ℕ) (past : History) (w : What) (u : Served) (h :
             let conn' : m'.conns p ≡ Some y = ap m'.conns (sym at) ∙ conn in
             let fit = (one.streams.conns p y conn').mode in
             let i : IdleFits p since past (one.fr p) y h = subst (λ mode. ModeFits s p past (one.fr p) y h mode) mode fit in
-            let hold : HoldsId m'.conns p id k = subst (λ ph. PhaseFits s k z.asker.request m'.conns m'.opening h ph) (z.phase ∙ x.phase) (one.streams.asks k z.asker z.ask).phase in
+            let hold : HoldsId m'.conns p id k = subst (λ ph. PhaseFits c s k z.asker.request m'.conns m'.opening h ph) (z.phase ∙ x.phase) (one.streams.asks k z.asker z.ask).phase in
             let n : Some hold.conn ≡ Some y = sym hold.is_conn ∙ conn' in
             let same : hold.conn ≡ y = cc in
             let some : y.ids id ≡ Some hold.written = subst (λ (y : Conn). y.ids id ≡ Some hold.written) same hold.is_held in
@@ -261,30 +261,30 @@ module _ (c : Conf) (s next : ℕ) (past : History) (w : What) (u : Served) (h :
 
   -- By datagram
 
-  module _ (p k : ℕ) (m : Octets) (a : Tryer) (id t : ℕ) (o : Octets) (pend : u.pending ≡ Datagram p o) (un : u.taken ≡ false) (held : u.server.by_dgram.held k ≡ Some a) (at : u.server.by_dgram.at p ≡ Some k) (stage : a.stage ≡ Sent p id t) (soon : u.clock < t + read_timeout) (long : 12 ≤ length (take 2000 o)) (same : take 2000 o ≡ m) (ok : answers a.request id m ≡ true) (whole : truncated m ≡ false) where
+  module _ (p k : ℕ) (m : Octets) (a : Tryer) (id t : ℕ) (o : Octets) (pend : u.pending ≡ Datagram p o) (un : u.taken ≡ false) (held : u.server.by_dgram.held k ≡ Some a) (at : u.server.by_dgram.at p ≡ Some k) (stage : a.stage ≡ Sent p id t) (soon : u.clock < t + read_timeout c) (long : 12 ≤ length (take (recv_size c) o)) (same : take (recv_size c) o ≡ m) (ok : answers a.request id m ≡ true) (whole : truncated m ≡ false) where
     abbrev Result' : Step Served → Type 0
-    Result' d = IsPosted (record { request = k; result = Ok m }) d.posts ⊎ (Expects d.state p k m ⊎ IsExcused p past w (put_all d.outs h))
+    Result' d = IsPosted (record { request = k; result = Ok m }) d.posts ⊎ (Expects c d.state p k m ⊎ IsExcused c p past w (put_all d.outs h))
 
     differs : (j : ℕ) (b : Tryer) (st : Stage) → u.server.by_dgram.held j ≡ Some b → b.stage ≡ st → (st ≡ Sent p id t → ⊥) → j ≢ k
     differs j b st h' st' ne same = ne (let z : Some b ≡ Some a = sym h' ∙ (ap u.server.by_dgram.held same ∙ held) in let y : b ≡ a = cc in sym st' ∙ (ap (λ (a : Tryer). a.stage) y ∙ stage))
 
     -- who is timed out is another
-    not_late : (j : ℕ) (b : Tryer) (q i n : ℕ) → u.server.by_dgram.held j ≡ Some b → b.stage ≡ Sent q i n → n + read_timeout ≤ u.clock → j ≢ k
+    not_late : (j : ℕ) (b : Tryer) (q i n : ℕ) → u.server.by_dgram.held j ≡ Some b → b.stage ≡ Sent q i n → n + read_timeout c ≤ u.clock → j ≢ k
     not_late j b q i n h' st' late' = differs j b (Sent q i n) h' st' (λ e. (let z : n ≡ t = cc in omega arith))
 
     -- its place is another
     place_differs : (j : ℕ) (b : Tryer) (q i n : ℕ) → u.server.by_dgram.held j ≡ Some b → b.stage ≡ Sent q i n → j ≢ k → q ≢ p
     place_differs j b q i n h' st' ne same = ne (let y = f.dgrams.points j b h' q (ap placed st') in let z : Some j ≡ Some k = sym y ∙ (ap u.server.by_dgram.at same ∙ at) in cc)
 
-    tries_stay : (d : Dgrams) (y : Act) → Tries s u.clock next u.server.by_dgram y d → (d.held k ≡ Some a) × (d.at p ≡ Some k)
+    tries_stay : (d : Dgrams) (y : Act) → Tries c s u.clock next u.server.by_dgram y d → (d.held k ≡ Some a) × (d.at p ≡ Some k)
     tries_stay _ _ (dgrams.Opens j b h' st' few) = (at_there j k _ u.server.by_dgram.held (differs j b Queued h' st' (λ e. cc)) ∙ held, at_there next p _ u.server.by_dgram.at (let low = place_below c s past w u.pending u.server.by_dgram h p k f.dgrams at in λ e. omega arith) ∙ at)
     tries_stay _ _ (dgrams.Retries j b q i n h' st' late' few) = (let ne = not_late j b q i n h' st' late' in (at_there j k _ u.server.by_dgram.held ne ∙ held, at_there q p _ u.server.by_dgram.at (place_differs j b q i n h' st' ne) ∙ at))
     tries_stay _ _ (dgrams.StopsTrying j b q i n h' st' late' six) = (let ne = not_late j b q i n h' st' late' in (at_there j k _ u.server.by_dgram.held ne ∙ held, at_there q p _ u.server.by_dgram.at (place_differs j b q i n h' st' ne) ∙ at))
     tries_stay _ _ (dgrams.Ends j b x h' st') = absurd (f.settled j b h' x st')
 
     settles_stay : (v : Served) (y : Act) (d : Step Served) → v.pending ≡ u.pending → v.taken ≡ u.taken → v.clock ≡ u.clock → v.server.by_dgram.held k ≡ Some a → v.server.by_dgram.at p ≡ Some k → Settles s u.clock next v y d → Result' d
-    settles_stay v y _ pe tk ck h' a' (AsItIs set) = inr (inl (ByDatagram a id t o (pe ∙ pend) (tk ∙ un) h' a' stage (subst (λ n. n < t + read_timeout) (sym ck) soon) long same ok whole))
-    settles_stay v y _ pe tk ck h' a' (WithResult j b z h'' st'') = (let ne = ended v j b h' h'' (Ending z) st'' (λ e. cc) in inr (inl (ByDatagram a id t o (pe ∙ pend) (tk ∙ un) (at_there j k None v.server.by_dgram.held ne ∙ h') a' stage (subst (λ n. n < t + read_timeout) (sym ck) soon) long same ok whole)))
+    settles_stay v y _ pe tk ck h' a' (AsItIs set) = inr (inl (ByDatagram a id t o (pe ∙ pend) (tk ∙ un) h' a' stage (subst (λ n. n < t + read_timeout c) (sym ck) soon) long same ok whole))
+    settles_stay v y _ pe tk ck h' a' (WithResult j b z h'' st'') = (let ne = ended v j b h' h'' (Ending z) st'' (λ e. cc) in inr (inl (ByDatagram a id t o (pe ∙ pend) (tk ∙ un) (at_there j k None v.server.by_dgram.held ne ∙ h') a' stage (subst (λ n. n < t + read_timeout c) (sym ck) soon) long same ok whole)))
       where
         ended : (v : Served) (j : ℕ) (b : Tryer) → v.server.by_dgram.held k ≡ Some a → v.server.by_dgram.held j ≡ Some b → (st : Stage) → b.stage ≡ st → (st ≡ Sent p id t → ⊥) → j ≢ k
         ended v j b h' h'' st e ne is = ne (let z : Some b ≡ Some a = sym h'' ∙ (ap v.server.by_dgram.held is ∙ h') in let y : b ≡ a = cc in sym e ∙ (ap (λ (a : Tryer). a.stage) y ∙ stage))
@@ -294,7 +294,7 @@ module _ (c : Conf) (s next : ℕ) (past : History) (w : What) (u : Served) (h :
     falls_stay j b h' st' = inr (inl (ByDatagram a id t o pend un (at_there j k None u.server.by_dgram.held (differs j b Cut h' st' (λ e. cc)) ∙ held) at stage soon long same ok whole))
 
     -- the datagram is taken: it is the result
-    answer_ends : (b : Bool) → truncated (take 2000 o) ≡ b → (if b then Cut else Ending (Ok (take 2000 o))) ≡ Ending (Ok m)
+    answer_ends : (b : Bool) → truncated (take (recv_size c) o) ≡ b → (if b then Cut else Ending (Ok (take (recv_size c) o))) ≡ Ending (Ok m)
     answer_ends true e = absurd (let z : truncated m ≡ true = ap truncated (sym same) ∙ e in let y : true ≡ false = sym z ∙ whole in cc)
     answer_ends false e = ap (λ m. Ending (Ok m)) same
 
@@ -304,7 +304,7 @@ module _ (c : Conf) (s next : ℕ) (past : History) (w : What) (u : Served) (h :
       pub ends : tryer.stage ≡ Ending (Ok m)
       pub others : (j : ℕ) (b : Tryer) → j ≢ k → d.held j ≡ Some b → (y : Result Octets Error) → b.stage ≢ Ending y
 
-    is_answer : (d : Dgrams) (v : What) (y : Act) → v ≡ Datagram p o → Meets u.clock u.server.by_dgram v y d → IsTheAnswer d
+    is_answer : (d : Dgrams) (v : What) (y : Act) → v ≡ Datagram p o → Meets c u.clock u.server.by_dgram v y d → IsTheAnswer d
     is_answer _ _ _ e (dgrams.IsSent j b q i z at' h' st' carries) = absurd (cc)
     is_answer _ _ _ e (dgrams.CannotBeSent j b q z at' h' st' bad) = absurd (cc)
     is_answer _ _ _ e (dgrams.DoesNotOpen j b q g at' h' st') = absurd (cc)
@@ -316,9 +316,9 @@ module _ (c : Conf) (s next : ℕ) (past : History) (w : What) (u : Served) (h :
         let oct : z ≡ o = cc in
         let who : j ≡ k = (let y : Some j ≡ Some k = sym at' ∙ (ap u.server.by_dgram.at place ∙ at) in cc) in
         record {
-          tryer = dgrams.staged b (stage_of (take 2000 z));
-          is_held = subst (λ j. with_at j (Some (dgrams.staged b (stage_of (take 2000 z)))) u.server.by_dgram.held k ≡ Some (dgrams.staged b (stage_of (take 2000 z)))) (sym who) (at_here k _ u.server.by_dgram.held);
-          ends = subst (λ z. stage_of (take 2000 z) ≡ Ending (Ok m)) (sym oct) (answer_ends (truncated (take 2000 o)) refl);
+          tryer = dgrams.staged b (stage_of (take (recv_size c) z));
+          is_held = subst (λ j. with_at j (Some (dgrams.staged b (stage_of (take (recv_size c) z)))) u.server.by_dgram.held k ≡ Some (dgrams.staged b (stage_of (take (recv_size c) z)))) (sym who) (at_here k _ u.server.by_dgram.held);
+          ends = subst (λ z. stage_of (take (recv_size c) z) ≡ Ending (Ok m)) (sym oct) (answer_ends (truncated (take (recv_size c) o)) refl);
           others = λ l x ne is. f.settled l x (sym (at_there j l _ u.server.by_dgram.held (λ e. ne (sym e ∙ who))) ∙ is);
         }
 
@@ -329,7 +329,7 @@ module _ (c : Conf) (s next : ℕ) (past : History) (w : What) (u : Served) (h :
       | inr ne ↦ absurd (it.others j b ne h' z st')
     ]
 
-    no_stream : (m' : Multi) (v : What) (y : Act) → v ≡ Datagram p o → Takes u.clock u.server.by_stream v y m' → ⊥
+    no_stream : (m' : Multi) (v : What) (y : Act) → v ≡ Datagram p o → Takes c u.clock u.server.by_stream v y m' → ⊥
     no_stream _ _ _ e (multi.ItOpens q op) = cc
     no_stream _ _ _ e (multi.ItDoesNotOpen q g calm op lt) = cc
     no_stream _ _ _ e (multi.ItFails v q x conn told) = (let z : is_told q (Datagram p o) ≡ true = subst (λ v. is_told q v ≡ true) e told in cc)
@@ -338,7 +338,7 @@ module _ (c : Conf) (s next : ℕ) (past : History) (w : What) (u : Served) (h :
     no_stream _ _ _ e (multi.NothingToWrite q n x conn none) = cc
     no_stream _ _ _ e (multi.OctetsCome q z x conn) = cc
 
-    pub dgram_goes : (d : Step Served) → Acts s next u d → Result' d
+    pub dgram_goes : (d : Step Served) → Acts c s next u d → Result' d
     dgram_goes d (served.ByDgram y e _ tries set) = (let z = tries_stay e y tries in settles_stay _ y d refl refl refl z.0 z.1 set)
     dgram_goes _ (served.ByStream y m' move) = inr (inl (ByDatagram a id t o pend un held at stage soon long same ok whole))
     dgram_goes _ (served.FallsBack j b h' st') = falls_stay j b h' st'
@@ -348,7 +348,7 @@ module _ (c : Conf) (s next : ℕ) (past : History) (w : What) (u : Served) (h :
     dgram_goes _ (served.TakesOne g gs y m' more soon' frame) = absurd (let z = framing.is_taken c s past w u h f g gs more in let y : true ≡ false = sym z ∙ un in cc)
     dgram_goes _ (served.ClosesFirst g gs j r m' y since more soon' frame conn mode late' pumped) = absurd (let z = framing.is_taken c s past w u h f g gs more in let y : true ≡ false = sym z ∙ un in cc)
 
-  acts_clock : (d : Step Served) → Acts s next u d → d.state.clock ≡ u.clock
+  acts_clock : (d : Step Served) → Acts c s next u d → d.state.clock ≡ u.clock
   acts_clock d (served.ByDgram y e _ tries set) = settles_clock _ y d set
     where
       settles_clock : (v : Served) (y : Act) (d : Step Served) → Settles s u.clock next v y d → d.state.clock ≡ v.clock
@@ -367,16 +367,16 @@ module _ (c : Conf) (s next : ℕ) (past : History) (w : What) (u : Served) (h :
   acts_clock _ (served.ClosesFirst g gs j r m' y since more soon' frame conn mode late' pumped) = refl
 
   -- an answer that is to be taken
-  goes_on : (d : Step Served) → Acts s next u d → (p k id : ℕ) (m : Octets) (a : Asker) (x : IsUntaken u p k id m a) → u.clock < a.since + stream_timeout → answers a.request id m ≡ true → IsPosted (record { request = k; result = Ok m }) d.posts ⊎ (Expects d.state p k m ⊎ IsExcused p past w (put_all d.outs h))
+  goes_on : (d : Step Served) → Acts c s next u d → (p k id : ℕ) (m : Octets) (a : Asker) (x : IsUntaken u p k id m a) → u.clock < a.since + stream_timeout c → answers a.request id m ≡ true → IsPosted (record { request = k; result = Ok m }) d.posts ⊎ (Expects c d.state p k m ⊎ IsExcused c p past w (put_all d.outs h))
   goes_on d act p k id m a x soon ok = go (stream_goes p k id m a x d act)
     where
-      go : Fate p k id m a d → IsPosted (record { request = k; result = Ok m }) d.posts ⊎ (Expects d.state p k m ⊎ IsExcused p past w (put_all d.outs h))
+      go : Fate p k id m a d → IsPosted (record { request = k; result = Ok m }) d.posts ⊎ (Expects c d.state p k m ⊎ IsExcused c p past w (put_all d.outs h))
       go (Given i) = inl (subst (λ b. IsPosted (record { request = k; result = if b then Ok m else Err errors.WrongReplyForQuery }) d.posts) ok i)
       go (TimedOut late' none) = absurd (omega arith)
-      go (Remains b y request since) = inr (inl (expects_it d.state p k id m b y (let n = acts_clock d act in omega arith) (subst (λ r. answers r id m ≡ true) (sym request) ok)))
+      go (Remains b y request since) = inr (inl (expects_it c d.state p k id m b y (let n = acts_clock d act in omega arith) (subst (λ r. answers r id m ≡ true) (sym request) ok)))
       go (Excused e) = inr (inr e)
 
-  pub acts_goes : (d : Step Served) → Acts s next u d → (p k : ℕ) (m : Octets) → Goes Served Expects past w h u d p k m
+  pub acts_goes : (d : Step Served) → Acts c s next u d → (p k : ℕ) (m : Octets) → Goes c Served (Expects c) past w h u d p k m
   acts_goes d act p k m (ByDatagram a id t o pend un held at stage soon long same ok whole) = dgram_goes p k m a id t o pend un held at stage soon long same ok whole d act
   acts_goes d act p k m (ByOctets a id o x pend un ask soon phase conn first ok) = goes_on d act p k id m a (record { ask = ask; phase = phase; conn = x; is_conn = conn; source = InOctets o pend un first }) soon ok
   acts_goes d act p k m (InFrames a id x place tk ask soon phase conn first ok) = goes_on d act p k id m a (record { ask = ask; phase = phase; conn = x; is_conn = conn; source = AmongFrames place tk first }) soon ok

@@ -97,16 +97,16 @@ not_start k s j t u ne = elim (cases_eq t s) [
     and_none true false = refl
     and_none false b = refl
 
-pub waited_start : (k s t : ℕ) (u v : Via) (r : Request) (p j id : ℕ) (x : Octets) (ms : List Octets) (past h : History) → is_start j t Stream (Start k s u) ≡ false → IsAmong x (waited_for v r t p j id (now h) ms past (Put (Start k s u) ∷ h)) → IsAmong x (waited_for v r t p j id (now h) ms past h)
-waited_start k s t u Dgram r p j id x ms past h apart i = i
-waited_start k s t u Stream r p j id x ms past h apart i = subst (λ b. IsAmong x (if is_before (now h) (if b then Some (now h) else start j t Stream h) then octets_for j (waiting_with ms p id h) else [])) apart i
+pub waited_start : (c : Conf) → (k s t : ℕ) (u v : Via) (r : Request) (p j id : ℕ) (x : Octets) (ms : List Octets) (past h : History) → is_start j t Stream (Start k s u) ≡ false → IsAmong x (waited_for c v r t p j id (now h) ms past (Put (Start k s u) ∷ h)) → IsAmong x (waited_for c v r t p j id (now h) ms past h)
+waited_start c k s t u Dgram r p j id x ms past h apart i = i
+waited_start c k s t u Stream r p j id x ms past h apart i = subst (λ b. IsAmong x (if is_before c (now h) (if b then Some (now h) else start j t Stream h) then octets_for j (waiting_with ms p id h) else [])) apart i
 
 pub owed_start : (c : Conf) (k s j t : ℕ) (u : Via) (past : History) (w : What) (h : History) → is_start j t Stream (Start k s u) ≡ false → IsOwed c t j past w (Put (Start k s u) ∷ h) → IsOwed c t j past w h
 owed_start c k s j t u past w h apart o = record { request = o.request; via = o.via; place = o.place; id = o.id; asked = o.asked; alive = o.alive; at = o.at; octets = o.octets; sent = back o.via o.sent; carries = o.carries }
   where
-    back : (v : Via) → IsAmong o.octets (waited_for v o.request t o.place j o.id (now h) (came_here o.place h) (Put (Start k s u) ∷ h) (Put (Start k s u) ∷ h)) → IsAmong o.octets (waited_for v o.request t o.place j o.id (now h) (came_here o.place h) h h)
+    back : (v : Via) → IsAmong o.octets (waited_for c v o.request t o.place j o.id (now h) (came_here o.place h) (Put (Start k s u) ∷ h) (Put (Start k s u) ∷ h)) → IsAmong o.octets (waited_for c v o.request t o.place j o.id (now h) (came_here o.place h) h h)
     back Dgram i = i
-    back Stream i = waited_start k s t u Stream o.request o.place j o.id o.octets (came_here o.place h) h h apart i
+    back Stream i = waited_start c k s t u Stream o.request o.place j o.id o.octets (came_here o.place h) h h apart i
 
 module _ (c : Conf) (s next k t : ℕ) (r : Request) (past : History) (w : What) (u : Served) (h : History) (f : Fits c s past w u h) (asked : asking k h ≡ Some (record { request = r; moment = t })) (unhanded : handed k s h ≡ false) where
   no_dgram : started k s Dgram h ≡ false
@@ -133,7 +133,7 @@ module _ (c : Conf) (s next k t : ℕ) (r : Request) (past : History) (w : What)
 
   handed_in : (how : _) (x : Act) (v : Server) → use_at s c.servers ≡ Some how → server.IsHanded how s u.clock k r u.server x v → Moved c s past w u h f v (does (has_moved v u) next x).outs
   handed_in how _ _ used (server.ToDgrams is free) = record {
-    streams = kept_put s past w u.pending f.fr f.more u.server.by_stream (Start k s Dgram) h (record { conns = λ q x e. refl; opening = λ q e. refl; below = λ q e. absurd (cc); asks = λ j a e. refl; elsewhere = λ q e g. absurd (cc) }) f.streams;
+    streams = kept_put c s past w u.pending f.fr f.more u.server.by_stream (Start k s Dgram) h (record { conns = λ q x e. refl; opening = λ q e. refl; below = λ q e. absurd (cc); asks = λ j a e. refl; elsewhere = λ q e g. absurd (cc) }) f.streams;
     dgrams = begins_d c s past w u.pending u.server.by_dgram h k r t f.dgrams asked no_stream (f.unsent k unhanded) free;
     conns = same_conns u.server.by_stream.conns;
     asks = λ j a e. inl (a, e);
@@ -144,7 +144,7 @@ module _ (c : Conf) (s next k t : ℕ) (r : Request) (past : History) (w : What)
     unsent = unsent_start Dgram;
   }
   handed_in how _ _ used (server.ToStreams is free) = record {
-    streams = subst (λ n. Kept s past w u.pending f.fr f.more (record u.server.by_stream { asks = with_at k (Some (record { request = r; since = n; phase = multi.Free })) u.server.by_stream.asks }) (Put (Start k s Stream) ∷ h)) (sym f.clock) (opening.begins s past w u.pending f.fr f.more u.server.by_stream h k r t f.streams asked (none_started k s h no_stream));
+    streams = subst (λ n. Kept c s past w u.pending f.fr f.more (record u.server.by_stream { asks = with_at k (Some (record { request = r; since = n; phase = multi.Free })) u.server.by_stream.asks }) (Put (Start k s Stream) ∷ h)) (sym f.clock) (opening.begins c s past w u.pending f.fr f.more u.server.by_stream h k r t f.streams asked (none_started k s h no_stream));
     dgrams = kept_put_d c s past w u.pending u.server.by_dgram (Start k s Stream) h (quiet_other s u.server.by_dgram (Start k s Stream) h (λ j a e. (let ne : k ≢ j = λ i. unheld a (ap u.server.by_dgram.held i ∙ e) in grind (arith, nat_tests))) (λ q. refl) refl) f.dgrams;
     conns = same_conns u.server.by_stream.conns;
     asks = each_at (λ j b. ((b : Asker) × (u.server.by_stream.asks j ≡ Some b)) ⊎ (start j s Stream h ≡ None)) k (record { request = r; since = u.clock; phase = multi.Free }) u.server.by_stream.asks (inr (none_started k s h no_stream)) (λ j b ne e. inl (b, e));
@@ -217,15 +217,15 @@ module _ (c : Conf) (s next k t : ℕ) (r : Request) (past : History) (w : What)
           let b = f.begun p j id x.is_open.octets (at_is s p h here) a in
           (let z : started k s Stream h ≡ true = subst (λ k. started k s Stream h ≡ true) (sym same) b in let y : true ≡ false = sym z ∙ no_stream in cc)
 
-      back : (v : Via) → site p past ≡ Some (record { via = v; server = i }) → IsAmong x.is_open.octets (waited_for v q i p j id (now h) [] past (Put (Start k s via) ∷ h)) → IsAmong x.is_open.octets (waited_for v q i p j id (now h) [] past h)
+      back : (v : Via) → site p past ≡ Some (record { via = v; server = i }) → IsAmong x.is_open.octets (waited_for c v q i p j id (now h) [] past (Put (Start k s via) ∷ h)) → IsAmong x.is_open.octets (waited_for c v q i p j id (now h) [] past h)
       back Dgram at a = a
-      back Stream at a = waited_start k s i via Stream q p j id x.is_open.octets [] past h (not_start k s j i via (ne at (before_of (is_before (now h) (start j i Stream (Put (Start k s via) ∷ h))) x.is_open.octets (octets_for j (waiting_with [] p id h)) a).1)) a
+      back Stream at a = waited_start c k s i via Stream q p j id x.is_open.octets [] past h (not_start k s j i via (ne at (before_of (is_before c (now h) (start j i Stream (Put (Start k s via) ∷ h))) x.is_open.octets (octets_for j (waiting_with [] p id h)) a).1)) a
 
   pub starts_come : (d : Step Served) → Starts c s next k r u d → (i : ℕ) (q : Request) (v : Via) (p j id : ℕ) (m : Octets) → Comes c q v i p j id m past w (put_all d.outs h) → Comes c q v i p j id m past w h
   starts_come _ (IsHanded how x v used (server.ToDgrams is free)) i q via p j id m z = comes_start Dgram i q via p j id m z
   starts_come _ (IsHanded how x v used (server.ToStreams is free)) i q via p j id m z = comes_start Stream i q via p j id m z
 
-  pub starts_late : (d : Step Served) → Starts c s next k r u d → Late c Served holds Expects s past w h d
+  pub starts_late : (d : Step Served) → Starts c s next k r u d → Late c Served holds (Expects c) s past w h d
   starts_late _ (IsHanded how x v used (server.ToDgrams is free)) i q via p j id m z = inl (record { comes = comes_start Dgram i q via p j id m z.comes; agrees = z.agrees; whole = z.whole })
   starts_late _ (IsHanded how x v used (server.ToStreams is free)) i q via p j id m z = inl (record { comes = comes_start Stream i q via p j id m z.comes; agrees = z.agrees; whole = z.whole })
 
@@ -233,7 +233,7 @@ module _ (c : Conf) (s next k t : ℕ) (r : Request) (past : History) (w : What)
   starts_tells _ (IsHanded how x v used (server.ToDgrams is free)) = record { stays = λ e. e; few = omega arith; by_event = λ e. absurd (omega arith) }
   starts_tells _ (IsHanded how x v used (server.ToStreams is free)) = record { stays = λ e. e; few = omega arith; by_event = λ e. absurd (omega arith) }
 
-  pub starts_goes : (d : Step Served) → Starts c s next k r u d → (p j : ℕ) (m : Octets) → Goes Served Expects past w h u d p j m
+  pub starts_goes : (d : Step Served) → Starts c s next k r u d → (p j : ℕ) (m : Octets) → Goes c Served (Expects c) past w h u d p j m
   starts_goes _ (IsHanded how x v used (server.ToDgrams is free)) p j m (ByDatagram b id n o pend un held at st soon long same ok whole) = inr (inl (ByDatagram b id n o pend un (at_there k j _ u.server.by_dgram.held (λ e. unheld b (ap u.server.by_dgram.held e ∙ held)) ∙ held) at st soon long same ok whole))
   starts_goes _ (IsHanded how x v used (server.ToDgrams is free)) p j m (ByOctets b id o y pend un ask soon ph conn first ok) = inr (inl (ByOctets b id o y pend un ask soon ph conn first ok))
   starts_goes _ (IsHanded how x v used (server.ToDgrams is free)) p j m (InFrames b id y pl tk ask soon ph conn first ok) = inr (inl (InFrames b id y pl tk ask soon ph conn first ok))

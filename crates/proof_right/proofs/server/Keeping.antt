@@ -1,4 +1,5 @@
 -- Each move of one server's part keeps all that is known.
+use Rattle.right_trace.specs.Time.{max_tries}
 use Rattle.std.proofs.Common.{◌≡◌, ◌≢◌, ℕ, ◌+◌, ◌≤◌, ◌<◌, true, false, ◌⊎◌, inl, inr, Option, Some, None, List, [], ◌∷◌, refl, arith, ◌∙◌, sym, subst, ap, ◌==◌}
 use Rattle.std.specs.Prelude.{Err}
 use Rattle.std.proofs.lemmas.Bool.{eqb-true}
@@ -38,8 +39,8 @@ use Rattle.proof_right.proofs.server.Silent as silent
 pub two_kinds : (s : ℕ) (x : Option Site) → x ≡ Some (stream_site s) → x ≡ Some (dgram_site s) → ⊥
 two_kinds s x a b = (let z : is_of_kind Stream (Some (stream_site s)) ≡ is_of_kind Stream (Some (dgram_site s)) = ap (is_of_kind Stream) (sym a ∙ b) in let y : true ≡ false = z in cc)
 
-pub close_foreign : (s : ℕ) (past : History) (w pend : What) (fr more : ℕ → List Octets) (m : Multi) (h : History) (p : ℕ) → Kept s past w pend fr more m h → site p h ≡ Some (dgram_site s) → p < reach h → IsForeignOut s m (Close p) h
-close_foreign s past w pend fr more m h p kept at low = record {
+pub close_foreign : (c : Conf) → (s : ℕ) (past : History) (w pend : What) (fr more : ℕ → List Octets) (m : Multi) (h : History) (p : ℕ) → Kept c s past w pend fr more m h → site p h ≡ Some (dgram_site s) → p < reach h → IsForeignOut s m (Close p) h
+close_foreign c s past w pend fr more m h p kept at low = record {
   conns = λ q x e. apart q (λ is. two_kinds s (site q h) (kept.conns q x e).at (ap (λ q. site q h) (sym is) ∙ at));
   opening = λ q e. apart q (λ is. two_kinds s (site q h) (kept.opening q e).at (ap (λ q. site q h) (sym is) ∙ at));
   below = λ q e. (let is : p ≡ q = eqb-true p q e in omega arith);
@@ -107,10 +108,10 @@ module _ (c : Conf) (s : ℕ) (past : History) (w : What) (u : Served) (h : Hist
       let g = f.dgrams.held k a held in
       let st = standing c s k p a.request past w u.pending h a.stage at g.stage in
       let low = place_below c s past w u.pending u.server.by_dgram h p k f.dgrams (f.dgrams.points k a held p at) in
-      let few : a.tries + 0 ≤ 6 = (let z = g.few in omega arith) in
+      let few : a.tries + 0 ≤ max_tries c = (let z = g.few in omega arith) in
       let twice : (j : ℕ) (b : Tryer) → with_at k None (with_at k (Some (dgrams.staged a (Ending (Err errors.TimedOut)))) u.server.by_dgram.held) j ≡ Some b → with_at k None u.server.by_dgram.held j ≡ Some b = λ j b e. each_other (λ j (b : Tryer). with_at k None u.server.by_dgram.held j ≡ Some b) k (with_at k (Some (dgrams.staged a (Ending (Err errors.TimedOut)))) u.server.by_dgram.held) (λ j b ne e. at_there k j None u.server.by_dgram.held ne ∙ (sym (at_there k j _ u.server.by_dgram.held ne) ∙ e)) j b e in
       record {
-        streams = kept_put s past w u.pending f.fr f.more u.server.by_stream (Close p) h (close_foreign s past w u.pending f.fr f.more u.server.by_stream h p f.streams st.1 low) f.streams;
+        streams = kept_put c s past w u.pending f.fr f.more u.server.by_stream (Close p) h (close_foreign c s past w u.pending f.fr f.more u.server.by_stream h p f.streams st.1 low) f.streams;
         dgrams = forgets c s past w u.pending (leave p k a (Ending (Err errors.TimedOut)) u.server.by_dgram) (Put (Close p) ∷ h) k (dgrams.staged a (Ending (Err errors.TimedOut))) (closes_d c s past w u.pending u.server.by_dgram h p k a (Ending (Err errors.TimedOut)) f.dgrams held at refl few (λ un late. absurd (late refl))) (at_here k _ u.server.by_dgram.held) refl;
         conns = same_conns u.server.by_stream.conns;
         asks = λ j b e. inl (b, e);
@@ -121,7 +122,7 @@ module _ (c : Conf) (s : ℕ) (past : History) (w : What) (u : Served) (h : Hist
         unsent = f.unsent;
       }
   gives_up k _ _ (server.AtStreams none) = record {
-    streams = silent.drops s past w u.pending f.fr f.more u.server.by_stream h k f.streams;
+    streams = silent.drops c s past w u.pending f.fr f.more u.server.by_stream h k f.streams;
     dgrams = f.dgrams;
     conns = same_conns u.server.by_stream.conns;
     asks = each_other (λ j b. ((b : Asker) × (u.server.by_stream.asks j ≡ Some b)) ⊎ (start j s Stream h ≡ None)) k u.server.by_stream.asks (λ j b ne e. inl (b, e));

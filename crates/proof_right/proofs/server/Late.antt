@@ -67,19 +67,19 @@ starts_same (Reply j x) q k s h = refl
 pub comes_out : (c : Conf) (r : Request) (v : Via) (s p k id : ℕ) (m : Octets) (past : History) (w : What) (o : Out) (h : History) → IsQuiet o → Comes c r v s p k id m past w (Put o ∷ h) → Comes c r v s p k id m past w h
 comes_out c r v s p k id m past w o h q x = (let y = x.is_open in record { is_open = record { stands = y.stands; octets = y.octets; sent = back v y.sent; carries = y.carries }; first = x.first })
   where
-    back : (v : Via) → IsAmong x.is_open.octets (waited_for v r s p k id (now h) [] past (Put o ∷ h)) → IsAmong x.is_open.octets (waited_for v r s p k id (now h) [] past h)
+    back : (v : Via) → IsAmong x.is_open.octets (waited_for c v r s p k id (now h) [] past (Put o ∷ h)) → IsAmong x.is_open.octets (waited_for c v r s p k id (now h) [] past h)
     back Dgram i = i
-    back Stream i = subst (λ t. IsAmong x.is_open.octets (if is_before (now h) t then octets_for k (waiting_with [] p id h) else [])) (starts_same o q k s h) (subst (λ ws. IsAmong x.is_open.octets (if is_before (now h) (start k s Stream (Put o ∷ h)) then octets_for k ws else [])) (waits_same o q p id h) i)
+    back Stream i = subst (λ t. IsAmong x.is_open.octets (if is_before c (now h) t then octets_for k (waiting_with [] p id h) else [])) (starts_same o q k s h) (subst (λ ws. IsAmong x.is_open.octets (if is_before c (now h) (start k s Stream (Put o ∷ h)) then octets_for k ws else [])) (waits_same o q p id h) i)
 
 -- what comes by a move came before, or it is by stream for this server, and is still to be taken, in time
 abbrev pub ComesLate : (c : Conf) (s : ℕ) (past : History) (w : What) (h : History) (d : Step Served) → Type 0
-ComesLate c s past w h d = (t : ℕ) (r : Request) (v : Via) (p k id : ℕ) (m : Octets) → Comes c r v t p k id m past w (put_all d.outs h) → Comes c r v t p k id m past w h ⊎ ((t ≡ s) × (v ≡ Stream) × ((a : Asker) × IsUntaken d.state p k id m a × (a.request ≡ r) × (d.state.clock < a.since + stream_timeout)))
+ComesLate c s past w h d = (t : ℕ) (r : Request) (v : Via) (p k id : ℕ) (m : Octets) → Comes c r v t p k id m past w (put_all d.outs h) → Comes c r v t p k id m past w h ⊎ ((t ≡ s) × (v ≡ Stream) × ((a : Asker) × IsUntaken d.state p k id m a × (a.request ≡ r) × (d.state.clock < a.since + stream_timeout c)))
 
 -- so it is of what matches
-pub late_of : (c : Conf) (s : ℕ) (past : History) (w : What) (h : History) (d : Step Served) → ComesLate c s past w h d → Late c Served holds Expects s past w h d
+pub late_of : (c : Conf) (s : ℕ) (past : History) (w : What) (h : History) (d : Step Served) → ComesLate c s past w h d → Late c Served holds (Expects c) s past w h d
 late_of c s past w h d late t r v p k id m z = elim (late t r v p k id m z.comes) [
   | inl y ↦ inl (record { comes = y; agrees = z.agrees; whole = z.whole })
-  | inr y ↦ inr (y.0, or_last (is_some (d.state.server.by_dgram.held k)) (is_some (d.state.server.by_stream.asks k)) (ap is_some y.2.1.ask), expects_it d.state p k id m y.2.0 y.2.1 y.2.3 (subst (λ r. answers r id m ≡ true) (sym y.2.2) z.agrees))
+  | inr y ↦ inr (y.0, or_last (is_some (d.state.server.by_dgram.held k)) (is_some (d.state.server.by_stream.asks k)) (ap is_some y.2.1.ask), expects_it c d.state p k id m y.2.0 y.2.1 y.2.3 (subst (λ r. answers r id m ≡ true) (sym y.2.2) z.agrees))
 ]
   where
     or_last : (x y : Bool) → y ≡ true → (x || y) ≡ true
@@ -97,9 +97,9 @@ module _ (c : Conf) (s next : ℕ) (past : History) (w : What) (u : Served) (h :
           let b = f.begun p j id x.is_open.octets (at_is s p h here) a in
           (let z : started k s Stream h ≡ true = subst (λ k. started k s Stream h ≡ true) (sym same) b in let y : true ≡ false = sym z ∙ un in cc)
 
-      back : (v : Via) → site p past ≡ Some (record { via = v; server = i }) → IsAmong x.is_open.octets (waited_for v r i p j id (now h) [] past (Put (Start k s Stream) ∷ h)) → IsAmong x.is_open.octets (waited_for v r i p j id (now h) [] past h)
+      back : (v : Via) → site p past ≡ Some (record { via = v; server = i }) → IsAmong x.is_open.octets (waited_for c v r i p j id (now h) [] past (Put (Start k s Stream) ∷ h)) → IsAmong x.is_open.octets (waited_for c v r i p j id (now h) [] past h)
       back Dgram at a = a
-      back Stream at a = waited_start k s i Stream Stream r p j id x.is_open.octets [] past h (not_start k s j i Stream (ne at (before_of (is_before (now h) (start j i Stream (Put (Start k s Stream) ∷ h))) x.is_open.octets (octets_for j (waiting_with [] p id h)) a).1)) a
+      back Stream at a = waited_start c k s i Stream Stream r p j id x.is_open.octets [] past h (not_start k s j i Stream (ne at (before_of (is_before c (now h) (start j i Stream (Put (Start k s Stream) ∷ h))) x.is_open.octets (octets_for j (waiting_with [] p id h)) a).1)) a
 
   abbrev IsQuietAct : Act → Type 0
   IsQuietAct (Puts o) = IsQuiet o
@@ -118,13 +118,13 @@ module _ (c : Conf) (s next : ℕ) (past : History) (w : What) (u : Served) (h :
   some_at : (k : ℕ) (a b : Tryer) (g : ℕ → Option Tryer) → g k ≡ Some a → (j : ℕ) (x : Tryer) → with_at k (Some b) g j ≡ Some x → (y : Tryer) × (g j ≡ Some y)
   some_at k a b g e j x i = each_at (λ j (x : Tryer). (y : Tryer) × (g j ≡ Some y)) k b g (a, e) (λ j x ne i. (x, i)) j x i
 
-  pub tries_late : (d : Dgrams) (x : Act) → Tries s u.clock next u.server.by_dgram x d → IsQuietAct x × ((k : ℕ) (a : Tryer) → d.held k ≡ Some a → (b : Tryer) × (u.server.by_dgram.held k ≡ Some b))
+  pub tries_late : (d : Dgrams) (x : Act) → Tries c s u.clock next u.server.by_dgram x d → IsQuietAct x × ((k : ℕ) (a : Tryer) → d.held k ≡ Some a → (b : Tryer) × (u.server.by_dgram.held k ≡ Some b))
   tries_late _ _ (dgrams.Opens k b held stage few) = (tt, some_at k b _ u.server.by_dgram.held held)
   tries_late _ _ (dgrams.Retries k b p id t held stage late few) = (tt, some_at k b _ u.server.by_dgram.held held)
   tries_late _ _ (dgrams.StopsTrying k b p id t held stage late six) = (tt, some_at k b _ u.server.by_dgram.held held)
   tries_late _ _ (dgrams.Ends k b x held stage) = (tt, each_other (λ j (x : Tryer). (y : Tryer) × (u.server.by_dgram.held j ≡ Some y)) k u.server.by_dgram.held (λ j x ne i. (x, i)))
 
-  pub meets_late : (d : Dgrams) (v : What) (x : Act) → Meets u.clock u.server.by_dgram v x d → IsQuietAct x × ((k : ℕ) (a : Tryer) → d.held k ≡ Some a → (b : Tryer) × (u.server.by_dgram.held k ≡ Some b))
+  pub meets_late : (d : Dgrams) (v : What) (x : Act) → Meets c u.clock u.server.by_dgram v x d → IsQuietAct x × ((k : ℕ) (a : Tryer) → d.held k ≡ Some a → (b : Tryer) × (u.server.by_dgram.held k ≡ Some b))
   meets_late _ _ _ (dgrams.IsSent k a p id o at held stage carries) = (tt, some_at k a _ u.server.by_dgram.held held)
   meets_late _ _ _ (dgrams.CannotBeSent k a p e at held stage bad) = (tt, some_at k a _ u.server.by_dgram.held held)
   meets_late _ _ _ (dgrams.DoesNotOpen k a p g at held stage) = (tt, some_at k a _ u.server.by_dgram.held held)
@@ -133,7 +133,7 @@ module _ (c : Conf) (s next : ℕ) (past : History) (w : What) (u : Served) (h :
   meets_late _ _ _ (dgrams.NotReceived k a p id t g at held stage) = (tt, some_at k a _ u.server.by_dgram.held held)
   meets_late _ _ _ (dgrams.IsAnswered k a p id t o at held stage long ok) = (tt, some_at k a _ u.server.by_dgram.held held)
 
-  takes_quiet : (m : Multi) (v : What) (x : Act) → multi.Takes u.clock u.server.by_stream v x m → IsQuietAct x
+  takes_quiet : (m : Multi) (v : What) (x : Act) → multi.Takes c u.clock u.server.by_stream v x m → IsQuietAct x
   takes_quiet _ _ _ (multi.ItOpens p op) = tt
   takes_quiet _ _ _ (multi.ItDoesNotOpen p g calm op lt) = tt
   takes_quiet _ _ _ (multi.ItFails w p x conn told) = tt
@@ -155,10 +155,10 @@ module _ (c : Conf) (s next : ℕ) (past : History) (w : What) (u : Served) (h :
     abbrev h' : History
     h' = Put (Write p k id o) ∷ h
 
-    fit : ConnFits s p past u.pending (f.fr p) (f.more p) x h
+    fit : ConnFits c s p past u.pending (f.fr p) (f.more p) x h
     fit = f.streams.conns p x conn
 
-    asker : AskFits s k a u.server.by_stream.conns u.server.by_stream.opening h
+    asker : AskFits c s k a u.server.by_stream.conns u.server.by_stream.opening h
     asker = f.streams.asks k a ask
 
     -- the event is octets for this place, and is pending
@@ -197,7 +197,7 @@ module _ (c : Conf) (s next : ℕ) (past : History) (w : What) (u : Served) (h :
 
         go : (t : Bool) → u.taken ≡ t → IsPending m
         go false un = elim (bytes_or w) [
-          | inl other ↦ absurd (none_first m (came p w past) (no_frames_came s p w past h f.streams.row.before fit.at other) first)
+          | inl other ↦ absurd (none_first m (came p w past) (no_frames_came c s p w past h f.streams.row.before fit.at other) first)
           | inr e ↦ octets e un
         ]
         go true tk = absurd (let none : f.more p ≡ [] = fit.unread unheard (ap (λ v. brings_to p v) (f.taken tk).pending) in none_first m (came p w past) (sym at ∙ none) first)
@@ -205,10 +205,10 @@ module _ (c : Conf) (s next : ℕ) (past : History) (w : What) (u : Served) (h :
     lt_of : (n z : ℕ) → nat_lt n z ≡ true → n < z
     lt_of n z e = grind (arith, nat_tests)
 
-    soon : is_before (now h) (start k s Stream h) ≡ true → d.state.clock < b.since + stream_timeout
+    soon : is_before c (now h) (start k s Stream h) ≡ true → d.state.clock < b.since + stream_timeout c
     soon e =
-        let g : nat_lt (now h) (a.since + stream_timeout) ≡ true = subst (λ t. is_before (now h) t ≡ true) asker.since e in
-        let lt = lt_of (now h) (a.since + stream_timeout) g in
+        let g : nat_lt (now h) (a.since + stream_timeout c) ≡ true = subst (λ t. is_before c (now h) t ≡ true) asker.since e in
+        let lt = lt_of (now h) (a.since + stream_timeout c) g in
         let c = f.clock in
         let c' = clock in
         let n = since in
@@ -230,30 +230,30 @@ module _ (c : Conf) (s next : ℕ) (past : History) (w : What) (u : Served) (h :
     pub write_late : ComesLate c s past w h d
     write_late t r v q j i m z = go v refl (subst (λ os. Comes c r v t q j i m past w (put_all os h)) outs z)
       where
-        newly : Comes c r Stream t q j i m past w h' → p ≡ q → id ≡ i → k ≡ j → (t ≡ s) × ((a : Asker) × IsUntaken d.state q j i m a × (a.request ≡ r) × (d.state.clock < a.since + stream_timeout))
+        newly : Comes c r Stream t q j i m past w h' → p ≡ q → id ≡ i → k ≡ j → (t ≡ s) × ((a : Asker) × IsUntaken d.state q j i m a × (a.request ≡ r) × (d.state.clock < a.since + stream_timeout c))
         newly x' e g l =
             let pend = is_pending m (subst (λ i. first_with i (came p w past) ≡ Some m) (sym g) (subst (λ q. first_with i (came q w past) ≡ Some m) (sym e) x'.first)) in
             let at : site p past ≡ Some (record { via = Stream; server = t }) = subst (λ q. site q past ≡ Some (record { via = Stream; server = t })) (sym e) x'.is_open.stands.at in
             let is : t ≡ s = (let y : site p h ≡ Some (record { via = Stream; server = t }) = site_past p (record { via = Stream; server = t }) h (ap (site p) f.streams.row.before ∙ at) in let v : record { via = Stream; server = t } ≡ stream_site s = (let v = sym y ∙ fit.at in cc) in ap (λ (x : Site). x.server) v) in
-            let early = (before_of (is_before (now h) (start j t Stream h)) x'.is_open.octets (octets_for j (waiting_with [] q i h')) x'.is_open.sent).0 in
-            let early' : is_before (now h) (start k s Stream h) ≡ true = subst (λ t. is_before (now h) (start k t Stream h) ≡ true) is (subst (λ j. is_before (now h) (start j t Stream h) ≡ true) (sym l) early) in
+            let early = (before_of (is_before c (now h) (start j t Stream h)) x'.is_open.octets (octets_for j (waiting_with [] q i h')) x'.is_open.sent).0 in
+            let early' : is_before c (now h) (start k s Stream h) ≡ true = subst (λ t. is_before c (now h) (start k t Stream h) ≡ true) is (subst (λ j. is_before c (now h) (start j t Stream h) ≡ true) (sym l) early) in
             let event : w ≡ Bytes p pend.octets = sym (f.untaken pend.untaken).pending ∙ pend.event in
             let req = request_is r x'.is_open.stands.asked.0 (subst (λ j. asking j past ≡ Some (record { request = r; moment = x'.is_open.stands.asked.0 })) (sym l) x'.is_open.stands.asked.1) (ap is_ask event) in
             let it : IsUntaken d.state p k id m b = record { ask = ask'; phase = phase; conn = y; is_conn = conn'; source = InOctets pend.octets (pending ∙ pend.event) (taken ∙ pend.untaken) (subst (λ g. first_with id (fed g pend.octets).frames ≡ Some m) (sym got) pend.first) } in
             (is, (b, subst (λ i. IsUntaken d.state q j i m b) g (subst (λ j. IsUntaken d.state q j id m b) l (subst (λ q. IsUntaken d.state q k id m b) e it)), same ∙ sym req, soon early'))
 
-        go : (u : Via) → v ≡ u → Comes c r v t q j i m past w h' → Comes c r v t q j i m past w h ⊎ ((t ≡ s) × (v ≡ Stream) × ((a : Asker) × IsUntaken d.state q j i m a × (a.request ≡ r) × (d.state.clock < a.since + stream_timeout)))
-        go Dgram e x' = (let y = x'.is_open in inl (record { is_open = record { stands = y.stands; octets = y.octets; sent = subst (λ v. IsAmong y.octets (waited_for v r t q j i (now h) [] past h)) (sym e) (subst (λ v. IsAmong y.octets (waited_for v r t q j i (now h) [] past h')) e y.sent); carries = y.carries }; first = x'.first }))
+        go : (u : Via) → v ≡ u → Comes c r v t q j i m past w h' → Comes c r v t q j i m past w h ⊎ ((t ≡ s) × (v ≡ Stream) × ((a : Asker) × IsUntaken d.state q j i m a × (a.request ≡ r) × (d.state.clock < a.since + stream_timeout c)))
+        go Dgram e x' = (let y = x'.is_open in inl (record { is_open = record { stands = y.stands; octets = y.octets; sent = subst (λ v. IsAmong y.octets (waited_for c v r t q j i (now h) [] past h)) (sym e) (subst (λ v. IsAmong y.octets (waited_for c v r t q j i (now h) [] past h')) e y.sent); carries = y.carries }; first = x'.first }))
         go Stream e x' =
             let y = x'.is_open in
-            let sent : IsAmong y.octets (waited_for Stream r t q j i (now h) [] past h') = subst (λ v. IsAmong y.octets (waited_for v r t q j i (now h) [] past h')) e y.sent in
-            let both = before_of (is_before (now h) (start j t Stream h)) y.octets (octets_for j (waiting_with [] q i h')) sent in
+            let sent : IsAmong y.octets (waited_for c Stream r t q j i (now h) [] past h') = subst (λ v. IsAmong y.octets (waited_for c v r t q j i (now h) [] past h')) e y.sent in
+            let both = before_of (is_before c (now h) (start j t Stream h)) y.octets (octets_for j (waiting_with [] q i h')) sent in
             elim (new_or_old q j i y.octets (p == q) (id == i) (k == j) refl refl refl both.1) [
               | inl new ↦ (let z = newly (subst (λ v. Comes c r v t q j i m past w h') e x') new.0 new.1.0 new.1.1 in inr (z.0, e, z.1))
-              | inr old ↦ inl (record { is_open = record { stands = y.stands; octets = y.octets; sent = subst (λ v. IsAmong y.octets (waited_for v r t q j i (now h) [] past h)) (sym e) (rw both.0 old); carries = y.carries }; first = x'.first })
+              | inr old ↦ inl (record { is_open = record { stands = y.stands; octets = y.octets; sent = subst (λ v. IsAmong y.octets (waited_for c v r t q j i (now h) [] past h)) (sym e) (rw both.0 old); carries = y.carries }; first = x'.first })
             ]
 
-  moves_late : (m : Multi) (x : Act) → Moves s u.clock next u.server.by_stream x m → ComesLate c s past w h (does (has_moved (record u.server { by_stream = m }) u) next x)
+  moves_late : (m : Multi) (x : Act) → Moves c s u.clock next u.server.by_stream x m → ComesLate c s past w h (does (has_moved (record u.server { by_stream = m }) u) next x)
   moves_late _ _ (multi.Joins k a p x ask phase conn) t r v q j i n z = inl z
   moves_late _ _ (multi.Expects k a p ask phase op) t r v q j i n z = inl z
   moves_late _ _ (multi.Opens k a ask phase none full) t r v q j i n z = inl (comes_out c r v t q j i n past w (OpenStream next s) h tt z)
@@ -267,7 +267,7 @@ module _ (c : Conf) (s next : ℕ) (past : History) (w : What) (u : Served) (h :
   moves_late _ _ (multi.ReadsNothing p x since conn mode late) t r v q j i n z = inl (comes_out c r v t q j i n past w (Close p) h tt z)
   moves_late _ _ (multi.RestsTooLong p x since conn mode late pumped) t r v q j i n z = inl (comes_out c r v t q j i n past w (Close p) h tt z)
 
-  pub acts_come : (d : Step Served) → Acts s next u d → ComesLate c s past w h d
+  pub acts_come : (d : Step Served) → Acts c s next u d → ComesLate c s past w h d
   acts_come d (served.ByDgram x e _ tries set) = (let t = tries_late e x tries in settles_late _ x d t.0 t.1 set)
   acts_come _ (served.ByStream x m move) = moves_late m x move
   acts_come _ (served.FallsBack k a held stage) = λ t r v q j i n z. inl (comes_on_stream k (f.dgrams.held k a held).unstreamed r v t q j i n z)
@@ -277,5 +277,5 @@ module _ (c : Conf) (s next : ℕ) (past : History) (w : What) (u : Served) (h :
   acts_come _ (served.TakesOne g gs x m is soon frame) = λ t r v q j i n z. inl (quiet_back x (frame_quiet u.place g m x frame) t r v q j i n z)
   acts_come _ (served.ClosesFirst g gs k y m x since is soon frame conn mode late pumped) = λ t r v q j i n z. inl (comes_out c r v t q j i n past w (Close u.place) h tt z)
 
-  pub acts_late : (d : Step Served) → Acts s next u d → Late c Served holds Expects s past w h d
+  pub acts_late : (d : Step Served) → Acts c s next u d → Late c Served holds (Expects c) s past w h d
   acts_late d act = late_of c s past w h d (acts_come d act)

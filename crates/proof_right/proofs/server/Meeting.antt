@@ -10,7 +10,7 @@ use Rattle.client_request.specs.declared.event.Out.{Out}
 use Rattle.client_request.specs.declared.event.Out.TheVariants.{Send, Close}
 use Rattle.client_request.specs.declared.event.Via.TheVariants.{Dgram}
 use Rattle.right_trace.specs.Trace.{History, Conf, Put, put_all}
-use Rattle.right_trace.specs.Time.{now, read_timeout}
+use Rattle.right_trace.specs.Time.{now, read_timeout, recv_size, max_tries}
 use Rattle.right_trace.specs.Messages.{Octets, answers, truncated, is_valid, base_is_read, passes_count, fits, IsComposingFault}
 use Rattle.right_trace.specs.Requests.{asking, replied}
 use Rattle.right_trace.specs.Places.{is_site, Gone, Alive, stand, is_live}
@@ -53,20 +53,20 @@ cause_of : (c : Conf) (k t : ℕ) (r : Request) (past : History) (w : What) (h :
 cause_of c k t r past w h e asked (inl f) = subst (λ e. ServerCause c k past w h e) (sym f.0) (NotRead (record { asking_of = record { request = r; moment = t }; asked = asked; reason = f.1 }))
 cause_of c k t r past w h e asked (inr f) = subst (λ e. ServerCause c k past w h e) (sym f.0) (NotComposed (record { asking_of = record { request = r; moment = t }; asked = asked; reason = f.1 }))
 
-was_sent : (s p id t k : ℕ) (r : Request) (past : History) (w : What) (h : History) → (w ≡ Tick → ⊥) → SentFits s p id t k r past w h → (f : SentFits s p id t k r past w h) → Old s p id t k r f.octets past
-was_sent s p id t k r past w h ne g f = elim f.lived [ inl e ↦ absurd (ne e.0) | inr o ↦ o ]
+was_sent : (c : Conf) → (s p id t k : ℕ) (r : Request) (past : History) (w : What) (h : History) → (w ≡ Tick → ⊥) → SentFits c s p id t k r past w h → (f : SentFits c s p id t k r past w h) → Old c s p id t k r f.octets past
+was_sent c s p id t k r past w h ne g f = elim f.lived [ inl e ↦ absurd (ne e.0) | inr o ↦ o ]
 
-failed_at : (s : ℕ) (told : ℕ → What) (p id t k : ℕ) (r : Request) (past : History) (h : History) → (told p ≡ Tick → ⊥) → SentFits s p id t k r past (told p) h → FailedAt told k past (told p)
-failed_at s told p id t k r past h ne f = (let o = was_sent s p id t k r past (told p) h ne f f in record { place = p; server = s; is_told = refl; at = dgram_at s p past o.at; alive = o.alive; has_it = o.begun; request = r; asked = o.asked; send = record { id = id; octets = f.octets }; named_there = o.named; carries = f.carries })
+failed_at : (c : Conf) → (s : ℕ) (told : ℕ → What) (p id t k : ℕ) (r : Request) (past : History) (h : History) → (told p ≡ Tick → ⊥) → SentFits c s p id t k r past (told p) h → FailedAt c told k past (told p)
+failed_at c s told p id t k r past h ne f = (let o = was_sent c s p id t k r past (told p) h ne f f in record { place = p; server = s; is_told = refl; at = dgram_at s p past o.at; alive = o.alive; has_it = o.begun; request = r; asked = o.asked; send = record { id = id; octets = f.octets }; named_there = o.named; carries = f.carries })
 
 -- A datagram that answers comes for its request.
-pub answer_comes : (c : Conf) (s : ℕ) (past : History) (p : ℕ) (o : Octets) (h : History) (k id t : ℕ) (r : Request) → s < length c.servers → replied k past ≡ false → SentFits s p id t k r past (Datagram p o) h → now h < t + read_timeout → 12 ≤ length (take 2000 o) → Comes c r Dgram s p k id (take 2000 o) past (Datagram p o) h
+pub answer_comes : (c : Conf) (s : ℕ) (past : History) (p : ℕ) (o : Octets) (h : History) (k id t : ℕ) (r : Request) → s < length c.servers → replied k past ≡ false → SentFits c s p id t k r past (Datagram p o) h → now h < t + read_timeout c → 12 ≤ length (take (recv_size c) o) → Comes c r Dgram s p k id (take (recv_size c) o) past (Datagram p o) h
 answer_comes c s past p o h k id t r has un f early long =
-    let old = was_sent s p id t k r past (Datagram p o) h (λ e. cc) f f in
+    let old = was_sent c s p id t k r past (Datagram p o) h (λ e. cc) f f in
     let alive = old.alive in
     let at = old.at in
     let it : (p == p) ≡ true = grind (arith, nat_tests) in
-    let le : nat_le 12 (length (take 2000 o)) ≡ true = le_true 12 (length (take 2000 o)) long in
+    let le : nat_le 12 (length (take (recv_size c) o)) ≡ true = le_true 12 (length (take (recv_size c) o)) long in
     let open' = old.unanswered (now h) early in
     record {
       is_open = record { stands = record { asked = old.asked; waiting = un; alive = alive; at = at; known = has }; octets = f.octets; sent = rw open' (inl refl); carries = f.carries };
@@ -91,17 +91,17 @@ stage_owes m false = refl
 module _ (c : Conf) (s : ℕ) (past : History) (known : s < length c.servers) where
   -- what the event leaves, and what it puts out
   pub record Met (w : What) (m : Multi) (d' : Dgrams) (h : History) (outs : List Out) : Type 0 where
-    pub streams : Kept s past w Tick (λ q. []) (λ q. came q w past) m (put_all outs h)
+    pub streams : Kept c s past w Tick (λ q. []) (λ q. came q w past) m (put_all outs h)
     pub dgrams : KeptD c s past w Tick d' (put_all outs h)
     pub right : ((k : ℕ) (a : Tryer) → d'.held k ≡ Some a → replied k past ≡ false) → (end : History) → ServerOutsRight c past w end h outs
 
-  leaves : (w : What) (m : Multi) (d : Dgrams) (h : History) (k : ℕ) (a : Tryer) (p : ℕ) (st : Stage) → Kept s past w w (λ q. []) (λ q. came q w past) m h → KeptD c s past w w d h → d.held k ≡ Some a → placed a.stage ≡ Some p → placed st ≡ None → a.tries + owing st ≤ 6 → StageFits c s k a.request past w w (Put (Close p) ∷ h) st → IsForeign w m → ((d : Dgrams) → d.at p ≡ None → IsIgnored w d)
+  leaves : (w : What) (m : Multi) (d : Dgrams) (h : History) (k : ℕ) (a : Tryer) (p : ℕ) (st : Stage) → Kept c s past w w (λ q. []) (λ q. came q w past) m h → KeptD c s past w w d h → d.held k ≡ Some a → placed a.stage ≡ Some p → placed st ≡ None → a.tries + owing st ≤ max_tries c → StageFits c s k a.request past w w (Put (Close p) ∷ h) st → IsForeign w m → ((d : Dgrams) → d.at p ≡ None → IsIgnored c w d)
       → (((j : ℕ) (a' : Tryer) → (leave p k a st d).held j ≡ Some a' → replied j past ≡ false) → (end : History) → ServerOutsRight c past w end h (Close p ∷ [])) → Met w m (leave p k a st d) h (Close p ∷ [])
   leaves w m d h k a p st kept keptd held at free few fits foreign ignored right =
       let g = standing c s k p a.request past w w h a.stage at (keptd.held k a held).stage in
       let low = place_below c s past w w d h p k keptd (keptd.points k a held p at) in
       record {
-        streams = turns s past w w (λ q. []) (λ q. came q w past) m (Put (Close p) ∷ h) (kept_put s past w w (λ q. []) (λ q. came q w past) m (Close p) h (close_foreign s past w w (λ q. []) (λ q. came q w past) m h p kept g.1 low) kept) (foreign_done w m foreign);
+        streams = turns c s past w w (λ q. []) (λ q. came q w past) m (Put (Close p) ∷ h) (kept_put c s past w w (λ q. []) (λ q. came q w past) m (Close p) h (close_foreign c s past w w (λ q. []) (λ q. came q w past) m h p kept g.1 low) kept) (foreign_done w m foreign);
         dgrams = ignores c s past w w (leave p k a st d) (Put (Close p) ∷ h) (closes_d c s past w w d h p k a st keptd held at free few fits) kept.row.before (ignored (leave p k a st d) (at_here p None d.at));
         right = right;
       }
@@ -109,17 +109,17 @@ module _ (c : Conf) (s : ℕ) (past : History) (known : s < length c.servers) wh
   here_held : (k p : ℕ) (a : Tryer) (st : Stage) (d : Dgrams) → (leave p k a st d).held k ≡ Some (dgrams.staged a st)
   here_held k p a st d = at_here k (Some (dgrams.staged a st)) d.held
 
-  pub meets_met : (w : What) (m : Multi) (d : Dgrams) (h : History) → Kept s past w w (λ q. []) (λ q. came q w past) m h → KeptD c s past w w d h → ((k : ℕ) (a : Tryer) (p id t : ℕ) → d.held k ≡ Some a → a.stage ≡ Sent p id t → now h < t + read_timeout) → (d' : Dgrams) (x : Act) → Meets (now h) d w x d' → IsForeign w m → Met w m d' h (outs_of x)
+  pub meets_met : (w : What) (m : Multi) (d : Dgrams) (h : History) → Kept c s past w w (λ q. []) (λ q. came q w past) m h → KeptD c s past w w d h → ((k : ℕ) (a : Tryer) (p id t : ℕ) → d.held k ≡ Some a → a.stage ≡ Sent p id t → now h < t + read_timeout c) → (d' : Dgrams) (x : Act) → Meets c (now h) d w x d' → IsForeign w m → Met w m d' h (outs_of x)
   meets_met _ m d h kept keptd early _ _ (dgrams.IsSent k a p id o at held stage carries) foreign =
       let w = Opened p in
       let f = keptd.held k a held in
-      let try : TryingFits s p past w h = subst (λ st. StageFits c s k a.request past w w h st) stage f.stage in
-      let few : a.tries + 1 ≤ 6 = subst (λ st. a.tries + owing st ≤ 6) stage f.few in
+      let try : TryingFits c s p past w h = subst (λ st. StageFits c s k a.request past w w h st) stage f.stage in
+      let few : a.tries + 1 ≤ max_tries c = subst (λ st. a.tries + owing st ≤ max_tries c) stage f.few in
       let trials = f.trials in
       let it : (p == p) ≡ true = grind (arith, nat_tests) in
       let alive : stand p h ≡ Alive = try.stand ∙ rw it refl in
       record {
-        streams = kept_put s past w Tick (λ q. []) (λ q. came q w past) m (Send p k id o) h (record { conns = λ q x e. refl; opening = λ q e. refl; below = λ q e. absurd (cc); asks = λ j b e. refl; elsewhere = λ q e g. absurd (cc) }) (turns s past w w (λ q. []) (λ q. came q w past) m h kept (foreign_done w m foreign));
+        streams = kept_put c s past w Tick (λ q. []) (λ q. came q w past) m (Send p k id o) h (record { conns = λ q x e. refl; opening = λ q e. refl; below = λ q e. absurd (cc); asks = λ j b e. refl; elsewhere = λ q e g. absurd (cc) }) (turns c s past w w (λ q. []) (λ q. came q w past) m h kept (foreign_done w m foreign));
         dgrams = sends_d c s past w d h p k id a o keptd held stage carries;
         right = λ un end. ((omega arith, (λ i at'. (let z : i ≡ s = at_this i (rw try.at at at') in rw z (omega arith))), record { waits = un k _ (at_here k _ d.held); server = s; at = try.at; alive = alive; begun = f.has_it; request = a.request; asked = f.asked; carries = carries; first = try.unsent }), tt);
       }
@@ -129,45 +129,45 @@ module _ (c : Conf) (s : ℕ) (past : History) (known : s < length c.servers) wh
   meets_met _ m d h kept keptd early _ _ (dgrams.CannotBeSent k a p e at held stage bad) foreign =
       let w = Opened p in
       let f = keptd.held k a held in
-      let try : TryingFits s p past w h = subst (λ st. StageFits c s k a.request past w w h st) stage f.stage in
-      let few : a.tries + 0 ≤ 6 = (let z = f.few in omega arith) in
+      let try : TryingFits c s p past w h = subst (λ st. StageFits c s k a.request past w w h st) stage f.stage in
+      let few : a.tries + 0 ≤ max_tries c = (let z = f.few in omega arith) in
       leaves w m d h k a p (Ending (Err e)) kept keptd held (ap placed stage) refl few (λ un late. (cause_of c k f.asked.0 a.request past w (Put (Close p) ∷ h) e f.asked.1 bad, λ y. (p, refl))) foreign (λ d none x. (let z = sym none ∙ x.2 in cc))
       (λ un end. ((omega arith, OfDgram s (dgram_at s p h try.at) (InvalidBeforeItsSend (dgram_site s) try.at try.unsent k _ f.asked.1 (invalid a.request e bad) f.has_it), ap is_live try.untold), tt))
   meets_met _ m d h kept keptd early _ _ (dgrams.DoesNotOpen k a p g at held stage) foreign =
       let w = OpenFailed p g in
       let f = keptd.held k a held in
-      let try : TryingFits s p past w h = subst (λ st. StageFits c s k a.request past w w h st) stage f.stage in
+      let try : TryingFits c s p past w h = subst (λ st. StageFits c s k a.request past w w h st) stage f.stage in
       let it : (p == p) ≡ true = grind (arith, nat_tests) in
       let gone : stand p h ≡ Gone = try.stand ∙ rw it refl in
       let was : WasOpening p past h = elim try.was [ inl e ↦ inl e | inr e ↦ inr (e, gone) ] in
       record {
-        streams = turns s past w w (λ q. []) (λ q. came q w past) m h kept (foreign_done w m foreign);
+        streams = turns c s past w w (λ q. []) (λ q. came q w past) m h kept (foreign_done w m foreign);
         dgrams = fails_d c s past w d h p k g a (Ending (Err (errors.Dgram (query.Connect g)))) keptd held stage refl refl (λ un late. (NotOpened g (record { place = p; server = s; told = refl; was = was; at = dgram_at s p h try.at; has_it = f.has_it }), λ e. absurd (cc)));
         right = λ un end. tt;
       }
   meets_met _ m d h kept keptd early _ _ (dgrams.NotSent k a p id t g at held stage) foreign =
       let w = SendFailed p g in
-      let sent : SentFits s p id t k a.request past w h = subst (λ st. StageFits c s k a.request past w w h st) stage (keptd.held k a held).stage in
-      let few : a.tries + 0 ≤ 6 = (let z = (keptd.held k a held).few in omega arith) in
-      leaves w m d h k a p (Ending (Err (errors.Dgram (query.Send g)))) kept keptd held (ap placed stage) refl few (λ un late. (NotSent g (failed_at s (λ p. SendFailed p g) p id t k a.request past h (λ e. cc) sent), λ e. absurd (cc))) foreign (λ d none x. (let z = sym none ∙ x.4 in cc))
+      let sent : SentFits c s p id t k a.request past w h = subst (λ st. StageFits c s k a.request past w w h st) stage (keptd.held k a held).stage in
+      let few : a.tries + 0 ≤ max_tries c = (let z = (keptd.held k a held).few in omega arith) in
+      leaves w m d h k a p (Ending (Err (errors.Dgram (query.Send g)))) kept keptd held (ap placed stage) refl few (λ un late. (NotSent g (failed_at c s (λ p. SendFailed p g) p id t k a.request past h (λ e. cc) sent), λ e. absurd (cc))) foreign (λ d none x. (let z = sym none ∙ x.4 in cc))
       (λ un end. ((omega arith, OfDgram s (dgram_at s p h sent.at) (ItsFault (grind (arith, nat_tests))), was_alive p h sent.stand), tt))
   meets_met _ m d h kept keptd early _ _ (dgrams.SentShort k a p id t at held stage) foreign =
       let w = ShortSend p in
-      let sent : SentFits s p id t k a.request past w h = subst (λ st. StageFits c s k a.request past w w h st) stage (keptd.held k a held).stage in
-      let few : a.tries + 0 ≤ 6 = (let z = (keptd.held k a held).few in omega arith) in
-      leaves w m d h k a p (Ending (Err (errors.Dgram (query.Send fault.ShortSend)))) kept keptd held (ap placed stage) refl few (λ un late. (SentShort (failed_at s ShortSend p id t k a.request past h (λ e. cc) sent), λ e. absurd (cc))) foreign (λ d none x. (let z = sym none ∙ x.4 in cc))
+      let sent : SentFits c s p id t k a.request past w h = subst (λ st. StageFits c s k a.request past w w h st) stage (keptd.held k a held).stage in
+      let few : a.tries + 0 ≤ max_tries c = (let z = (keptd.held k a held).few in omega arith) in
+      leaves w m d h k a p (Ending (Err (errors.Dgram (query.Send fault.ShortSend)))) kept keptd held (ap placed stage) refl few (λ un late. (SentShort (failed_at c s ShortSend p id t k a.request past h (λ e. cc) sent), λ e. absurd (cc))) foreign (λ d none x. (let z = sym none ∙ x.4 in cc))
       (λ un end. ((omega arith, OfDgram s (dgram_at s p h sent.at) (ItsFault (grind (arith, nat_tests))), was_alive p h sent.stand), tt))
   meets_met _ m d h kept keptd early _ _ (dgrams.NotReceived k a p id t g at held stage) foreign =
       let w = RecvFailed p g in
-      let sent : SentFits s p id t k a.request past w h = subst (λ st. StageFits c s k a.request past w w h st) stage (keptd.held k a held).stage in
-      let few : a.tries + 0 ≤ 6 = (let z = (keptd.held k a held).few in omega arith) in
-      leaves w m d h k a p (Ending (Err (errors.Dgram (query.Receive g)))) kept keptd held (ap placed stage) refl few (λ un late. (NotReceived g (failed_at s (λ p. RecvFailed p g) p id t k a.request past h (λ e. cc) sent), λ e. absurd (cc))) foreign (λ d none x. (let z = sym none ∙ x.4 in cc))
+      let sent : SentFits c s p id t k a.request past w h = subst (λ st. StageFits c s k a.request past w w h st) stage (keptd.held k a held).stage in
+      let few : a.tries + 0 ≤ max_tries c = (let z = (keptd.held k a held).few in omega arith) in
+      leaves w m d h k a p (Ending (Err (errors.Dgram (query.Receive g)))) kept keptd held (ap placed stage) refl few (λ un late. (NotReceived g (failed_at c s (λ p. RecvFailed p g) p id t k a.request past h (λ e. cc) sent), λ e. absurd (cc))) foreign (λ d none x. (let z = sym none ∙ x.4 in cc))
       (λ un end. ((omega arith, OfDgram s (dgram_at s p h sent.at) (ItsFault (grind (arith, nat_tests))), was_alive p h sent.stand), tt))
   meets_met _ m d h kept keptd early _ _ (dgrams.IsAnswered k a p id t o at held stage long ok) foreign =
       let w = Datagram p o in
-      let sent : SentFits s p id t k a.request past w h = subst (λ st. StageFits c s k a.request past w w h st) stage (keptd.held k a held).stage in
-      let g = take 2000 o in
-      let few : a.tries + owing (stage_of g) ≤ 6 = (let z = (keptd.held k a held).few in let y = stage_owes g (truncated g) in omega arith) in
+      let sent : SentFits c s p id t k a.request past w h = subst (λ st. StageFits c s k a.request past w w h st) stage (keptd.held k a held).stage in
+      let g = take (recv_size c) o in
+      let few : a.tries + owing (stage_of g) ≤ max_tries c = (let z = (keptd.held k a held).few in let y = stage_owes g (truncated g) in omega arith) in
       leaves w m d h k a p (stage_of g) kept keptd held (ap placed stage) (stage_free g (truncated g)) few
       (answered c s past w (Put (Close p) ∷ h) p k id a.request g w (λ un. comes_put c a.request Dgram s p k id g past w (Close p) h refl (answer_comes c s past p o h k id t a.request known un sent (early k a p id t held stage) long)) ok (truncated g) refl) foreign
       (λ d none j b id t at. absurd (let z = sym none ∙ at in cc))

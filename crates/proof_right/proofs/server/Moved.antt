@@ -43,7 +43,7 @@ earlier_all P (o ∷ outs) h x = earlier_all P outs (Put o ∷ h) x
 
 pub not_heard : (c : Conf) (k s : ℕ) (h : History) → start k s Stream h ≡ None → EarlierRow (Heard c k s) h → ⊥
 not_heard c k s [] e x = x
-not_heard c k s (Came w ∷ h) e (inl x) = (let i = x.comes.is_open.sent in let z : is_before (now h) (start k s Stream h) ≡ false = rw e refl in subst (λ b. IsAmong x.comes.is_open.octets (if b then octets_for k (waiting_with [] x.place x.id h) else [])) z i)
+not_heard c k s (Came w ∷ h) e (inl x) = (let i = x.comes.is_open.sent in let z : is_before c (now h) (start k s Stream h) ≡ false = rw e refl in subst (λ b. IsAmong x.comes.is_open.octets (if b then octets_for k (waiting_with [] x.place x.id h) else [])) z i)
 not_heard c k s (Came w ∷ h) e (inr x) = not_heard c k s h e x
 not_heard c k s (Put o ∷ h) e x = go (is_start k s Stream o) (λ e. not_heard c k s h e x) e
   where
@@ -53,7 +53,7 @@ not_heard c k s (Put o ∷ h) e x = go (is_start k s Stream o) (λ e. not_heard 
 
 -- A move with this server and these outs.
 pub record Moved (c : Conf) (s : ℕ) (past : History) (w : What) (u : Served) (h : History) (f : Fits c s past w u h) (v : Server) (outs : List Out) : Type 0 where
-  pub streams : Kept s past w u.pending f.fr f.more v.by_stream (put_all outs h)
+  pub streams : Kept c s past w u.pending f.fr f.more v.by_stream (put_all outs h)
   pub dgrams : KeptD c s past w u.pending v.by_dgram (put_all outs h)
   pub conns : (q : ℕ) (x : Conn) → v.by_stream.conns q ≡ Some x → (y : Conn) × (u.server.by_stream.conns q ≡ Some y) × (x.heard ≡ y.heard)
   pub asks : (k : ℕ) (a : Asker) → v.by_stream.asks k ≡ Some a → ((b : Asker) × (u.server.by_stream.asks k ≡ Some b)) ⊎ (start k s Stream h ≡ None)
@@ -328,7 +328,7 @@ module _ (c : Conf) (s t : ℕ) (past : History) (w : What) (v : Served) (h : Hi
 
   pub others_put : (o : Out) → IsOf s o h → Fits c t past w v (Put o ∷ h)
   others_put o is = fits_after c t past w v h f v.server (o ∷ []) (record {
-    streams = kept_put t past w v.pending f.fr f.more v.server.by_stream o h (foreign o is) f.streams;
+    streams = kept_put c t past w v.pending f.fr f.more v.server.by_stream o h (foreign o is) f.streams;
     dgrams = kept_put_d c t past w v.pending v.server.by_dgram o h (other o is) f.dgrams;
     conns = λ q x e. (x, e, refl);
     asks = λ k a e. inl (a, e);

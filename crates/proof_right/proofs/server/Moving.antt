@@ -48,7 +48,7 @@ module _ (c : Conf) (s : ℕ) (past : History) (w : What) (u : Served) (h : Hist
   left_every g k a e = (let y = every_some g (m.asks k) a e in inl (y.0, y.1))
 
   -- nothing is put out
-  silent_move : (m' : Multi) → Kept s past w u.pending f.fr f.more m' h → ((q : ℕ) (x : Conn) → m'.conns q ≡ Some x → (y : Conn) × (m.conns q ≡ Some y) × (x.heard ≡ y.heard)) → AskLeft m'.asks → Moved c s past w u h f (record u.server { by_stream = m' }) []
+  silent_move : (m' : Multi) → Kept c s past w u.pending f.fr f.more m' h → ((q : ℕ) (x : Conn) → m'.conns q ≡ Some x → (y : Conn) × (m.conns q ≡ Some y) × (x.heard ≡ y.heard)) → AskLeft m'.asks → Moved c s past w u h f (record u.server { by_stream = m' }) []
   silent_move m' kept conns asks = record { streams = kept; dgrams = f.dgrams; conns = conns; asks = asks; held = f.by_dgram; settled = f.settled; one_id = f.one_id; begun = f.begun; unsent = f.unsent }
 
   conn_set : (p : ℕ) (x z : Conn) → m.conns p ≡ Some x → z.heard ≡ x.heard → (q : ℕ) (y : Conn) → with_at p (Some z) m.conns q ≡ Some y → (v : Conn) × (m.conns q ≡ Some v) × (y.heard ≡ v.heard)
@@ -57,10 +57,10 @@ module _ (c : Conf) (s : ℕ) (past : History) (w : What) (u : Served) (h : Hist
   conn_less : (p : ℕ) → (q : ℕ) (y : Conn) → with_at p None m.conns q ≡ Some y → (v : Conn) × (m.conns q ≡ Some v) × (y.heard ≡ v.heard)
   conn_less p = each_other (λ q y. (v : Conn) × (m.conns q ≡ Some v) × (y.heard ≡ v.heard)) p m.conns (λ q y ne g. (y, g, refl))
 
-  closes : (p : ℕ) (x : Conn) → m.conns p ≡ Some x → Kept s past w u.pending f.fr f.more (multi.end_at p m) (Put (Close p) ∷ h) → Moved c s past w u h f (record u.server { by_stream = multi.end_at p m }) (Close p ∷ [])
+  closes : (p : ℕ) (x : Conn) → m.conns p ≡ Some x → Kept c s past w u.pending f.fr f.more (multi.end_at p m) (Put (Close p) ∷ h) → Moved c s past w u h f (record u.server { by_stream = multi.end_at p m }) (Close p ∷ [])
   closes p x conn kept = record {
     streams = kept;
-    dgrams = kept_put_d c s past w u.pending u.server.by_dgram (Close p) h (close_other c s past w u.pending u.server.by_dgram h p f.dgrams (f.streams.conns p x conn).at (conn_below s past w u.pending f.fr f.more m h p x f.streams conn)) f.dgrams;
+    dgrams = kept_put_d c s past w u.pending u.server.by_dgram (Close p) h (close_other c s past w u.pending u.server.by_dgram h p f.dgrams (f.streams.conns p x conn).at (conn_below c s past w u.pending f.fr f.more m h p x f.streams conn)) f.dgrams;
     conns = conn_less p;
     asks = left_every (multi.broken_at p);
     held = f.by_dgram;
@@ -84,7 +84,7 @@ module _ (c : Conf) (s : ℕ) (past : History) (w : What) (u : Served) (h : Hist
   lined : (k p j : ℕ) (a : Asker) (x : Conn) (y : Octets) → m.asks k ≡ Some a → a.phase ≡ multi.Lined p → m.conns p ≡ Some x → x.heard ≡ false → IsAmong y (octets_for k (waiting_with [] p j h)) → ⊥
   lined k p j a x y ask phase conn unheard i = go (x.ids j) refl
     where
-      fit : ConnFits s p past u.pending (f.fr p) (f.more p) x h
+      fit : ConnFits c s p past u.pending (f.fr p) (f.more p) x h
       fit = f.streams.conns p x conn
 
       is : waiting_with [] p j h ≡ listed (x.ids j)
@@ -115,11 +115,11 @@ module _ (c : Conf) (s : ℕ) (past : History) (w : What) (u : Served) (h : Hist
   not_holding : (ph st : multi.Phase) → ph ≡ st → ((q i : ℕ) → st ≢ multi.Holding q i) → (q i : ℕ) → ph ≢ multi.Holding q i
   not_holding ph st e ne q i g = ne q i (sym e ∙ g)
 
-  moves_moved : (m' : Multi) (x : Act) → Moves s (now h) (reach h) m x m' → Moved c s past w u h f (record u.server { by_stream = m' }) (outs_of x)
-  moves_moved _ _ (multi.Joins k a p x ask phase conn) = silent_move _ (silent.moves s past w u.pending f.fr f.more m h k a (multi.Lined p) f.streams ask (not_holding a.phase multi.Free phase (λ q i e. cc)) (x, conn)) (same_conns m.conns) (left_at k a _ ask)
-  moves_moved _ _ (multi.Expects k a p ask phase op) = silent_move _ (silent.moves s past w u.pending f.fr f.more m h k a multi.Expecting f.streams ask (not_holding a.phase multi.Free phase (λ q i e. cc)) (p, op)) (same_conns m.conns) (left_at k a _ ask)
+  moves_moved : (m' : Multi) (x : Act) → Moves c s (now h) (reach h) m x m' → Moved c s past w u h f (record u.server { by_stream = m' }) (outs_of x)
+  moves_moved _ _ (multi.Joins k a p x ask phase conn) = silent_move _ (silent.moves c s past w u.pending f.fr f.more m h k a (multi.Lined p) f.streams ask (not_holding a.phase multi.Free phase (λ q i e. cc)) (x, conn)) (same_conns m.conns) (left_at k a _ ask)
+  moves_moved _ _ (multi.Expects k a p ask phase op) = silent_move _ (silent.moves c s past w u.pending f.fr f.more m h k a multi.Expecting f.streams ask (not_holding a.phase multi.Free phase (λ q i e. cc)) (p, op)) (same_conns m.conns) (left_at k a _ ask)
   moves_moved _ _ (multi.Opens k a ask phase none full) = record {
-    streams = opening.opens s past w u.pending f.fr f.more m h k a f.streams ask (not_holding a.phase multi.Free phase (λ q i e. cc)) none (f.free (reach h) (omega arith));
+    streams = opening.opens c s past w u.pending f.fr f.more m h k a f.streams ask (not_holding a.phase multi.Free phase (λ q i e. cc)) none (f.free (reach h) (omega arith));
     dgrams = kept_put_d c s past w u.pending u.server.by_dgram (OpenStream (reach h) s) h (open_other c s past w u.pending u.server.by_dgram h f.dgrams) f.dgrams;
     conns = same_conns m.conns;
     asks = left_at k a _ ask;
@@ -129,10 +129,10 @@ module _ (c : Conf) (s : ℕ) (past : History) (w : What) (u : Served) (h : Hist
     begun = λ q l i y at b. elim (new_place q at) [ inl old ↦ f.begun q l i y old b | inr new ↦ absurd (none_among l y (waiting_with [] q i h) (new i) b) ];
     unsent = f.unsent;
   }
-  moves_moved _ _ (multi.Meets k a until ask phase calm low high) = silent_move _ (silent.meets s past w u.pending f.fr f.more m h k a until f.streams ask (not_holding a.phase multi.Free phase (λ q i e. cc)) calm high) (same_conns m.conns) (left_at k a _ ask)
-  moves_moved _ _ (multi.BacksOff k a until ask phase low high) = silent_move _ (silent.breaks_off s past w u.pending f.fr f.more m h k a until f.streams ask phase high) (same_conns m.conns) (left_at k a _ ask)
+  moves_moved _ _ (multi.Meets k a until ask phase calm low high) = silent_move _ (silent.meets c s past w u.pending f.fr f.more m h k a until f.streams ask (not_holding a.phase multi.Free phase (λ q i e. cc)) calm high) (same_conns m.conns) (left_at k a _ ask)
+  moves_moved _ _ (multi.BacksOff k a until ask phase low high) = silent_move _ (silent.breaks_off c s past w u.pending f.fr f.more m h k a until f.streams ask phase high) (same_conns m.conns) (left_at k a _ ask)
   moves_moved _ _ (multi.Writes k a p x id o ask phase conn none quiet unheld carries some) = record {
-    streams = writing.writes s past w u.pending f.fr f.more m h k a p x id o f.streams ask phase conn none quiet unheld carries some;
+    streams = writing.writes c s past w u.pending f.fr f.more m h k a p x id o f.streams ask phase conn none quiet unheld carries some;
     dgrams = kept_put_d c s past w u.pending u.server.by_dgram (Write p k id o) h (quiet_other s u.server.by_dgram (Write p k id o) h (λ j b e. refl) (λ q. refl) refl) f.dgrams;
     conns = conn_set p x _ conn refl;
     asks = left_at k a _ ask;
@@ -151,14 +151,14 @@ module _ (c : Conf) (s : ℕ) (past : History) (w : What) (u : Served) (h : Hist
     begun = λ q l i y at b. elim (split p k id o q l i y b) [ inl new ↦ subst (λ l. started l s Stream h ≡ true) new.1.1 (let g = (f.streams.asks k a ask).since in rw g refl) | inr old ↦ f.begun q l i y at old ];
     unsent = f.unsent;
   }
-  moves_moved _ _ (multi.CannotWrite k a p x ask phase conn none bad) = silent_move _ (silent.cannot_write s past w u.pending f.fr f.more m h k a p x f.streams ask (not_holding a.phase (multi.Lined p) phase (λ q i e. cc)) conn bad) (conn_set p x _ conn refl) (left_at k a _ ask)
-  moves_moved _ _ (multi.FindsNoId k a p x ask phase conn none full) = silent_move _ (silent.finds_no_id s past w u.pending f.fr f.more m h k a p x f.streams ask (not_holding a.phase (multi.Lined p) phase (λ q i e. cc)) conn full) (same_conns m.conns) (left_at k a _ ask)
-  moves_moved _ _ (multi.GoesOn k a until ask phase late) = silent_move _ (silent.moves s past w u.pending f.fr f.more m h k a multi.Free f.streams ask (not_holding a.phase (multi.BackingOff until) phase (λ q i e. cc)) tt) (same_conns m.conns) (left_at k a _ ask)
-  moves_moved _ _ (multi.TimesOut k a ask late) = silent_move _ (silent.drops s past w u.pending f.fr f.more m h k f.streams) (same_conns m.conns) (each_other (λ j x. ((y : Asker) × (m.asks j ≡ Some y)) ⊎ (start j s Stream h ≡ None)) k m.asks (λ j x ne g. inl (x, g)))
-  moves_moved _ _ (multi.ReadsNothing p x since conn mode late) = closes p x conn (ends s past w u.pending f.fr f.more m h p x f.streams conn (λ k a e there. ByReadTimer (let due = f.streams.late p x conn since mode late in rw f.streams.row.before due)))
-  moves_moved _ _ (multi.RestsTooLong p x since conn mode late pumped) = closes p x conn (ends s past w u.pending f.fr f.more m h p x f.streams conn (idle_ends s past w u.pending f.fr f.more m h p x since f.streams conn mode late pumped))
+  moves_moved _ _ (multi.CannotWrite k a p x ask phase conn none bad) = silent_move _ (silent.cannot_write c s past w u.pending f.fr f.more m h k a p x f.streams ask (not_holding a.phase (multi.Lined p) phase (λ q i e. cc)) conn bad) (conn_set p x _ conn refl) (left_at k a _ ask)
+  moves_moved _ _ (multi.FindsNoId k a p x ask phase conn none full) = silent_move _ (silent.finds_no_id c s past w u.pending f.fr f.more m h k a p x f.streams ask (not_holding a.phase (multi.Lined p) phase (λ q i e. cc)) conn full) (same_conns m.conns) (left_at k a _ ask)
+  moves_moved _ _ (multi.GoesOn k a until ask phase late) = silent_move _ (silent.moves c s past w u.pending f.fr f.more m h k a multi.Free f.streams ask (not_holding a.phase (multi.BackingOff until) phase (λ q i e. cc)) tt) (same_conns m.conns) (left_at k a _ ask)
+  moves_moved _ _ (multi.TimesOut k a ask late) = silent_move _ (silent.drops c s past w u.pending f.fr f.more m h k f.streams) (same_conns m.conns) (each_other (λ j x. ((y : Asker) × (m.asks j ≡ Some y)) ⊎ (start j s Stream h ≡ None)) k m.asks (λ j x ne g. inl (x, g)))
+  moves_moved _ _ (multi.ReadsNothing p x since conn mode late) = closes p x conn (ends c s past w u.pending f.fr f.more m h p x f.streams conn (λ k a e there. ByReadTimer (let due = f.streams.late p x conn since mode late in rw f.streams.row.before due)))
+  moves_moved _ _ (multi.RestsTooLong p x since conn mode late pumped) = closes p x conn (ends c s past w u.pending f.fr f.more m h p x f.streams conn (idle_ends c s past w u.pending f.fr f.more m h p x since f.streams conn mode late pumped))
 
-  moves_of : (m' : Multi) (x : Act) → Moves s (now h) (reach h) m x m' → AreOf s (outs_of x) h
+  moves_of : (m' : Multi) (x : Act) → Moves c s (now h) (reach h) m x m' → AreOf s (outs_of x) h
   moves_of _ _ (multi.Joins k a p x ask phase conn) = tt
   moves_of _ _ (multi.Expects k a p ask phase op) = tt
   moves_of _ _ (multi.Opens k a ask phase none full) = ((refl, refl), tt)
@@ -173,16 +173,16 @@ module _ (c : Conf) (s : ℕ) (past : History) (w : What) (u : Served) (h : Hist
   moves_of _ _ (multi.RestsTooLong p x since conn mode late pumped) = ((Stream, (f.streams.conns p x conn).at), tt)
 
   -- a write stands where it may
-  pub may_write : (k p id : ℕ) (a : Asker) (x : Conn) (o : Octets) → m.asks k ≡ Some a → m.conns p ≡ Some x → x.heard ≡ false → x.ids id ≡ None → CarriesInFrame o a.request id → replied k past ≡ false → MayWrite k p id o past h
+  pub may_write : (k p id : ℕ) (a : Asker) (x : Conn) (o : Octets) → m.asks k ≡ Some a → m.conns p ≡ Some x → x.heard ≡ false → x.ids id ≡ None → CarriesInFrame o a.request id → replied k past ≡ false → MayWrite c k p id o past h
   may_write k p id a x o ask conn unheard unheld carries un =
-      let fit : ConnFits s p past u.pending (f.fr p) (f.more p) x h = f.streams.conns p x conn in
+      let fit : ConnFits c s p past u.pending (f.fr p) (f.more p) x h = f.streams.conns p x conn in
       let g = f.streams.asks k a ask in
       let b : started k s Stream h ≡ true = (let n = g.since in rw n refl) in
       record { waits = un; server = s; at = fit.at; alive = fit.alive; begun = b; request = a.request; asked = g.asked; carries = carries; free = ap (λ ms. waiting_with ms p id h) (sym (fit.unheard unheard)) ∙ (fit.ids id ∙ ap listed unheld) }
 
-  pub stream_keeps : (next : ℕ) (m' : Multi) (x : Act) → next ≡ reach h → Moves s u.clock next m x m' → Keeps Served (Fits c) none_more s past w h (does (has_moved (record u.server { by_stream = m' }) u) next x)
+  pub stream_keeps : (next : ℕ) (m' : Multi) (x : Act) → next ≡ reach h → Moves c s u.clock next m x m' → Keeps Served (Fits c) none_more s past w h (does (has_moved (record u.server { by_stream = m' }) u) next x)
   stream_keeps next m' x is move =
-      let it = subst₂ (λ n next. Moves s n next m x m') f.clock is move in
+      let it = subst₂ (λ n next. Moves c s n next m x m') f.clock is move in
       let moved = moves_moved m' x it in
       let of = moves_of m' x it in
       record {
@@ -193,21 +193,21 @@ module _ (c : Conf) (s : ℕ) (past : History) (w : What) (u : Served) (h : Hist
         reaches = reaches next m' x is it;
       }
     where
-      no_reply : (m' : Multi) (x : Act) → Moves s (now h) (reach h) m x m' → (j : ℕ) → replied j (put_all (outs_of x) h) ≡ replied j h
+      no_reply : (m' : Multi) (x : Act) → Moves c s (now h) (reach h) m x m' → (j : ℕ) → replied j (put_all (outs_of x) h) ≡ replied j h
       no_reply _ _ (multi.Opens k a ask phase none full) j = refl
       no_reply _ _ (multi.Writes k a p x id o ask phase conn none quiet unheld carries some) j = refl
       no_reply _ _ (multi.ReadsNothing p x since conn mode late) j = refl
       no_reply _ _ (multi.RestsTooLong p x since conn mode late pumped) j = refl
       no_reply _ _ _ j = refl
 
-      no_start : (m' : Multi) (x : Act) → Moves s (now h) (reach h) m x m' → (j t : ℕ) → handed j t (put_all (outs_of x) h) ≡ handed j t h
+      no_start : (m' : Multi) (x : Act) → Moves c s (now h) (reach h) m x m' → (j t : ℕ) → handed j t (put_all (outs_of x) h) ≡ handed j t h
       no_start _ _ (multi.Opens k a ask phase none full) j t = refl
       no_start _ _ (multi.Writes k a p x id o ask phase conn none quiet unheld carries some) j t = refl
       no_start _ _ (multi.ReadsNothing p x since conn mode late) j t = refl
       no_start _ _ (multi.RestsTooLong p x since conn mode late pumped) j t = refl
       no_start _ _ _ j t = refl
 
-      reaches : (next : ℕ) (m' : Multi) (x : Act) → next ≡ reach h → Moves s (now h) (reach h) m x m' → place_after x next ≡ reach (put_all (outs_of x) h)
+      reaches : (next : ℕ) (m' : Multi) (x : Act) → next ≡ reach h → Moves c s (now h) (reach h) m x m' → place_after x next ≡ reach (put_all (outs_of x) h)
       reaches next _ _ is (multi.Opens k a ask phase none full) = (let z = is in grind arith)
       reaches next _ _ is (multi.Writes k a p x id o ask phase conn none quiet unheld carries some) = is
       reaches next _ _ is (multi.ReadsNothing p x since conn mode late) = is
@@ -215,11 +215,11 @@ module _ (c : Conf) (s : ℕ) (past : History) (w : What) (u : Served) (h : Hist
       reaches next _ _ is _ = is
 
   -- what moves by stream put out is right
-  pub stream_right : (m' : Multi) (x : Act) → s < length c.servers → Moves s (now h) (reach h) m x m' → ((k : ℕ) (a : Asker) → m.asks k ≡ Some a → replied k past ≡ false) → (end : History) → ServerOutsRight c past w end h (outs_of x)
-  stream_right _ _ lt (multi.Opens k a ask phase none full) un end = ((omega arith, lt, opening.may_open s past w u.pending f.fr f.more m h f.streams none full, (f.streams.to_come (reach h) (omega arith)).nowhere), tt)
+  pub stream_right : (m' : Multi) (x : Act) → s < length c.servers → Moves c s (now h) (reach h) m x m' → ((k : ℕ) (a : Asker) → m.asks k ≡ Some a → replied k past ≡ false) → (end : History) → ServerOutsRight c past w end h (outs_of x)
+  stream_right _ _ lt (multi.Opens k a ask phase none full) un end = ((omega arith, lt, opening.may_open c s past w u.pending f.fr f.more m h f.streams none full, (f.streams.to_come (reach h) (omega arith)).nowhere), tt)
   stream_right _ _ lt (multi.Writes k a p x id o ask phase conn none quiet unheld carries some) un end = ((omega arith, may_write k p id a x o ask conn quiet unheld carries (un k a ask)), tt)
   stream_right _ _ lt (multi.ReadsNothing p x since conn mode late) un end = ((omega arith, may_close c s p past w h end (f.streams.conns p x conn).at (ReadTimer (f.streams.late p x conn since mode late)), was_alive p h (f.streams.conns p x conn).alive), tt)
-  stream_right _ _ lt (multi.RestsTooLong p x since conn mode late pumped) un end = ((omega arith, may_close c s p past w h end (f.streams.conns p x conn).at (IdleTimer (idle_is_due s past w u.pending f.fr f.more m h p x since f.streams conn mode late)), was_alive p h (f.streams.conns p x conn).alive), tt)
+  stream_right _ _ lt (multi.RestsTooLong p x since conn mode late pumped) un end = ((omega arith, may_close c s p past w h end (f.streams.conns p x conn).at (IdleTimer (idle_is_due c s past w u.pending f.fr f.more m h p x since f.streams conn mode late)), was_alive p h (f.streams.conns p x conn).alive), tt)
   stream_right _ _ lt (multi.Joins k a p x ask phase conn) un end = tt
   stream_right _ _ lt (multi.Expects k a p ask phase op) un end = tt
   stream_right _ _ lt (multi.Meets k a until ask phase calm low high) un end = tt

@@ -44,24 +44,24 @@ brings_it (m ∷ ms) g gs good = (let i = brings_it ms g gs good in grind arith)
 
 module _ (c : Conf) (s : ℕ) (past : History) (w : What) (u : Served) (h : History) (f : Fits c s past w u h) (wh : OwedFits c s past w u.server h) where
   -- whose result it is
-  staged_over : (e : Dgrams) (x : Act) → ((j : ℕ) (a : Tryer) → e.held j ≡ Some a → (o : IsOwed c s j past w (put_all (outs_of x) h)) → StageOwed w past a.request o.place a.stage) → (j : ℕ) (a : Tryer) → e.held j ≡ Some a → (y : Result Octets Error) → a.stage ≡ Ending y → IsOwed c s j past w (put_all (outs_of x) h) → ⊥
-  staged_over e x owed j a held y stage o = subst (λ st. StageOwed w past a.request o.place st) stage (owed j a held o)
+  staged_over : (e : Dgrams) (x : Act) → ((j : ℕ) (a : Tryer) → e.held j ≡ Some a → (o : IsOwed c s j past w (put_all (outs_of x) h)) → StageOwed c w past a.request o.place a.stage) → (j : ℕ) (a : Tryer) → e.held j ≡ Some a → (y : Result Octets Error) → a.stage ≡ Ending y → IsOwed c s j past w (put_all (outs_of x) h) → ⊥
+  staged_over e x owed j a held y stage o = subst (λ st. StageOwed c w past a.request o.place st) stage (owed j a held o)
 
   settles_over : (next : ℕ) (v : Served) (x : Act) (d : Step Served) → posts_of x ≡ [] → ((j : ℕ) (a : Tryer) → v.server.by_dgram.held j ≡ Some a → (y : Result Octets Error) → a.stage ≡ Ending y → IsOwed c s j past w (put_all (outs_of x) h) → ⊥) → Settles s u.clock next v x d → (z : Post) → IsPosted z d.posts → IsOwed c s z.request past w (put_all d.outs h) → ⊥
   settles_over next v x _ none over (AsItIs set) z i o = absurd (subst (λ ps. IsPosted z ps) none i)
   settles_over next v x _ none over (WithResult k a y held stage) z i o = elim i [ inl e ↦ over k a held y stage (subst (λ (z : Post). IsOwed c s z.request past w (put_all (outs_of x) h)) (sym e) o) | inr b ↦ absurd b ]
 
   -- by stream
-  times_out : (k : ℕ) (a : Asker) → u.server.by_stream.asks k ≡ Some a → a.since + stream_timeout ≤ now h → IsOwed c s k past w h → ⊥
+  times_out : (k : ℕ) (a : Asker) → u.server.by_stream.asks k ≡ Some a → a.since + stream_timeout c ≤ now h → IsOwed c s k past w h → ⊥
   times_out k a ask late o = go o.via (owed_stream (now h) o.via o.place a.phase (wh.by_stream k a ask o)) o.sent
     where
-      go : (v : Via) → v ≡ Stream → IsAmong o.octets (waited_for v o.request s o.place k o.id (now h) (came_here o.place h) h h) → ⊥
+      go : (v : Via) → v ≡ Stream → IsAmong o.octets (waited_for c v o.request s o.place k o.id (now h) (came_here o.place h) h h) → ⊥
       go Dgram e i = cc
-      go Stream e i = (let b = before_of (is_before (now h) (start k s Stream h)) o.octets _ i in let t = (f.streams.asks k a ask).since in let z : is_before (now h) (Some a.since) ≡ true = subst (λ t. is_before (now h) t ≡ true) t b.0 in let y : now h < a.since + stream_timeout = grind (arith, nat_tests) in omega arith)
+      go Stream e i = (let b = before_of (is_before c (now h) (start k s Stream h)) o.octets _ i in let t = (f.streams.asks k a ask).since in let z : is_before c (now h) (Some a.since) ≡ true = subst (λ t. is_before c (now h) t ≡ true) t b.0 in let y : now h < a.since + stream_timeout c = grind (arith, nat_tests) in omega arith)
 
   -- the frame is the answer
   module _ (g : Octets) (gs : List Octets) (is_next : u.frames ≡ g ∷ gs) where
-    kept : Kept s past w Tick f.fr f.more u.server.by_stream h
+    kept : Kept c s past w Tick f.fr f.more u.server.by_stream h
     kept = framing.kept c s past w u h f g gs is_next
 
     brought : (x : Conn) → u.server.by_stream.conns u.place ≡ Some x → is_bad g ≡ false → brings (id_in g) (came_here u.place h) ≡ true
@@ -89,17 +89,17 @@ module _ (c : Conf) (s : ℕ) (past : History) (w : What) (u : Served) (h : Hist
 
         go : (o : IsOwed c s y.request past w h) → o.via ≡ Stream → o.place ≡ u.place → ⊥
         go o via at =
-            let i : IsAmong o.octets (waited_for Stream o.request s o.place y.request o.id (now h) (came_here o.place h) h h) = subst (λ v. IsAmong o.octets (waited_for v o.request s o.place y.request o.id (now h) (came_here o.place h) h h)) via o.sent in
-            let i' : IsAmong o.octets (waited_for Stream o.request s u.place y.request o.id (now h) (came_here u.place h) h h) = subst (λ q. IsAmong o.octets (waited_for Stream o.request s q y.request o.id (now h) (came_here q h) h h)) at i in
-            let b = before_of (is_before (now h) (start y.request s Stream h)) o.octets (octets_for y.request (waiting_with (came_here u.place h) u.place o.id h)) i' in
+            let i : IsAmong o.octets (waited_for c Stream o.request s o.place y.request o.id (now h) (came_here o.place h) h h) = subst (λ v. IsAmong o.octets (waited_for c v o.request s o.place y.request o.id (now h) (came_here o.place h) h h)) via o.sent in
+            let i' : IsAmong o.octets (waited_for c Stream o.request s u.place y.request o.id (now h) (came_here u.place h) h h) = subst (λ q. IsAmong o.octets (waited_for c Stream o.request s q y.request o.id (now h) (came_here q h) h h)) at i in
+            let b = before_of (is_before c (now h) (start y.request s Stream h)) o.octets (octets_for y.request (waiting_with (came_here u.place h) u.place o.id h)) i' in
             let left = among_before (came_here u.place h) u.place o.id y.request o.octets h b.1 in
             let all = among_before (f.fr u.place) u.place (id_in g) y.request y.octets h mine in
             let same : o.id ≡ id_in g = f.one_id u.place y.request o.id (id_in g) o.octets y.octets (at_is s u.place h (kept.conns u.place x conn).at) left.1 all.1 in
             let none : brings (id_in g) (came_here u.place h) ≡ false = subst (λ i. brings i (came_here u.place h) ≡ false) same left.0 in
             (let z : true ≡ false = sym (brought x conn good) ∙ none in cc)
 
-  moves_over : (next : ℕ) (m : Multi) (x : Act) → Moves s u.clock next u.server.by_stream x m → (j : ℕ) (z : Result Octets Error) → x ≡ Gives j z → IsOwed c s j past w h → ⊥
-  moves_over next _ _ (multi.TimesOut k a ask late) j z e o = times_out k a ask (subst (λ n. a.since + stream_timeout ≤ n) f.clock late) (let same : k ≡ j = cc in subst (λ j. IsOwed c s j past w h) (sym same) o)
+  moves_over : (next : ℕ) (m : Multi) (x : Act) → Moves c s u.clock next u.server.by_stream x m → (j : ℕ) (z : Result Octets Error) → x ≡ Gives j z → IsOwed c s j past w h → ⊥
+  moves_over next _ _ (multi.TimesOut k a ask late) j z e o = times_out k a ask (subst (λ n. a.since + stream_timeout c ≤ n) f.clock late) (let same : k ≡ j = cc in subst (λ j. IsOwed c s j past w h) (sym same) o)
   moves_over next _ _ (multi.Joins k a p x ask phase conn) j z e o = absurd (cc)
   moves_over next _ _ (multi.Expects k a p ask phase op) j z e o = absurd (cc)
   moves_over next _ _ (multi.Opens k a ask phase none full) j z e o = absurd (cc)
@@ -117,12 +117,12 @@ module _ (c : Conf) (s : ℕ) (past : History) (w : What) (u : Served) (h : Hist
   act_over Nothing over z i o = absurd i
   act_over (Gives k y) over z i o = elim i [ inl e ↦ over k y refl (subst (λ (z : Post). IsOwed c s z.request past w h) (sym e) o) | inr b ↦ absurd b ]
 
-  pub acts_over : (next : ℕ) → next ≡ reach h → (d : Step Served) → Acts s next u d → (z : Post) → IsPosted z d.posts → IsOwed c s z.request past w (put_all d.outs h) → ⊥
-  acts_over next is d (served.ByDgram x e _ tries set) z i o = settles_over next (served.has_moved (record u.server { by_dgram = e }) u) x d (tries_held s u.clock next u.server.by_dgram e x f.settled tries).0 (staged_over e x (tries_owed c s past w u h f wh e x (subst₂ (λ n next. Tries s n next u.server.by_dgram x e) f.clock is tries))) set z i o
+  pub acts_over : (next : ℕ) → next ≡ reach h → (d : Step Served) → Acts c s next u d → (z : Post) → IsPosted z d.posts → IsOwed c s z.request past w (put_all d.outs h) → ⊥
+  acts_over next is d (served.ByDgram x e _ tries set) z i o = settles_over next (served.has_moved (record u.server { by_dgram = e }) u) x d (tries_held c s u.clock next u.server.by_dgram e x f.settled tries).0 (staged_over e x (tries_owed c s past w u h f wh e x (subst₂ (λ n next. Tries c s n next u.server.by_dgram x e) f.clock is tries))) set z i o
   acts_over next is _ (served.ByStream x m move) z i o = act_over x (moves_over next m x move) z i o
   acts_over next is _ (served.FallsBack k a held stage) z i o = absurd i
-  acts_over next is d (served.TellsDgrams x e _ untaken soon meets foreign set) z i o = settles_over next (served.has_taken_it (record u.server { by_dgram = e }) u) x d (meets_held u.clock u.server.by_dgram e u.pending x meets).0 (staged_over e x (meets_owed c s past w u h f wh u.clock u.pending e x (f.untaken untaken).pending (f.untaken untaken).pending meets)) set z i o
-  acts_over next is _ (served.TellsStreams x m untaken plain takes ignored) z i o = absurd (subst (λ ps. IsPosted z ps) (takes_held u.clock u.server.by_stream m u.pending x takes).0 i)
+  acts_over next is d (served.TellsDgrams x e _ untaken soon meets foreign set) z i o = settles_over next (served.has_taken_it (record u.server { by_dgram = e }) u) x d (meets_held c u.clock u.server.by_dgram e u.pending x meets).0 (staged_over e x (meets_owed c s past w u h f wh u.clock u.pending e x (f.untaken untaken).pending (f.untaken untaken).pending meets)) set z i o
+  acts_over next is _ (served.TellsStreams x m untaken plain takes ignored) z i o = absurd (subst (λ ps. IsPosted z ps) (takes_held c u.clock u.server.by_stream m u.pending x takes).0 i)
   acts_over next is _ (served.Reads p q x untaken pend conn) z i o = absurd i
   acts_over next is _ (served.TakesOne g gs x m more soon frame) z i o = act_over x (λ j y e. frame_over g gs more m j y x e frame) z i o
   acts_over next is _ (served.ClosesFirst g gs k y m x since more soon frame conn mode late pumped) z i o = act_over (Gives k y) (λ j v e. frame_over g gs more m j v (Gives k y) e frame) z i ((close_was c s past w u h f wh u.place z.request o).0)

@@ -1,4 +1,5 @@
 -- What is owed to a request that is held is owed where it is: a fact beside `Fits`, kept by each move.
+use Rattle.proof_right.proofs.Received.{received_one}
 use Rattle.std.proofs.Common.{◌≡◌, ◌≢◌, ℕ, suc, ◌+◌, ◌≤◌, Bool, true, false, ◌||◌, ◌⊎◌, inl, inr, Option, Some, None, [], ◌∷◌, is_some, refl, arith, ◌∙◌, sym, subst, subst₂, ap, ◌==◌, length, take}
 use Rattle.std.specs.Prelude.{if◌then◌else◌, nat_le}
 use Rattle.std.proofs.lemmas.Bool.Decides.{nat_tests}
@@ -9,11 +10,11 @@ use Rattle.client_request.specs.declared.event.Out.TheVariants.{Start, OpenDgram
 use Rattle.client_request.specs.declared.event.Via.{Via}
 use Rattle.client_request.specs.declared.event.Via.TheVariants.{Dgram, Stream}
 use Rattle.right_trace.specs.Trace.{History, Conf, Put, put_all}
-use Rattle.right_trace.specs.Time.{now, read_timeout}
+use Rattle.right_trace.specs.Time.{now, read_timeout, recv_size}
 use Rattle.right_trace.specs.Messages.{Octets, answers}
 use Rattle.right_trace.specs.Requests.{start, started, handed}
 use Rattle.right_trace.specs.Places.{Stand, Unused, Opening, Alive, Gone, closed, stand, is_told, reach}
-use Rattle.right_trace.specs.Frames.{came, came_here}
+use Rattle.right_trace.specs.Frames.{came, came_here, received}
 use Rattle.right_trace.specs.Exchanges.{has_answer, is_before, unanswered, waited_for, IsAmong}
 use Rattle.proof_right.specs.machine.Streams.{Act, Puts, Gives, Nothing, Phase, Free, Expecting, Lined, Holding, Broken, BackingOff, Asker, Conn, Multi, Moves, Takes, TakesFrame}
 use Rattle.right_trace.specs.Updates.{with_at}
@@ -66,18 +67,18 @@ not_alive Alive e = cc
 not_alive Gone e = cc
 
 module _ (c : Conf) (s : ℕ) (past : History) (w : What) (u : Served) (h : History) (f : Fits c s past w u h) (g : OwedFits c s past w u.server h) where
-  sent_fits : (k : ℕ) (a : Tryer) (p id t : ℕ) → u.server.by_dgram.held k ≡ Some a → a.stage ≡ Sent p id t → SentFits s p id t k a.request past u.pending h
+  sent_fits : (k : ℕ) (a : Tryer) (p id t : ℕ) → u.server.by_dgram.held k ≡ Some a → a.stage ≡ Sent p id t → SentFits c s p id t k a.request past u.pending h
   sent_fits k a p id t held stage = subst (λ st. StageFits c s k a.request past w u.pending h st) stage (f.dgrams.held k a held).stage
 
   -- what was owed before
-  was_dgram : (h' : History) (k : ℕ) (a : Tryer) → u.server.by_dgram.held k ≡ Some a → (o : IsOwed c s k past w h') → Was c s k past w h h' o → StageOwed w past a.request o.place a.stage
-  was_dgram h' k a held o y = subst (λ p. StageOwed w past a.request p a.stage) y.2 (g.by_dgram k a held y.0)
+  was_dgram : (h' : History) (k : ℕ) (a : Tryer) → u.server.by_dgram.held k ≡ Some a → (o : IsOwed c s k past w h') → Was c s k past w h h' o → StageOwed c w past a.request o.place a.stage
+  was_dgram h' k a held o y = subst (λ p. StageOwed c w past a.request p a.stage) y.2 (g.by_dgram k a held y.0)
 
   was_stream : (h' : History) (k : ℕ) (a : Asker) → u.server.by_stream.asks k ≡ Some a → (o : IsOwed c s k past w h') → Was c s k past w h h' o → PhaseOwed (now h) o.via o.place a.phase
   was_stream h' k a ask o y = subst₂ (λ v p. PhaseOwed (now h) v p a.phase) y.1 y.2 (g.by_stream k a ask y.0)
 
-  stage_owed : (h' : History) (k : ℕ) (a : Tryer) (st : Stage) → u.server.by_dgram.held k ≡ Some a → a.stage ≡ st → (o : IsOwed c s k past w h') → Was c s k past w h h' o → StageOwed w past a.request o.place st
-  stage_owed h' k a st held stage o y = subst (λ st. StageOwed w past a.request o.place st) stage (was_dgram h' k a held o y)
+  stage_owed : (h' : History) (k : ℕ) (a : Tryer) (st : Stage) → u.server.by_dgram.held k ≡ Some a → a.stage ≡ st → (o : IsOwed c s k past w h') → Was c s k past w h h' o → StageOwed c w past a.request o.place st
+  stage_owed h' k a st held stage o y = subst (λ st. StageOwed c w past a.request o.place st) stage (was_dgram h' k a held o y)
 
   phase_owed : (h' : History) (k : ℕ) (a : Asker) (ph : Phase) → u.server.by_stream.asks k ≡ Some a → a.phase ≡ ph → (o : IsOwed c s k past w h') → Was c s k past w h h' o → PhaseOwed (now h) o.via o.place ph
   phase_owed h' k a ph ask phase o y = subst (λ ph. PhaseOwed (now h) o.via o.place ph) phase (was_stream h' k a ask o y)
@@ -90,25 +91,25 @@ module _ (c : Conf) (s : ℕ) (past : History) (w : What) (u : Served) (h : Hist
 
   -- By datagram
 
-  by_dgram : (k : ℕ) (a : Tryer) → u.server.by_dgram.held k ≡ Some a → (o : IsOwed c s k past w h) → IsAmong o.octets (unanswered o.request o.place k o.id (now h) h)
+  by_dgram : (k : ℕ) (a : Tryer) → u.server.by_dgram.held k ≡ Some a → (o : IsOwed c s k past w h) → IsAmong o.octets (unanswered c o.request o.place k o.id (now h) h)
   by_dgram k a held o = go o.via o.sent
     where
-      go : (v : Via) → IsAmong o.octets (waited_for v o.request s o.place k o.id (now h) (came_here o.place h) h h) → IsAmong o.octets (unanswered o.request o.place k o.id (now h) h)
+      go : (v : Via) → IsAmong o.octets (waited_for c v o.request s o.place k o.id (now h) (came_here o.place h) h h) → IsAmong o.octets (unanswered c o.request o.place k o.id (now h) h)
       go Dgram i = i
-      go Stream i = absurd (let b = before_of (is_before (now h) (start k s Stream h)) o.octets _ i in let n = none_started k s h (f.dgrams.held k a held).unstreamed in let z : is_before (now h) None ≡ true = subst (λ t. is_before (now h) t ≡ true) n b.0 in cc)
+      go Stream i = absurd (let b = before_of (is_before c (now h) (start k s Stream h)) o.octets _ i in let n = none_started k s h (f.dgrams.held k a held).unstreamed in let z : is_before c (now h) None ≡ true = subst (λ t. is_before c (now h) t ≡ true) n b.0 in cc)
 
-  stops : (k : ℕ) (a : Tryer) (p id t : ℕ) → u.server.by_dgram.held k ≡ Some a → a.stage ≡ Sent p id t → t + read_timeout ≤ now h → IsOwed c s k past w h → ⊥
+  stops : (k : ℕ) (a : Tryer) (p id t : ℕ) → u.server.by_dgram.held k ≡ Some a → a.stage ≡ Sent p id t → t + read_timeout c ≤ now h → IsOwed c s k past w h → ⊥
   stops k a p id t held stage late o =
       let at = (stage_owed h k a (Sent p id t) held stage o (itself k o)).0 in
-      let i = subst (λ q. IsAmong o.octets (unanswered o.request q k o.id (now h) h)) at (by_dgram k a held o) in
+      let i = subst (λ q. IsAmong o.octets (unanswered c o.request q k o.id (now h) h)) at (by_dgram k a held o) in
       let y = ((sent_fits k a p id t held stage).only o.request k o.id (now h) o.octets i).2 in
       omega arith
 
   -- each request, after a change at k
-  each_staged : (h' : History) (k : ℕ) (b : Tryer) → ((o : IsOwed c s k past w h') → StageOwed w past b.request o.place b.stage) → ((j : ℕ) (o : IsOwed c s j past w h') → k ≢ j → Was c s j past w h h' o) → (j : ℕ) (a : Tryer) → with_at k (Some b) u.server.by_dgram.held j ≡ Some a → (o : IsOwed c s j past w h') → StageOwed w past a.request o.place a.stage
-  each_staged h' k b here was j a e = each_at (λ j (a : Tryer). (o : IsOwed c s j past w h') → StageOwed w past a.request o.place a.stage) k b u.server.by_dgram.held here (λ j a ne e o. was_dgram h' j a e o (was j o ne)) j a e
+  each_staged : (h' : History) (k : ℕ) (b : Tryer) → ((o : IsOwed c s k past w h') → StageOwed c w past b.request o.place b.stage) → ((j : ℕ) (o : IsOwed c s j past w h') → k ≢ j → Was c s j past w h h' o) → (j : ℕ) (a : Tryer) → with_at k (Some b) u.server.by_dgram.held j ≡ Some a → (o : IsOwed c s j past w h') → StageOwed c w past a.request o.place a.stage
+  each_staged h' k b here was j a e = each_at (λ j (a : Tryer). (o : IsOwed c s j past w h') → StageOwed c w past a.request o.place a.stage) k b u.server.by_dgram.held here (λ j a ne e o. was_dgram h' j a e o (was j o ne)) j a e
 
-  pub tries_owed : (d : Dgrams) (x : Act) → Tries s (now h) (reach h) u.server.by_dgram x d → (j : ℕ) (a : Tryer) → d.held j ≡ Some a → (o : IsOwed c s j past w (put_all (outs_of x) h)) → StageOwed w past a.request o.place a.stage
+  pub tries_owed : (d : Dgrams) (x : Act) → Tries c s (now h) (reach h) u.server.by_dgram x d → (j : ℕ) (a : Tryer) → d.held j ≡ Some a → (o : IsOwed c s j past w (put_all (outs_of x) h)) → StageOwed c w past a.request o.place a.stage
   tries_owed _ _ (dgrams.Opens k b held stage few) = each_staged (Put (OpenDgram (reach h) s) ∷ h) k (dgrams.staged b (Trying (reach h))) (λ o. stage_owed _ k b Queued held stage o (mute_put c s past w u h f (OpenDgram (reach h) s) tt refl k s o)) (λ j o ne. mute_put c s past w u h f (OpenDgram (reach h) s) tt refl j s o)
   tries_owed _ _ (dgrams.Retries k b p id t held stage late few) = each_staged (Put (Close p) ∷ h) k (dgrams.staged b Queued) (λ o. stops k b p id t held stage late (close_was p k o).0) (λ j o ne. close_was p j o)
   tries_owed _ _ (dgrams.StopsTrying k b p id t held stage late six) = each_staged (Put (Close p) ∷ h) k (dgrams.staged b _) (λ o. stops k b p id t held stage late (close_was p k o).0) (λ j o ne. close_was p j o)
@@ -124,41 +125,41 @@ module _ (c : Conf) (s : ℕ) (past : History) (w : What) (u : Served) (h : Hist
   is_told_of : (v : What) (k : ℕ) (b : Tryer) (p id t : ℕ) → v ≡ w → is_told p v ≡ true → u.server.by_dgram.held k ≡ Some b → b.stage ≡ Sent p id t → IsOwed c s k past w (Put (Close p) ∷ h) → ⊥
   is_told_of v k b p id t same tells held stage o = (let z = (stage_owed (Put (Close p) ∷ h) k b (Sent p id t) held stage o (close_was p k o)).0 in told p k o z (ap (is_told p) (sym same) ∙ tells))
 
-  answered : (k : ℕ) (a : Tryer) (p id t : ℕ) (m : Octets) → Datagram p m ≡ w → u.pending ≡ w → u.server.by_dgram.held k ≡ Some a → a.stage ≡ Sent p id t → 12 ≤ length (take 2000 m) → answers a.request id (take 2000 m) ≡ true → IsOwed c s k past w h → ⊥
+  answered : (k : ℕ) (a : Tryer) (p id t : ℕ) (m : Octets) → Datagram p m ≡ w → u.pending ≡ w → u.server.by_dgram.held k ≡ Some a → a.stage ≡ Sent p id t → 12 ≤ length (take (recv_size c) m) → answers a.request id (take (recv_size c) m) ≡ true → IsOwed c s k past w h → ⊥
   answered k a p id t m same pend held stage long ok o =
       let z = stage_owed h k a (Sent p id t) held stage o (itself k o) in
-      let old : Old s p id t k a.request (sent_fits k a p id t held stage).octets past = elim (sent_fits k a p id t held stage).lived [ inl e ↦ absurd (let y : Datagram p m ≡ Tick = same ∙ (sym pend ∙ e.0) in cc) | inr o ↦ o ] in
+      let old : Old c s p id t k a.request (sent_fits k a p id t held stage).octets past = elim (sent_fits k a p id t held stage).lived [ inl e ↦ absurd (let y : Datagram p m ≡ Tick = same ∙ (sym pend ∙ e.0) in cc) | inr o ↦ o ] in
       let it : (p == p) ≡ true = grind (arith, nat_tests) in
-      let le : nat_le 12 (length (take 2000 m)) ≡ true = le_true 12 (length (take 2000 m)) long in
+      let le : nat_le 12 (length (take (recv_size c) m)) ≡ true = le_true 12 (length (take (recv_size c) m)) long in
       let alive = old.alive in
       let site' = old.at in
-      let here : came p (Datagram p m) past ≡ take 2000 m ∷ [] = rw (it, alive, site', le) refl in
-      let none : has_answer a.request id (came p (Datagram p m) past) ≡ false = subst (λ w. has_answer a.request id (came p w past) ≡ false) (sym same) z.1 in
-      let some : has_answer a.request id (take 2000 m ∷ []) ≡ true = rw ok refl in
+      let here : received (recv_size c) (came p (Datagram p m) past) ≡ take (recv_size c) m ∷ [] = rw (it, alive, site', received_one (recv_size c) m le) refl in
+      let none : has_answer a.request id (received (recv_size c) (came p (Datagram p m) past)) ≡ false = subst (λ w. has_answer a.request id (received (recv_size c) (came p w past)) ≡ false) (sym same) z.1 in
+      let some : has_answer a.request id (take (recv_size c) m ∷ []) ≡ true = rw ok refl in
       (let y : true ≡ false = sym some ∙ (ap (has_answer a.request id) (sym here) ∙ none) in cc)
 
-  pub meets_owed : (n : ℕ) (v : What) (e : Dgrams) (x : Act) → v ≡ w → u.pending ≡ w → Meets n u.server.by_dgram v x e → (j : ℕ) (a : Tryer) → e.held j ≡ Some a → (o : IsOwed c s j past w (put_all (outs_of x) h)) → StageOwed w past a.request o.place a.stage
+  pub meets_owed : (n : ℕ) (v : What) (e : Dgrams) (x : Act) → v ≡ w → u.pending ≡ w → Meets c n u.server.by_dgram v x e → (j : ℕ) (a : Tryer) → e.held j ≡ Some a → (o : IsOwed c s j past w (put_all (outs_of x) h)) → StageOwed c w past a.request o.place a.stage
   meets_owed n _ _ _ same pend (dgrams.IsSent k b p id m at held stage carries) = each_staged (Put (Send p k id m) ∷ h) k (record { request = b.request; tries = suc b.tries; stage = Sent p id n })
-      (λ o. elim (owed_put c s past w h (nothing_new c s past w u h f) f.begun (Send p k id m) tt k s o) [ inl y ↦ absurd (stage_owed _ k b (Trying p) held stage o y) | inr z ↦ (sym z.2, subst (λ w. has_answer b.request id (came p w past) ≡ false) same refl) ])
+      (λ o. elim (owed_put c s past w h (nothing_new c s past w u h f) f.begun (Send p k id m) tt k s o) [ inl y ↦ absurd (stage_owed _ k b (Trying p) held stage o y) | inr z ↦ (sym z.2, subst (λ w. has_answer b.request id (received (recv_size c) (came p w past)) ≡ false) same refl) ])
       (λ j o ne. elim (owed_put c s past w h (nothing_new c s past w u h f) f.begun (Send p k id m) tt j s o) [ inl y ↦ y | inr z ↦ absurd (ne z.1) ])
   meets_owed n _ _ _ same pend (dgrams.CannotBeSent k b p e at held stage bad) = each_staged (Put (Close p) ∷ h) k (dgrams.staged b _) (λ o. stage_owed _ k b (Trying p) held stage o (close_was p k o)) (λ j o ne. close_was p j o)
   meets_owed n _ _ _ same pend (dgrams.DoesNotOpen k b p y at held stage) = each_staged h k (dgrams.staged b _) (λ o. stage_owed _ k b (Trying p) held stage o (itself k o)) (λ j o ne. itself j o)
   meets_owed n _ _ _ same pend (dgrams.NotSent k b p id t y at held stage) = each_staged (Put (Close p) ∷ h) k (dgrams.staged b _) (λ o. is_told_of (SendFailed p y) k b p id t same (grind (arith, nat_tests)) held stage o) (λ j o ne. close_was p j o)
   meets_owed n _ _ _ same pend (dgrams.SentShort k b p id t at held stage) = each_staged (Put (Close p) ∷ h) k (dgrams.staged b _) (λ o. is_told_of (ShortSend p) k b p id t same (grind (arith, nat_tests)) held stage o) (λ j o ne. close_was p j o)
   meets_owed n _ _ _ same pend (dgrams.NotReceived k b p id t y at held stage) = each_staged (Put (Close p) ∷ h) k (dgrams.staged b _) (λ o. is_told_of (RecvFailed p y) k b p id t same (grind (arith, nat_tests)) held stage o) (λ j o ne. close_was p j o)
-  meets_owed n _ _ _ same pend (dgrams.IsAnswered k b p id t m at held stage long ok) = each_staged (Put (Close p) ∷ h) k (dgrams.staged b (stage_of (take 2000 m))) (λ o. absurd (answered k b p id t m same pend held stage long ok (close_was p k o).0)) (λ j o ne. close_was p j o)
+  meets_owed n _ _ _ same pend (dgrams.IsAnswered k b p id t m at held stage long ok) = each_staged (Put (Close p) ∷ h) k (dgrams.staged b (stage_of (take (recv_size c) m))) (λ o. absurd (answered k b p id t m same pend held stage long ok (close_was p k o).0)) (λ j o ne. close_was p j o)
 
   -- what such a move makes it owe a request by stream: nothing
   abbrev DgramWere : Act → Type 0
   DgramWere x = (k : ℕ) (o : IsOwed c s k past w (put_all (outs_of x) h)) → Was c s k past w h (put_all (outs_of x) h) o ⊎ ((a : Tryer) × (u.server.by_dgram.held k ≡ Some a))
 
-  tries_were : (d : Dgrams) (x : Act) → Tries s (now h) (reach h) u.server.by_dgram x d → DgramWere x
+  tries_were : (d : Dgrams) (x : Act) → Tries c s (now h) (reach h) u.server.by_dgram x d → DgramWere x
   tries_were _ _ (dgrams.Opens k b held stage few) j o = inl (mute_put c s past w u h f (OpenDgram (reach h) s) tt refl j s o)
   tries_were _ _ (dgrams.Retries k b p id t held stage late few) j o = inl (close_was p j o)
   tries_were _ _ (dgrams.StopsTrying k b p id t held stage late six) j o = inl (close_was p j o)
   tries_were _ _ (dgrams.Ends k b x held stage) j o = inl (itself j o)
 
-  meets_were : (n : ℕ) (v : What) (e : Dgrams) (x : Act) → Meets n u.server.by_dgram v x e → DgramWere x
+  meets_were : (n : ℕ) (v : What) (e : Dgrams) (x : Act) → Meets c n u.server.by_dgram v x e → DgramWere x
   meets_were n _ _ _ (dgrams.IsSent k b p id m at held stage carries) j o = elim (owed_put c s past w h (nothing_new c s past w u h f) f.begun (Send p k id m) tt j s o) [ inl y ↦ inl y | inr z ↦ inr (b, ap u.server.by_dgram.held (sym z.1) ∙ held) ]
   meets_were n _ _ _ (dgrams.CannotBeSent k b p e at held stage bad) j o = inl (close_was p j o)
   meets_were n _ _ _ (dgrams.DoesNotOpen k b p y at held stage) j o = inl (itself j o)
@@ -169,23 +170,23 @@ module _ (c : Conf) (s : ℕ) (past : History) (w : What) (u : Served) (h : Hist
 
   -- both claims, for a state and a history
   pub record Owed (v : Server) (h' : History) : Type 0 where
-    pub by_dgram : (k : ℕ) (a : Tryer) → v.by_dgram.held k ≡ Some a → (o : IsOwed c s k past w h') → StageOwed w past a.request o.place a.stage
+    pub by_dgram : (k : ℕ) (a : Tryer) → v.by_dgram.held k ≡ Some a → (o : IsOwed c s k past w h') → StageOwed c w past a.request o.place a.stage
     pub by_stream : (k : ℕ) (a : Asker) → v.by_stream.asks k ≡ Some a → (o : IsOwed c s k past w h') → PhaseOwed (now h') o.via o.place a.phase
 
   stream_still : (x : Act) → DgramWere x → (k : ℕ) (a : Asker) → u.server.by_stream.asks k ≡ Some a → (o : IsOwed c s k past w (put_all (outs_of x) h)) → PhaseOwed (now (put_all (outs_of x) h)) o.via o.place a.phase
   stream_still x were k a ask o = elim (were k o) [ inl y ↦ subst (λ n. PhaseOwed n o.via o.place a.phase) (sym (now_all (outs_of x) h)) (was_stream (put_all (outs_of x) h) k a ask o y) | inr z ↦ absurd (one_way c s past w u h k (z.0) a f z.1 ask) ]
 
   -- what follows the close of a datagram place
-  settles_owed : (next : ℕ) (v : Served) (x : Act) (d : Step Served) → v.server.by_stream ≡ u.server.by_stream → ((j : ℕ) (a : Tryer) → v.server.by_dgram.held j ≡ Some a → (o : IsOwed c s j past w (put_all (outs_of x) h)) → StageOwed w past a.request o.place a.stage) → DgramWere x → Settles s u.clock next v x d → Owed d.state.server (put_all d.outs h)
+  settles_owed : (next : ℕ) (v : Served) (x : Act) (d : Step Served) → v.server.by_stream ≡ u.server.by_stream → ((j : ℕ) (a : Tryer) → v.server.by_dgram.held j ≡ Some a → (o : IsOwed c s j past w (put_all (outs_of x) h)) → StageOwed c w past a.request o.place a.stage) → DgramWere x → Settles s u.clock next v x d → Owed d.state.server (put_all d.outs h)
   settles_owed next v x _ same owed were (AsItIs set) = record { by_dgram = owed; by_stream = λ k a ask o. stream_still x were k a (sym (ap (λ (m : Multi). m.asks k) same) ∙ ask) o }
-  settles_owed next v x _ same owed were (WithResult k a y held stage) = record { by_dgram = each_other (λ j (a : Tryer). (o : IsOwed c s j past w (put_all (outs_of x) h)) → StageOwed w past a.request o.place a.stage) k v.server.by_dgram.held (λ j a ne e. owed j a e); by_stream = λ k a ask o. stream_still x were k a (sym (ap (λ (m : Multi). m.asks k) same) ∙ ask) o }
+  settles_owed next v x _ same owed were (WithResult k a y held stage) = record { by_dgram = each_other (λ j (a : Tryer). (o : IsOwed c s j past w (put_all (outs_of x) h)) → StageOwed c w past a.request o.place a.stage) k v.server.by_dgram.held (λ j a ne e. owed j a e); by_stream = λ k a ask o. stream_still x were k a (sym (ap (λ (m : Multi). m.asks k) same) ∙ ask) o }
 
   -- a request goes on by stream
   falls_owed : (k : ℕ) (a : Tryer) → u.server.by_dgram.held k ≡ Some a → a.stage ≡ Cut → Owed (server.falls_back k u.clock a u.server) (Put (Start k s Stream) ∷ h)
   falls_owed k a held stage =
       let was : (j : ℕ) (o : IsOwed c s j past w (Put (Start k s Stream) ∷ h)) → Was c s j past w h (Put (Start k s Stream) ∷ h) o = λ j o. start_put c s past w u h f k j s (f.dgrams.held k a held).unstreamed o in
       record {
-        by_dgram = each_other (λ j (b : Tryer). (o : IsOwed c s j past w (Put (Start k s Stream) ∷ h)) → StageOwed w past b.request o.place b.stage) k u.server.by_dgram.held (λ j b ne e o. was_dgram _ j b e o (was j o));
+        by_dgram = each_other (λ j (b : Tryer). (o : IsOwed c s j past w (Put (Start k s Stream) ∷ h)) → StageOwed c w past b.request o.place b.stage) k u.server.by_dgram.held (λ j b ne e o. was_dgram _ j b e o (was j o));
         by_stream = each_at (λ j (b : Asker). (o : IsOwed c s j past w (Put (Start k s Stream) ∷ h)) → PhaseOwed (now h) o.via o.place b.phase) k (record { request = a.request; since = u.clock; phase = Free }) u.server.by_stream.asks (λ o. stage_owed _ k a Cut held stage o (was k o)) (λ j b ne e o. was_stream _ j b e o (was j o));
       }
 
@@ -207,7 +208,7 @@ module _ (c : Conf) (s : ℕ) (past : History) (w : What) (u : Served) (h : Hist
   abbrev StreamOwed : Multi → Act → Type 0
   StreamOwed m x = (j : ℕ) (b : Asker) → m.asks j ≡ Some b → (o : IsOwed c s j past w (put_all (outs_of x) h)) → PhaseOwed (now h) o.via o.place b.phase
 
-  moves_owed : (m : Multi) (x : Act) → Moves s (now h) (reach h) u.server.by_stream x m → StreamOwed m x
+  moves_owed : (m : Multi) (x : Act) → Moves c s (now h) (reach h) u.server.by_stream x m → StreamOwed m x
   moves_owed _ _ (multi.Joins k a p x ask phase conn) = silent k a Free (Lined p) ask phase (λ o z. z)
   moves_owed _ _ (multi.Expects k a p ask phase op) = silent k a Free Expecting ask phase (λ o z. z)
   moves_owed _ _ (multi.Opens k a ask phase none full) = each_phase (Put (OpenStream (reach h) s) ∷ h) k (multi.moved a Expecting) (λ o. phase_owed _ k a Free ask phase o (mute_put c s past w u h f (OpenStream (reach h) s) tt refl k s o)) (λ j o ne. mute_put c s past w u h f (OpenStream (reach h) s) tt refl j s o)
@@ -223,7 +224,7 @@ module _ (c : Conf) (s : ℕ) (past : History) (w : What) (u : Served) (h : Hist
   moves_owed _ _ (multi.ReadsNothing p x since conn mode late) = every_owed (multi.broken_at p) (Put (Close p) ∷ h) (λ n v q ph. broken_owed n v q p ph) (λ j o. close_was p j o)
   moves_owed _ _ (multi.RestsTooLong p x since conn mode late pumped) = every_owed (multi.broken_at p) (Put (Close p) ∷ h) (λ n v q ph. broken_owed n v q p ph) (λ j o. close_was p j o)
 
-  takes_owed : (n : ℕ) (v : What) (m : Multi) (x : Act) → Takes n u.server.by_stream v x m → StreamOwed m x
+  takes_owed : (n : ℕ) (v : What) (m : Multi) (x : Act) → Takes c n u.server.by_stream v x m → StreamOwed m x
   takes_owed n _ _ _ (multi.ItOpens p op) = every_owed (multi.expected Free) h (λ n v q ph. expected_owed n v q Free ph) (λ j o. itself j o)
   takes_owed n _ _ _ (multi.ItDoesNotOpen p y calm op lt) = every_owed (multi.expected Broken) h (λ n v q ph. expected_owed n v q Broken ph) (λ j o. itself j o)
   takes_owed n _ _ _ (multi.ItFails _ p x conn tells) = every_owed (multi.broken_at p) (Put (Close p) ∷ h) (λ n v q ph. broken_owed n v q p ph) (λ j o. close_was p j o)
@@ -243,7 +244,7 @@ module _ (c : Conf) (s : ℕ) (past : History) (w : What) (u : Served) (h : Hist
   abbrev StreamWere : Act → Type 0
   StreamWere x = (k : ℕ) (o : IsOwed c s k past w (put_all (outs_of x) h)) → Was c s k past w h (put_all (outs_of x) h) o ⊎ ((a : Asker) × (u.server.by_stream.asks k ≡ Some a))
 
-  moves_were : (m : Multi) (x : Act) → Moves s (now h) (reach h) u.server.by_stream x m → StreamWere x
+  moves_were : (m : Multi) (x : Act) → Moves c s (now h) (reach h) u.server.by_stream x m → StreamWere x
   moves_were _ _ (multi.Joins k a p x ask phase conn) j o = inl (itself j o)
   moves_were _ _ (multi.Expects k a p ask phase op) j o = inl (itself j o)
   moves_were _ _ (multi.Opens k a ask phase none full) j o = inl (mute_put c s past w u h f (OpenStream (reach h) s) tt refl j s o)
@@ -257,7 +258,7 @@ module _ (c : Conf) (s : ℕ) (past : History) (w : What) (u : Served) (h : Hist
   moves_were _ _ (multi.ReadsNothing p x since conn mode late) j o = inl (close_was p j o)
   moves_were _ _ (multi.RestsTooLong p x since conn mode late pumped) j o = inl (close_was p j o)
 
-  takes_were : (n : ℕ) (v : What) (m : Multi) (x : Act) → Takes n u.server.by_stream v x m → StreamWere x
+  takes_were : (n : ℕ) (v : What) (m : Multi) (x : Act) → Takes c n u.server.by_stream v x m → StreamWere x
   takes_were n _ _ _ (multi.ItOpens p op) j o = inl (itself j o)
   takes_were n _ _ _ (multi.ItDoesNotOpen p y calm op lt) j o = inl (itself j o)
   takes_were n _ _ _ (multi.ItFails _ p x conn tells) j o = inl (close_was p j o)
@@ -279,9 +280,9 @@ module _ (c : Conf) (s : ℕ) (past : History) (w : What) (u : Served) (h : Hist
     by_stream = λ k a e o. subst (λ n. PhaseOwed n o.via o.place a.phase) (sym (now_all (outs_of x) h)) (owed k a e o);
   }
 
-  acts_both : (next : ℕ) → next ≡ reach h → (d : Step Served) → Acts s next u d → Owed d.state.server (put_all d.outs h)
-  acts_both next is d (served.ByDgram x e _ tries set) = (let it = subst₂ (λ n next. Tries s n next u.server.by_dgram x e) f.clock is tries in settles_owed next _ x d refl (tries_owed e x it) (tries_were e x it) set)
-  acts_both next is _ (served.ByStream x m move) = (let it = subst₂ (λ n next. Moves s n next u.server.by_stream x m) f.clock is move in stream_owed (record u.server { by_stream = m }) x refl (moves_owed m x it) (moves_were m x it))
+  acts_both : (next : ℕ) → next ≡ reach h → (d : Step Served) → Acts c s next u d → Owed d.state.server (put_all d.outs h)
+  acts_both next is d (served.ByDgram x e _ tries set) = (let it = subst₂ (λ n next. Tries c s n next u.server.by_dgram x e) f.clock is tries in settles_owed next _ x d refl (tries_owed e x it) (tries_were e x it) set)
+  acts_both next is _ (served.ByStream x m move) = (let it = subst₂ (λ n next. Moves c s n next u.server.by_stream x m) f.clock is move in stream_owed (record u.server { by_stream = m }) x refl (moves_owed m x it) (moves_were m x it))
   acts_both next is _ (served.FallsBack k a held stage) = falls_owed k a held stage
   acts_both next is d (served.TellsDgrams x e _ un soon meets foreign set) = (let v = (f.untaken un).pending in settles_owed next _ x d refl (meets_owed u.clock u.pending e x v v meets) (meets_were u.clock u.pending e x meets) set)
   acts_both next is _ (served.TellsStreams x m un plain takes ignored) = stream_owed (record u.server { by_stream = m }) x refl (takes_owed u.clock u.pending m x takes) (takes_were u.clock u.pending m x takes)
@@ -310,7 +311,7 @@ module _ (c : Conf) (s : ℕ) (past : History) (w : What) (u : Served) (h : Hist
       go None i (Some b) j e = or_last (started k s Dgram h) (started k s Stream h) (let z = (f.streams.asks k b j).since in rw z refl)
       go None i None j e = absurd (cc)
 
-  pub acts_owed : (next : ℕ) → next ≡ reach h → (d : Step Served) → Acts s next u d → ((k : ℕ) → handed k s h ≡ true → handed k s (put_all d.outs h) ≡ true) → OwedFits c s past w d.state.server (put_all d.outs h)
+  pub acts_owed : (next : ℕ) → next ≡ reach h → (d : Step Served) → Acts c s next u d → ((k : ℕ) → handed k s h ≡ true → handed k s (put_all d.outs h) ≡ true) → OwedFits c s past w d.state.server (put_all d.outs h)
   acts_owed next is d act more = (let z = acts_both next is d act in record { begun = λ k o. elim (acts_were c s past w u h f next is d act k s o) [ inl y ↦ more k (g.begun k y.0) | inr y ↦ more k (held_handed k y.1) ]; by_dgram = z.by_dgram; by_stream = z.by_stream })
 
 -- Another server
@@ -318,7 +319,7 @@ module _ (c : Conf) (s : ℕ) (past : History) (w : What) (u : Served) (h : Hist
 pub others_owed : (c : Conf) (t : ℕ) (past : History) (w : What) (v : Server) (h h' : History) → now h' ≡ now h → ((k : ℕ) → handed k t h ≡ true → handed k t h' ≡ true) → ((k : ℕ) (o : IsOwed c t k past w h') → Was c t k past w h h' o) → OwedFits c t past w v h → OwedFits c t past w v h'
 others_owed c t past w v h h' clock more was g = record {
   begun = λ k o. more k (g.begun k (was k o).0);
-  by_dgram = λ k a e o. (let y = was k o in subst (λ p. StageOwed w past a.request p a.stage) y.2 (g.by_dgram k a e y.0));
+  by_dgram = λ k a e o. (let y = was k o in subst (λ p. StageOwed c w past a.request p a.stage) y.2 (g.by_dgram k a e y.0));
   by_stream = λ k a e o. (let y = was k o in subst (λ n. PhaseOwed n o.via o.place a.phase) (sym clock) (subst₂ (λ v p. PhaseOwed (now h) v p a.phase) y.1 y.2 (g.by_stream k a e y.0)));
 }
 
@@ -343,7 +344,7 @@ module _ (c : Conf) (s next k : ℕ) (r : Request) (past : History) (w : What) (
   pub starts_owed : handed k s h ≡ false → (d : Step Served) → served.Starts c s next k r u d → OwedFits c s past w d.state.server (put_all d.outs h)
   starts_owed un _ (served.IsHanded how x v used (server.ToDgrams is free)) = record {
     begun = λ j o. (let z = g.begun j (start_was un Dgram j s o).0 in handed_put k s Dgram h j s ∙ or_last (this_one k s j s) (handed j s h) z);
-    by_dgram = each_at (λ j (a : Tryer). (o : IsOwed c s j past w (Put (Start k s Dgram) ∷ h)) → StageOwed w past a.request o.place a.stage) k _ u.server.by_dgram.held (λ o. (let z = g.begun k (start_was un Dgram k s o).0 in let y : true ≡ false = sym z ∙ un in cc)) (λ j a ne e o. was_dgram c s past w u h f g _ j a e o (start_was un Dgram j s o));
+    by_dgram = each_at (λ j (a : Tryer). (o : IsOwed c s j past w (Put (Start k s Dgram) ∷ h)) → StageOwed c w past a.request o.place a.stage) k _ u.server.by_dgram.held (λ o. (let z = g.begun k (start_was un Dgram k s o).0 in let y : true ≡ false = sym z ∙ un in cc)) (λ j a ne e o. was_dgram c s past w u h f g _ j a e o (start_was un Dgram j s o));
     by_stream = λ j a e o. was_stream c s past w u h f g _ j a e o (start_was un Dgram j s o);
   }
     where
@@ -367,10 +368,10 @@ module _ (c : Conf) (s next k : ℕ) (past : History) (w : What) (u : Served) (h
   cancels_were _ (served.IsGivenUp x v (server.AtStreams none)) j t o = (o, refl, refl)
 
   pub cancels_owed : (d : Step Served) → served.Cancels s next k u d → OwedFits c s past w d.state.server (put_all d.outs h)
-  cancels_owed _ (served.IsGivenUp x v (server.Waits a held stage)) = record { begun = g.begun; by_dgram = each_other (λ j (a : Tryer). (o : IsOwed c s j past w h) → StageOwed w past a.request o.place a.stage) k u.server.by_dgram.held (λ j a ne e. g.by_dgram j a e); by_stream = g.by_stream }
+  cancels_owed _ (served.IsGivenUp x v (server.Waits a held stage)) = record { begun = g.begun; by_dgram = each_other (λ j (a : Tryer). (o : IsOwed c s j past w h) → StageOwed c w past a.request o.place a.stage) k u.server.by_dgram.held (λ j a ne e. g.by_dgram j a e); by_stream = g.by_stream }
   cancels_owed _ (served.IsGivenUp x v (server.HasPlace a p held stage)) = record {
     begun = λ j o. g.begun j (close_was c s past w u h f g p j o).0;
-    by_dgram = each_other (λ j (b : Tryer). (o : IsOwed c s j past w (Put (Close p) ∷ h)) → StageOwed w past b.request o.place b.stage) k _ (λ j b ne e o. was_dgram c s past w u h f g _ j b (sym (at_there k j _ u.server.by_dgram.held ne) ∙ e) o (close_was c s past w u h f g p j o));
+    by_dgram = each_other (λ j (b : Tryer). (o : IsOwed c s j past w (Put (Close p) ∷ h)) → StageOwed c w past b.request o.place b.stage) k _ (λ j b ne e o. was_dgram c s past w u h f g _ j b (sym (at_there k j _ u.server.by_dgram.held ne) ∙ e) o (close_was c s past w u h f g p j o));
     by_stream = λ j b e o. was_stream c s past w u h f g _ j b e o (close_was c s past w u h f g p j o);
   }
   cancels_owed _ (served.IsGivenUp x v (server.AtStreams none)) = record { begun = g.begun; by_dgram = g.by_dgram; by_stream = each_other (λ j (a : Asker). (o : IsOwed c s j past w h) → PhaseOwed (now h) o.via o.place a.phase) k u.server.by_stream.asks (λ j a ne e. g.by_stream j a e) }

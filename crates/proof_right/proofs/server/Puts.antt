@@ -7,7 +7,7 @@ use Rattle.client_request.specs.declared.event.What.{What}
 use Rattle.client_request.specs.declared.event.Out.{Out}
 use Rattle.client_request.specs.declared.event.Out.TheVariants.{Start, OpenDgram, OpenStream, Send, Write, Resume, Close, Stale, Reply}
 use Rattle.client_request.specs.declared.event.Via.TheVariants.{Stream}
-use Rattle.right_trace.specs.Trace.{History, Put}
+use Rattle.right_trace.specs.Trace.{History, Put, Conf}
 use Rattle.right_trace.specs.Time.{now}
 use Rattle.right_trace.specs.Messages.{Octets}
 use Rattle.right_trace.specs.Requests.{start, started, is_start}
@@ -31,34 +31,34 @@ starts_more k s o h e = go (is_start k s Stream o)
     go true = refl
     go false = e
 
-pub put_same : (s q : ℕ) (o : Out) (h : History) → touches q o ≡ false → SameConn s q h (Put o ∷ h)
-put_same s q (Start k t v) h e = record { stand = refl; at = refl; waiting = λ ms id. refl; idle = λ ms. refl; quiet = λ ms. refl; writing = refl; reading = refl; came = refl; ended = refl; clock = refl; asking = λ k. refl; starts = λ j. starts_more j s (Start k t v) h }
-put_same s q (OpenDgram p t) h e = record { stand = grind (arith, nat_tests); at = grind (arith, nat_tests); waiting = λ ms id. refl; idle = λ ms. refl; quiet = λ ms. refl; writing = refl; reading = refl; came = refl; ended = refl; clock = refl; asking = λ k. refl; starts = λ j. starts_more j s (OpenDgram p t) h }
-put_same s q (OpenStream p t) h e = record { stand = grind (arith, nat_tests); at = grind (arith, nat_tests); waiting = λ ms id. refl; idle = λ ms. refl; quiet = λ ms. rw e refl; writing = refl; reading = refl; came = refl; ended = refl; clock = refl; asking = λ k. refl; starts = λ j. starts_more j s (OpenStream p t) h }
-put_same s q (Send p k i o) h e = record { stand = refl; at = refl; waiting = λ ms id. refl; idle = λ ms. refl; quiet = λ ms. refl; writing = refl; reading = refl; came = refl; ended = refl; clock = refl; asking = λ k. refl; starts = λ j. starts_more j s (Send p k i o) h }
-put_same s q (Write p k i o) h e = record { stand = refl; at = refl; waiting = λ ms id. rw e refl; idle = λ ms. refl; quiet = λ ms. refl; writing = rw e refl; reading = refl; came = refl; ended = refl; clock = refl; asking = λ k. refl; starts = λ j. starts_more j s (Write p k i o) h }
-put_same s q (Resume p o) h e = record { stand = refl; at = refl; waiting = λ ms id. refl; idle = λ ms. refl; quiet = λ ms. refl; writing = refl; reading = refl; came = refl; ended = refl; clock = refl; asking = λ k. refl; starts = λ j. starts_more j s (Resume p o) h }
-put_same s q (Stale l) h e = record { stand = refl; at = refl; waiting = λ ms id. refl; idle = λ ms. refl; quiet = λ ms. refl; writing = refl; reading = refl; came = refl; ended = refl; clock = refl; asking = λ k. refl; starts = λ j. starts_more j s (Stale l) h }
-put_same s q (Close p) h e = record { stand = rw e refl; at = refl; waiting = λ ms id. refl; idle = λ ms. refl; quiet = λ ms. refl; writing = refl; reading = refl; came = refl; ended = refl; clock = refl; asking = λ k. refl; starts = λ j. starts_more j s (Close p) h }
-put_same s q (Reply k x) h e = record { stand = refl; at = refl; waiting = λ ms id. refl; idle = λ ms. refl; quiet = λ ms. refl; writing = refl; reading = refl; came = refl; ended = refl; clock = refl; asking = λ k. refl; starts = λ j. starts_more j s (Reply k x) h }
+pub put_same : (c : Conf) → (s q : ℕ) (o : Out) (h : History) → touches q o ≡ false → SameConn c s q h (Put o ∷ h)
+put_same c s q (Start k t v) h e = record { stand = refl; at = refl; waiting = λ ms id. refl; idle = λ ms. refl; quiet = λ ms. refl; writing = refl; reading = refl; came = refl; ended = refl; clock = refl; asking = λ k. refl; starts = λ j. starts_more j s (Start k t v) h }
+put_same c s q (OpenDgram p t) h e = record { stand = grind (arith, nat_tests); at = grind (arith, nat_tests); waiting = λ ms id. refl; idle = λ ms. refl; quiet = λ ms. refl; writing = refl; reading = refl; came = refl; ended = refl; clock = refl; asking = λ k. refl; starts = λ j. starts_more j s (OpenDgram p t) h }
+put_same c s q (OpenStream p t) h e = record { stand = grind (arith, nat_tests); at = grind (arith, nat_tests); waiting = λ ms id. refl; idle = λ ms. refl; quiet = λ ms. rw e refl; writing = refl; reading = refl; came = refl; ended = refl; clock = refl; asking = λ k. refl; starts = λ j. starts_more j s (OpenStream p t) h }
+put_same c s q (Send p k i o) h e = record { stand = refl; at = refl; waiting = λ ms id. refl; idle = λ ms. refl; quiet = λ ms. refl; writing = refl; reading = refl; came = refl; ended = refl; clock = refl; asking = λ k. refl; starts = λ j. starts_more j s (Send p k i o) h }
+put_same c s q (Write p k i o) h e = record { stand = refl; at = refl; waiting = λ ms id. rw e refl; idle = λ ms. refl; quiet = λ ms. refl; writing = rw e refl; reading = refl; came = refl; ended = refl; clock = refl; asking = λ k. refl; starts = λ j. starts_more j s (Write p k i o) h }
+put_same c s q (Resume p o) h e = record { stand = refl; at = refl; waiting = λ ms id. refl; idle = λ ms. refl; quiet = λ ms. refl; writing = refl; reading = refl; came = refl; ended = refl; clock = refl; asking = λ k. refl; starts = λ j. starts_more j s (Resume p o) h }
+put_same c s q (Stale l) h e = record { stand = refl; at = refl; waiting = λ ms id. refl; idle = λ ms. refl; quiet = λ ms. refl; writing = refl; reading = refl; came = refl; ended = refl; clock = refl; asking = λ k. refl; starts = λ j. starts_more j s (Stale l) h }
+put_same c s q (Close p) h e = record { stand = rw e refl; at = refl; waiting = λ ms id. refl; idle = λ ms. refl; quiet = λ ms. refl; writing = refl; reading = refl; came = refl; ended = refl; clock = refl; asking = λ k. refl; starts = λ j. starts_more j s (Close p) h }
+put_same c s q (Reply k x) h e = record { stand = refl; at = refl; waiting = λ ms id. refl; idle = λ ms. refl; quiet = λ ms. refl; writing = refl; reading = refl; came = refl; ended = refl; clock = refl; asking = λ k. refl; starts = λ j. starts_more j s (Reply k x) h }
 
-pub phase_put : (s k : ℕ) (r : Request) (conns : ℕ → Option Conn) (opening : Option ℕ) (o : Out) (h : History) (ph : Phase) → PhaseFits s k r conns opening h ph → PhaseFits s k r conns opening (Put o ∷ h) ph
-phase_put s k r conns opening o h Free f = tt
-phase_put s k r conns opening o h Expecting f = f
-phase_put s k r conns opening o h (Lined q) f = f
-phase_put s k r conns opening o h (Holding q id) f = record { conn = f.conn; is_conn = f.is_conn; written = f.written; is_held = f.is_held; its = f.its }
-phase_put s k r conns opening o h Broken (inl e) = inl e
-phase_put s k r conns opening o h Broken (inr e) = inr (inr e)
-phase_put s k r conns opening o h (BackingOff until) (inl e) = inl e
-phase_put s k r conns opening o h (BackingOff until) (inr e) = inr (inr e)
+pub phase_put : (c : Conf) → (s k : ℕ) (r : Request) (conns : ℕ → Option Conn) (opening : Option ℕ) (o : Out) (h : History) (ph : Phase) → PhaseFits c s k r conns opening h ph → PhaseFits c s k r conns opening (Put o ∷ h) ph
+phase_put c s k r conns opening o h Free f = tt
+phase_put c s k r conns opening o h Expecting f = f
+phase_put c s k r conns opening o h (Lined q) f = f
+phase_put c s k r conns opening o h (Holding q id) f = record { conn = f.conn; is_conn = f.is_conn; written = f.written; is_held = f.is_held; its = f.its }
+phase_put c s k r conns opening o h Broken (inl e) = inl e
+phase_put c s k r conns opening o h Broken (inr e) = inr (inr e)
+phase_put c s k r conns opening o h (BackingOff until) (inl e) = inl e
+phase_put c s k r conns opening o h (BackingOff until) (inr e) = inr (inr e)
 
 -- a request that the out neither answers nor starts
-pub ask_put : (s k : ℕ) (a : Asker) (conns conns' : ℕ → Option Conn) (opening opening' : Option ℕ) (o : Out) (h : History) → is_start k s Stream o ≡ false → PhaseFits s k a.request conns' opening' (Put o ∷ h) a.phase
-    → AskFits s k a conns opening h → AskFits s k a conns' opening' (Put o ∷ h)
-ask_put s k a conns conns' opening opening' o h g ph f = record { asked = f.asked; since = rw g f.since; phase = ph }
+pub ask_put : (c : Conf) → (s k : ℕ) (a : Asker) (conns conns' : ℕ → Option Conn) (opening opening' : Option ℕ) (o : Out) (h : History) → is_start k s Stream o ≡ false → PhaseFits c s k a.request conns' opening' (Put o ∷ h) a.phase
+    → AskFits c s k a conns opening h → AskFits c s k a conns' opening' (Put o ∷ h)
+ask_put c s k a conns conns' opening opening' o h g ph f = record { asked = f.asked; since = rw g f.since; phase = ph }
 
-blank_same : (s q : ℕ) (w : What) (h h' : History) → SameConn s q h h' → IsBlank q w h → IsBlank q w h'
-blank_same s q w h h' same b = record {
+blank_same : (c : Conf) → (s q : ℕ) (w : What) (h h' : History) → SameConn c s q h h' → IsBlank c q w h → IsBlank c q w h'
+blank_same c s q w h h' same b = record {
   waiting = λ ms id. same.waiting ms id ∙ b.waiting ms id;
   wanted = rw same.writing b.wanted;
   takes = rw same.writing b.takes;
@@ -67,15 +67,15 @@ blank_same s q w h h' same b = record {
   came = same.came ∙ b.came;
 }
 
-pub opening_put : (s q : ℕ) (past : History) (w pend : What) (o : Out) (h : History) → touches q o ≡ false → OpeningFits s q past w pend h → OpeningFits s q past w pend (Put o ∷ h)
-opening_put s q past w pend o h e f =
-    let same = put_same s q o h e in
-    record { fails = λ g e. inr (f.fails g e); stand = same.stand ∙ f.stand; at = same.at ∙ f.at; blank = blank_same s q w h (Put o ∷ h) same f.blank }
+pub opening_put : (c : Conf) → (s q : ℕ) (past : History) (w pend : What) (o : Out) (h : History) → touches q o ≡ false → OpeningFits c s q past w pend h → OpeningFits c s q past w pend (Put o ∷ h)
+opening_put c s q past w pend o h e f =
+    let same = put_same c s q o h e in
+    record { fails = λ g e. inr (f.fails g e); stand = same.stand ∙ f.stand; at = same.at ∙ f.at; blank = blank_same c s q w h (Put o ∷ h) same f.blank }
 
-pub to_come_put : (s q : ℕ) (past : History) (w : What) (m m' : Multi) (o : Out) (h : History) → touches q o ≡ false → m'.conns q ≡ m.conns q → IsToCome q past w m h → IsToCome q past w m' (Put o ∷ h)
-to_come_put s q past w m m' o h e c f =
-    let same = put_same s q o h e in
-    record { was = f.was; unheld = c ∙ f.unheld; stand = same.stand ∙ f.stand; nowhere = same.at ∙ f.nowhere; blank = blank_same s q w h (Put o ∷ h) same f.blank }
+pub to_come_put : (c : Conf) → (s q : ℕ) (past : History) (w : What) (m m' : Multi) (o : Out) (h : History) → touches q o ≡ false → m'.conns q ≡ m.conns q → IsToCome c q past w m h → IsToCome c q past w m' (Put o ∷ h)
+to_come_put c s q past w m m' o h e g f =
+    let same = put_same c s q o h e in
+    record { was = f.was; unheld = g ∙ f.unheld; stand = same.stand ∙ f.stand; nowhere = same.at ∙ f.nowhere; blank = blank_same c s q w h (Put o ∷ h) same f.blank }
 
 pub row_put : (past : History) (w : What) (o : Out) (h : History) → RowFits past w h → RowFits past w (Put o ∷ h)
 row_put past w o h f = record { before = f.before; event = f.event; came = f.came }
@@ -99,16 +99,16 @@ pub record IsForeignOut (s : ℕ) (m : Multi) (o : Out) (h : History) : Type 0 w
   pub asks : (k : ℕ) (a : Asker) → m.asks k ≡ Some a → is_start k s Stream o ≡ false
   pub elsewhere : (q : ℕ) → touches q o ≡ true → is_at Stream s q (Put o ∷ h) ≡ true → is_live (stand q (Put o ∷ h)) ≡ false
 
-pub kept_put : (s : ℕ) (past : History) (w pend : What) (fr more : ℕ → List Octets) (m : Multi) (o : Out) (h : History) → IsForeignOut s m o h → Kept s past w pend fr more m h → Kept s past w pend fr more m (Put o ∷ h)
-kept_put s past w pend fr more m o h out kept = record {
+pub kept_put : (c : Conf) → (s : ℕ) (past : History) (w pend : What) (fr more : ℕ → List Octets) (m : Multi) (o : Out) (h : History) → IsForeignOut s m o h → Kept c s past w pend fr more m h → Kept c s past w pend fr more m (Put o ∷ h)
+kept_put c s past w pend fr more m o h out kept = record {
   row = row_put past w o h kept.row;
-  asks = λ k a e. (let f = kept.asks k a e in let g = out.asks k a e in ask_put s k a m.conns m.conns m.opening m.opening o h g (phase_put s k a.request m.conns m.opening o h a.phase f.phase) f);
-  conns = λ q x e. same_conn s q past pend (fr q) (more q) x h (Put o ∷ h) (put_same s q o h (out.conns q x e)) (kept.conns q x e);
+  asks = λ k a e. (let f = kept.asks k a e in let g = out.asks k a e in ask_put c s k a m.conns m.conns m.opening m.opening o h g (phase_put c s k a.request m.conns m.opening o h a.phase f.phase) f);
+  conns = λ q x e. same_conn c s q past pend (fr q) (more q) x h (Put o ∷ h) (put_same c s q o h (out.conns q x e)) (kept.conns q x e);
   owners = kept.owners;
-  opening = λ q e. opening_put s q past w pend o h (out.opening q e) (kept.opening q e);
+  opening = λ q e. opening_put c s q past w pend o h (out.opening q e) (kept.opening q e);
   apart = kept.apart;
   others = λ q e g n. (others q e g n (touches q o) refl);
-  to_come = λ q le. to_come_put s q past w m m o h (untouched q le (touches q o) refl) refl (kept.to_come q (let r = reach_put o h in omega arith));
+  to_come = λ q le. to_come_put c s q past w m m o h (untouched q le (touches q o) refl) refl (kept.to_come q (let r = reach_put o h in omega arith));
   below = λ q e. (let i = kept.below q e in let r = reach_put o h in omega arith);
   calm = λ lt. inr (kept.calm lt);
   late = kept.late;
@@ -117,7 +117,7 @@ kept_put s past w pend fr more m o h out kept = record {
     others : (q : ℕ) → is_at Stream s q (Put o ∷ h) ≡ true → m.conns q ≡ None → m.opening ≢ Some q → (b : Bool) → touches q o ≡ b → is_live (stand q (Put o ∷ h)) ≡ false
     others q e g n true t = out.elsewhere q t e
     others q e g n false t =
-        let same = put_same s q o h t in
+        let same = put_same c s q o h t in
         rw same.stand (kept.others q (rw same.at at e) g n)
 
     untouched : (q : ℕ) → reach (Put o ∷ h) ≤ q → (b : Bool) → touches q o ≡ b → touches q o ≡ false

@@ -1,11 +1,12 @@
 -- Before anything happened, all is tied.
+use Rattle.right_trace.specs.Trace.{Conf}
 use Rattle.std.proofs.Common.{ℕ, [], refl, arith}
 use Rattle.client_request.specs.declared.event.What.TheVariants.{Tick}
 use Rattle.proof_right.specs.machine.Streams.{no_connection}
 use Rattle.proof_right.proofs.server.Kept.{Kept}
 
-pub nothing_yet : (s : ℕ) → Kept s [] Tick Tick (λ p. []) (λ p. []) no_connection []
-nothing_yet s = record {
+pub nothing_yet : (c : Conf) → (s : ℕ) → Kept c s [] Tick Tick (λ p. []) (λ p. []) no_connection []
+nothing_yet c s = record {
   row = record { before = refl; event = refl; came = λ p. refl };
   asks = λ k a e. absurd (cc);
   conns = λ p x e. absurd (cc);

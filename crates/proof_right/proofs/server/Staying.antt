@@ -52,10 +52,10 @@ IsNext s (OpenStream p i) h = p ≡ reach h
 IsNext s _ h = Unit {0}
 
 -- nothing waits at a place to come
-abbrev pub IsEmpty : History → Type 0
-IsEmpty h = (v : Via) (r : Request) (t p k id n : ℕ) (ms : List Octets) (x : Octets) → reach h ≤ p → IsAmong x (waited_for v r t p k id n ms h h) → ⊥
+abbrev pub IsEmpty : (c : Conf) → History → Type 0
+IsEmpty c h = (v : Via) (r : Request) (t p k id n : ℕ) (ms : List Octets) (x : Octets) → reach h ≤ p → IsAmong x (waited_for c v r t p k id n ms h h) → ⊥
 
-module _ (c : Conf) (s : ℕ) (past : History) (w : What) (h : History) (empty : IsEmpty h) (begun : BegunBy s h) where
+module _ (c : Conf) (s : ℕ) (past : History) (w : What) (h : History) (empty : IsEmpty c h) (begun : BegunBy s h) where
   abbrev Stays : Out → Type 0
   Stays o = (k t : ℕ) → (x : IsOwed c t k past w (Put o ∷ h)) → Was c t k past w h (Put o ∷ h) x ⊎ IsSentBy o k x.place x.via
 
@@ -72,13 +72,13 @@ module _ (c : Conf) (s : ℕ) (past : History) (w : What) (h : History) (empty :
           let b = begun x.place k x.id (z.0) (at_is s x.place h at) z.1 in
           (let y : started k s Stream h ≡ false = subst (λ j. started j s Stream h ≡ false) who n.1 in let z : true ≡ false = sym b ∙ y in cc)
 
-      back : (u : Via) → x.via ≡ u → IsAmong x.octets (waited_for u x.request t x.place k x.id (now h) (came_here x.place h) (Put (Start j i v) ∷ h) (Put (Start j i v) ∷ h)) → IsAmong x.octets (waited_for u x.request t x.place k x.id (now h) (came_here x.place h) h h)
+      back : (u : Via) → x.via ≡ u → IsAmong x.octets (waited_for c u x.request t x.place k x.id (now h) (came_here x.place h) (Put (Start j i v) ∷ h) (Put (Start j i v) ∷ h)) → IsAmong x.octets (waited_for c u x.request t x.place k x.id (now h) (came_here x.place h) h h)
       back Dgram e a = a
       back Stream e a = go (is_start k t Stream (Start j i v)) refl
         where
-          go : (b : Bool) → is_start k t Stream (Start j i v) ≡ b → IsAmong x.octets (waited_for Stream x.request t x.place k x.id (now h) (came_here x.place h) h h)
-          go true g = absurd (not_new v next e (before_of (is_before (now h) (start k t Stream (Put (Start j i v) ∷ h))) x.octets (octets_for k (waiting_with (came_here x.place h) x.place x.id h)) a).1 g)
-          go false g = waited_start j i t v Stream x.request x.place k x.id x.octets (came_here x.place h) h h g a
+          go : (b : Bool) → is_start k t Stream (Start j i v) ≡ b → IsAmong x.octets (waited_for c Stream x.request t x.place k x.id (now h) (came_here x.place h) h h)
+          go true g = absurd (not_new v next e (before_of (is_before c (now h) (start k t Stream (Put (Start j i v) ∷ h))) x.octets (octets_for k (waiting_with (came_here x.place h) x.place x.id h)) a).1 g)
+          go false g = waited_start c j i t v Stream x.request x.place k x.id x.octets (came_here x.place h) h h g a
 
   opens_dgram : (p i : ℕ) → p ≡ reach h → Stays (OpenDgram p i)
   opens_dgram p i next k t x = elim (cases_eq p x.place) [
@@ -86,7 +86,7 @@ module _ (c : Conf) (s : ℕ) (past : History) (w : What) (h : History) (empty :
     | inr ne ↦ (let z : (p == x.place) ≡ false = grind (arith, nat_tests) in inl (record { request = x.request; via = x.via; place = x.place; id = x.id; asked = x.asked; alive = elim x.alive [ inl e ↦ inl (rw z at e) | inr e ↦ inr e ]; at = rw z at x.at; octets = x.octets; sent = back x.via x.sent; carries = x.carries }, refl, refl))
   ]
     where
-      back : (v : Via) → IsAmong x.octets (waited_for v x.request t x.place k x.id (now h) (came_here x.place h) (Put (OpenDgram p i) ∷ h) (Put (OpenDgram p i) ∷ h)) → IsAmong x.octets (waited_for v x.request t x.place k x.id (now h) (came_here x.place h) h h)
+      back : (v : Via) → IsAmong x.octets (waited_for c v x.request t x.place k x.id (now h) (came_here x.place h) (Put (OpenDgram p i) ∷ h) (Put (OpenDgram p i) ∷ h)) → IsAmong x.octets (waited_for c v x.request t x.place k x.id (now h) (came_here x.place h) h h)
       back Dgram a = a
       back Stream a = a
 
@@ -96,7 +96,7 @@ module _ (c : Conf) (s : ℕ) (past : History) (w : What) (h : History) (empty :
     | inr ne ↦ (let z : (p == x.place) ≡ false = grind (arith, nat_tests) in inl (record { request = x.request; via = x.via; place = x.place; id = x.id; asked = x.asked; alive = elim x.alive [ inl e ↦ inl (rw z at e) | inr e ↦ inr e ]; at = rw z at x.at; octets = x.octets; sent = back x.via x.sent; carries = x.carries }, refl, refl))
   ]
     where
-      back : (v : Via) → IsAmong x.octets (waited_for v x.request t x.place k x.id (now h) (came_here x.place h) (Put (OpenStream p i) ∷ h) (Put (OpenStream p i) ∷ h)) → IsAmong x.octets (waited_for v x.request t x.place k x.id (now h) (came_here x.place h) h h)
+      back : (v : Via) → IsAmong x.octets (waited_for c v x.request t x.place k x.id (now h) (came_here x.place h) (Put (OpenStream p i) ∷ h) (Put (OpenStream p i) ∷ h)) → IsAmong x.octets (waited_for c v x.request t x.place k x.id (now h) (came_here x.place h) h h)
       back Dgram a = a
       back Stream a = a
 
@@ -106,21 +106,21 @@ module _ (c : Conf) (s : ℕ) (past : History) (w : What) (h : History) (empty :
   sends_one : (p j id : ℕ) (o : Octets) → Stays (Send p j id o)
   sends_one p j id o k t x = back x.via refl x.sent
     where
-      it : IsAmong x.octets (waited_for x.via x.request t x.place k x.id (now h) (came_here x.place h) h h) → Was c t k past w h (Put (Send p j id o) ∷ h) x ⊎ IsSentBy (Send p j id o) k x.place x.via
+      it : IsAmong x.octets (waited_for c x.via x.request t x.place k x.id (now h) (came_here x.place h) h h) → Was c t k past w h (Put (Send p j id o) ∷ h) x ⊎ IsSentBy (Send p j id o) k x.place x.via
       it a = inl (record { request = x.request; via = x.via; place = x.place; id = x.id; asked = x.asked; alive = x.alive; at = x.at; octets = x.octets; sent = a; carries = x.carries }, refl, refl)
 
-      go : (b : Bool) → (is_send x.place k x.id (Send p j id o) && nat_lt (now h) (now h + read_timeout)) ≡ b → x.via ≡ Dgram → IsAmong x.octets (if b then o ∷ unanswered x.request x.place k x.id (now h) h else unanswered x.request x.place k x.id (now h) h) → Was c t k past w h (Put (Send p j id o) ∷ h) x ⊎ IsSentBy (Send p j id o) k x.place x.via
-      go true e v a = (let z = is_send_of p j id x.place k x.id o (nat_lt (now h) (now h + read_timeout)) e in inr (v, z.1, z.0))
-      go false e v a = it (subst (λ v. IsAmong x.octets (waited_for v x.request t x.place k x.id (now h) (came_here x.place h) h h)) (sym v) a)
+      go : (b : Bool) → (is_send x.place k x.id (Send p j id o) && nat_lt (now h) (now h + read_timeout c)) ≡ b → x.via ≡ Dgram → IsAmong x.octets (if b then o ∷ unanswered c x.request x.place k x.id (now h) h else unanswered c x.request x.place k x.id (now h) h) → Was c t k past w h (Put (Send p j id o) ∷ h) x ⊎ IsSentBy (Send p j id o) k x.place x.via
+      go true e v a = (let z = is_send_of p j id x.place k x.id o (nat_lt (now h) (now h + read_timeout c)) e in inr (v, z.1, z.0))
+      go false e v a = it (subst (λ v. IsAmong x.octets (waited_for c v x.request t x.place k x.id (now h) (came_here x.place h) h h)) (sym v) a)
 
-      back : (v : Via) → x.via ≡ v → IsAmong x.octets (waited_for v x.request t x.place k x.id (now h) (came_here x.place h) (Put (Send p j id o) ∷ h) (Put (Send p j id o) ∷ h)) → Was c t k past w h (Put (Send p j id o) ∷ h) x ⊎ IsSentBy (Send p j id o) k x.place x.via
-      back Dgram v a = go (is_send x.place k x.id (Send p j id o) && nat_lt (now h) (now h + read_timeout)) refl v a
-      back Stream v a = it (subst (λ v. IsAmong x.octets (waited_for v x.request t x.place k x.id (now h) (came_here x.place h) h h)) (sym v) a)
+      back : (v : Via) → x.via ≡ v → IsAmong x.octets (waited_for c v x.request t x.place k x.id (now h) (came_here x.place h) (Put (Send p j id o) ∷ h) (Put (Send p j id o) ∷ h)) → Was c t k past w h (Put (Send p j id o) ∷ h) x ⊎ IsSentBy (Send p j id o) k x.place x.via
+      back Dgram v a = go (is_send x.place k x.id (Send p j id o) && nat_lt (now h) (now h + read_timeout c)) refl v a
+      back Stream v a = it (subst (λ v. IsAmong x.octets (waited_for c v x.request t x.place k x.id (now h) (came_here x.place h) h h)) (sym v) a)
 
   writes_one : (p j id : ℕ) (o : Octets) → Stays (Write p j id o)
   writes_one p j id o k t x = back x.via refl x.sent
     where
-      it : IsAmong x.octets (waited_for x.via x.request t x.place k x.id (now h) (came_here x.place h) h h) → Was c t k past w h (Put (Write p j id o) ∷ h) x ⊎ IsSentBy (Write p j id o) k x.place x.via
+      it : IsAmong x.octets (waited_for c x.via x.request t x.place k x.id (now h) (came_here x.place h) h h) → Was c t k past w h (Put (Write p j id o) ∷ h) x ⊎ IsSentBy (Write p j id o) k x.place x.via
       it a = inl (record { request = x.request; via = x.via; place = x.place; id = x.id; asked = x.asked; alive = x.alive; at = x.at; octets = x.octets; sent = a; carries = x.carries }, refl, refl)
 
       go : (bp bi bn bk : Bool) → (p == x.place) ≡ bp → (j == k) ≡ bk → IsAmong x.octets (octets_for k (if (bp && bi) && bn then record { request = j; octets = o; moment = now h } ∷ (waiting_with (came_here x.place h) x.place x.id h) else (waiting_with (came_here x.place h) x.place x.id h))) → ((p ≡ x.place) × (j ≡ k)) ⊎ IsAmong x.octets (octets_for k (waiting_with (came_here x.place h) x.place x.id h))
@@ -130,11 +130,11 @@ module _ (c : Conf) (s : ℕ) (past : History) (w : What) (h : History) (empty :
       go true false bn bk e g i = inr i
       go false bi bn bk e g i = inr i
 
-      back : (v : Via) → x.via ≡ v → IsAmong x.octets (waited_for v x.request t x.place k x.id (now h) (came_here x.place h) (Put (Write p j id o) ∷ h) (Put (Write p j id o) ∷ h)) → Was c t k past w h (Put (Write p j id o) ∷ h) x ⊎ IsSentBy (Write p j id o) k x.place x.via
-      back Dgram v a = it (subst (λ v. IsAmong x.octets (waited_for v x.request t x.place k x.id (now h) (came_here x.place h) h h)) (sym v) a)
+      back : (v : Via) → x.via ≡ v → IsAmong x.octets (waited_for c v x.request t x.place k x.id (now h) (came_here x.place h) (Put (Write p j id o) ∷ h) (Put (Write p j id o) ∷ h)) → Was c t k past w h (Put (Write p j id o) ∷ h) x ⊎ IsSentBy (Write p j id o) k x.place x.via
+      back Dgram v a = it (subst (λ v. IsAmong x.octets (waited_for c v x.request t x.place k x.id (now h) (came_here x.place h) h h)) (sym v) a)
       back Stream v a =
-          let b = before_of (is_before (now h) (start k t Stream h)) x.octets (octets_for k (waiting_with (came_here x.place h) x.place x.id (Put (Write p j id o) ∷ h))) a in
-          elim (go (p == x.place) (id == x.id) (not (brings x.id (came_here x.place h))) (j == k) refl refl b.1) [ inl new ↦ inr (v, new.1, new.0) | inr old ↦ it (subst (λ v. IsAmong x.octets (waited_for v x.request t x.place k x.id (now h) (came_here x.place h) h h)) (sym v) (rw b.0 old)) ]
+          let b = before_of (is_before c (now h) (start k t Stream h)) x.octets (octets_for k (waiting_with (came_here x.place h) x.place x.id (Put (Write p j id o) ∷ h))) a in
+          elim (go (p == x.place) (id == x.id) (not (brings x.id (came_here x.place h))) (j == k) refl refl b.1) [ inl new ↦ inr (v, new.1, new.0) | inr old ↦ it (subst (λ v. IsAmong x.octets (waited_for c v x.request t x.place k x.id (now h) (came_here x.place h) h h)) (sym v) (rw b.0 old)) ]
 
   pub owed_put : (o : Out) → IsNext s o h → Stays o
   owed_put (Start j i v) next k t x = starts_one j i v next k t x
@@ -144,22 +144,22 @@ module _ (c : Conf) (s : ℕ) (past : History) (w : What) (h : History) (empty :
   owed_put (Write p j id o) next k t x = writes_one p j id o k t x
   owed_put (Resume p o) next k t x = inl (record { request = x.request; via = x.via; place = x.place; id = x.id; asked = x.asked; alive = x.alive; at = x.at; octets = x.octets; sent = back x.via x.sent; carries = x.carries }, refl, refl)
     where
-      back : (v : Via) → IsAmong x.octets (waited_for v x.request t x.place k x.id (now h) (came_here x.place h) (Put (Resume p o) ∷ h) (Put (Resume p o) ∷ h)) → IsAmong x.octets (waited_for v x.request t x.place k x.id (now h) (came_here x.place h) h h)
+      back : (v : Via) → IsAmong x.octets (waited_for c v x.request t x.place k x.id (now h) (came_here x.place h) (Put (Resume p o) ∷ h) (Put (Resume p o) ∷ h)) → IsAmong x.octets (waited_for c v x.request t x.place k x.id (now h) (came_here x.place h) h h)
       back Dgram a = a
       back Stream a = a
   owed_put (Stale l) next k t x = inl (record { request = x.request; via = x.via; place = x.place; id = x.id; asked = x.asked; alive = x.alive; at = x.at; octets = x.octets; sent = back x.via x.sent; carries = x.carries }, refl, refl)
     where
-      back : (v : Via) → IsAmong x.octets (waited_for v x.request t x.place k x.id (now h) (came_here x.place h) (Put (Stale l) ∷ h) (Put (Stale l) ∷ h)) → IsAmong x.octets (waited_for v x.request t x.place k x.id (now h) (came_here x.place h) h h)
+      back : (v : Via) → IsAmong x.octets (waited_for c v x.request t x.place k x.id (now h) (came_here x.place h) (Put (Stale l) ∷ h) (Put (Stale l) ∷ h)) → IsAmong x.octets (waited_for c v x.request t x.place k x.id (now h) (came_here x.place h) h h)
       back Dgram a = a
       back Stream a = a
   owed_put (Close p) next k t x = inl (record { request = x.request; via = x.via; place = x.place; id = x.id; asked = x.asked; alive = elim x.alive [ inl e ↦ inl (still_alive (p == x.place) _ e) | inr e ↦ inr e ]; at = x.at; octets = x.octets; sent = back x.via x.sent; carries = x.carries }, refl, refl)
     where
-      back : (v : Via) → IsAmong x.octets (waited_for v x.request t x.place k x.id (now h) (came_here x.place h) (Put (Close p) ∷ h) (Put (Close p) ∷ h)) → IsAmong x.octets (waited_for v x.request t x.place k x.id (now h) (came_here x.place h) h h)
+      back : (v : Via) → IsAmong x.octets (waited_for c v x.request t x.place k x.id (now h) (came_here x.place h) (Put (Close p) ∷ h) (Put (Close p) ∷ h)) → IsAmong x.octets (waited_for c v x.request t x.place k x.id (now h) (came_here x.place h) h h)
       back Dgram a = a
       back Stream a = a
   owed_put (Reply j y) next k t x = inl (record { request = x.request; via = x.via; place = x.place; id = x.id; asked = x.asked; alive = x.alive; at = x.at; octets = x.octets; sent = back x.via x.sent; carries = x.carries }, refl, refl)
     where
-      back : (v : Via) → IsAmong x.octets (waited_for v x.request t x.place k x.id (now h) (came_here x.place h) (Put (Reply j y) ∷ h) (Put (Reply j y) ∷ h)) → IsAmong x.octets (waited_for v x.request t x.place k x.id (now h) (came_here x.place h) h h)
+      back : (v : Via) → IsAmong x.octets (waited_for c v x.request t x.place k x.id (now h) (came_here x.place h) (Put (Reply j y) ∷ h) (Put (Reply j y) ∷ h)) → IsAmong x.octets (waited_for c v x.request t x.place k x.id (now h) (came_here x.place h) h h)
       back Dgram a = a
       back Stream a = a
 
@@ -168,9 +168,9 @@ server_is s t u v x a b = (let z : Some (record { via = u; server = s }) ≡ Som
 
 module _ (c : Conf) (s : ℕ) (past : History) (w : What) (u : Served) (h : History) (f : Fits c s past w u h) where
   -- nothing waits at a place to come
-  pub nothing_new : IsEmpty h
+  pub nothing_new : IsEmpty c h
   nothing_new Dgram r t p k id n ms x le i = subst (λ os. IsAmong x os) ((f.dgrams.new p le).none r k id n) i
-  nothing_new Stream r t p k id n ms x le i = (let b = before_of (is_before n (start k t Stream h)) x (octets_for k (waiting_with ms p id h)) i in subst (λ ws. IsAmong x (octets_for k ws)) ((f.streams.to_come p le).blank.waiting ms id) b.1)
+  nothing_new Stream r t p k id n ms x le i = (let b = before_of (is_before c n (start k t Stream h)) x (octets_for k (waiting_with ms p id h)) i in subst (λ ws. IsAmong x (octets_for k ws)) ((f.streams.to_come p le).blank.waiting ms id) b.1)
 
   -- an out of this server owes nothing new but to a request that it holds
   abbrev pub OutStays : Out → Type 0
@@ -220,13 +220,13 @@ module _ (c : Conf) (s : ℕ) (past : History) (w : What) (u : Served) (h : Hist
       go true e = refl
       go false e = e
 
-  tries_stay : (d : Dgrams) (x : Act) → Tries s (now h) (reach h) u.server.by_dgram x d → ActStays x
+  tries_stay : (d : Dgrams) (x : Act) → Tries c s (now h) (reach h) u.server.by_dgram x d → ActStays x
   tries_stay _ _ (dgrams.Opens k a held stage few) = mute (OpenDgram (reach h) s) tt refl
   tries_stay _ _ (dgrams.Retries k a p id t held stage late few) = mute (Close p) tt tt
   tries_stay _ _ (dgrams.StopsTrying k a p id t held stage late six) = mute (Close p) tt tt
   tries_stay _ _ (dgrams.Ends k a x held stage) = tt
 
-  meets_stay : (d : Dgrams) (v : What) (x : Act) → Meets u.clock u.server.by_dgram v x d → ActStays x
+  meets_stay : (d : Dgrams) (v : What) (x : Act) → Meets c u.clock u.server.by_dgram v x d → ActStays x
   meets_stay _ _ _ (dgrams.IsSent k a p id o at held stage carries) = sends_one' p k id o (at_site c s past w u.pending u.server.by_dgram h p k f.dgrams at) (held_tryer k a held)
   meets_stay _ _ _ (dgrams.CannotBeSent k a p e at held stage bad) = mute (Close p) tt tt
   meets_stay _ _ _ (dgrams.DoesNotOpen k a p g at held stage) = tt
@@ -235,7 +235,7 @@ module _ (c : Conf) (s : ℕ) (past : History) (w : What) (u : Served) (h : Hist
   meets_stay _ _ _ (dgrams.NotReceived k a p id t g at held stage) = mute (Close p) tt tt
   meets_stay _ _ _ (dgrams.IsAnswered k a p id t o at held stage long ok) = mute (Close p) tt tt
 
-  moves_stay : (m : Multi) (x : Act) → Moves s (now h) (reach h) u.server.by_stream x m → ActStays x
+  moves_stay : (m : Multi) (x : Act) → Moves c s (now h) (reach h) u.server.by_stream x m → ActStays x
   moves_stay _ _ (multi.Joins k a p x ask phase conn) = tt
   moves_stay _ _ (multi.Expects k a p ask phase op) = tt
   moves_stay _ _ (multi.Opens k a ask phase none full) = mute (OpenStream (reach h) s) tt refl
@@ -249,7 +249,7 @@ module _ (c : Conf) (s : ℕ) (past : History) (w : What) (u : Served) (h : Hist
   moves_stay _ _ (multi.ReadsNothing p x since conn mode late) = mute (Close p) tt tt
   moves_stay _ _ (multi.RestsTooLong p x since conn mode late pumped) = mute (Close p) tt tt
 
-  takes_stay : (m : Multi) (v : What) (x : Act) → Takes u.clock u.server.by_stream v x m → ActStays x
+  takes_stay : (m : Multi) (v : What) (x : Act) → Takes c u.clock u.server.by_stream v x m → ActStays x
   takes_stay _ _ _ (multi.ItOpens p op) = tt
   takes_stay _ _ _ (multi.ItDoesNotOpen p g calm op lt) = tt
   takes_stay _ _ _ (multi.ItFails w p x conn told) = mute (Close p) tt tt
@@ -283,9 +283,9 @@ module _ (c : Conf) (s : ℕ) (past : History) (w : What) (u : Served) (h : Hist
   settles_stay next v x _ st (WithResult j a y held stage) k t i = act_stays x st k t i
 
   -- what a move of its own makes it owe: nothing but to a request that it holds
-  pub acts_were : (next : ℕ) → next ≡ reach h → (d : Step Served) → Acts s next u d → WasIn d.outs
-  acts_were next is d (served.ByDgram x e _ tries set) = settles_stay next _ x d (tries_stay e x (subst₂ (λ n next. Tries s n next u.server.by_dgram x e) f.clock is tries)) set
-  acts_were next is _ (served.ByStream x m move) = act_stays x (moves_stay m x (subst₂ (λ n next. Moves s n next u.server.by_stream x m) f.clock is move))
+  pub acts_were : (next : ℕ) → next ≡ reach h → (d : Step Served) → Acts c s next u d → WasIn d.outs
+  acts_were next is d (served.ByDgram x e _ tries set) = settles_stay next _ x d (tries_stay e x (subst₂ (λ n next. Tries c s n next u.server.by_dgram x e) f.clock is tries)) set
+  acts_were next is _ (served.ByStream x m move) = act_stays x (moves_stay m x (subst₂ (λ n next. Moves c s n next u.server.by_stream x m) f.clock is move))
   acts_were next is _ (served.FallsBack j a held stage) = λ k t i. inl (start_put j k t (f.dgrams.held j a held).unstreamed i)
   acts_were next is d (served.TellsDgrams x e _ un soon meets foreign set) = settles_stay next _ x d (meets_stay e u.pending x meets) set
   acts_were next is _ (served.TellsStreams x m un plain takes ignored) = act_stays x (takes_stay m u.pending x takes)
@@ -293,5 +293,5 @@ module _ (c : Conf) (s : ℕ) (past : History) (w : What) (u : Served) (h : Hist
   acts_were next is _ (served.TakesOne g gs x m more soon frame) = act_stays x (frame_stay g m x frame)
   acts_were next is _ (served.ClosesFirst g gs j y m x since more soon frame conn mode late pumped) = λ k t i. inl (mute_put (Close u.place) tt tt k t i)
 
-  pub acts_stay : (next : ℕ) → next ≡ reach h → (d : Step Served) → Acts s next u d → (k t : ℕ) → (t ≡ s → holds u k ≡ false) → (IsOwed c t k past w h → ⊥) → IsOwed c t k past w (put_all d.outs h) → ⊥
+  pub acts_stay : (next : ℕ) → next ≡ reach h → (d : Step Served) → Acts c s next u d → (k t : ℕ) → (t ≡ s → holds u k ≡ false) → (IsOwed c t k past w h → ⊥) → IsOwed c t k past w (put_all d.outs h) → ⊥
   acts_stay next is d act k t free none i = elim (acts_were next is d act k t i) [ inl y ↦ none (y.0) | inr z ↦ (let n = free z.0 in let b : true ≡ false = sym z.1 ∙ n in cc) ]

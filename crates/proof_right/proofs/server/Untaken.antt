@@ -1,4 +1,5 @@
 -- A message that came by stream for a request that is held, and is not taken yet.
+use Rattle.right_trace.specs.Trace.{Conf}
 use Rattle.std.proofs.Common.{◌≡◌, ℕ, ◌+◌, ◌<◌, true, false, Some, sym, subst, ap, ◌∙◌}
 use Rattle.client_request.specs.declared.event.What.TheVariants.{Bytes}
 use Rattle.right_trace.specs.Time.{stream_timeout}
@@ -22,10 +23,10 @@ pub record IsUntaken (u : Served) (p k id : ℕ) (m : Octets) (a : Asker) : Type
   pub source : Source u p id m conn.got
 
 -- so it is expected, if it answers and is in time
-pub expects_it : (u : Served) (p k id : ℕ) (m : Octets) (a : Asker) → IsUntaken u p k id m a → u.clock < a.since + stream_timeout → answers a.request id m ≡ true → Expects u p k m
-expects_it u p k id m a x soon ok = go x.source
+pub expects_it : (c : Conf) → (u : Served) (p k id : ℕ) (m : Octets) (a : Asker) → IsUntaken u p k id m a → u.clock < a.since + stream_timeout c → answers a.request id m ≡ true → Expects c u p k m
+expects_it c u p k id m a x soon ok = go x.source
   where
-    go : Source u p id m x.conn.got → Expects u p k m
+    go : Source u p id m x.conn.got → Expects c u p k m
     go (InOctets o pend un first) = ByOctets a id o x.conn pend un x.ask soon x.phase x.is_conn first ok
     go (AmongFrames place taken first) = InFrames a id x.conn place taken x.ask soon x.phase x.is_conn first ok
 

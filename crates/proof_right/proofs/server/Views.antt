@@ -4,7 +4,7 @@ use Rattle.std.specs.Prelude.{nat_lt}
 use Rattle.std.proofs.lemmas.Bool.Decides.{nat_tests}
 use Rattle.client_request.specs.declared.event.What.{What}
 use Rattle.client_request.specs.declared.event.Via.TheVariants.{Stream}
-use Rattle.right_trace.specs.Trace.{History, Came, Put}
+use Rattle.right_trace.specs.Trace.{History, Came, Put, Conf}
 use Rattle.right_trace.specs.Time.{now, Ever}
 use Rattle.right_trace.specs.Messages.{Octets}
 use Rattle.right_trace.specs.Requests.{asking, started}
@@ -44,12 +44,12 @@ ever_more P Q f [] x = x
 ever_more P Q f (i ∷ h) (inl x) = inl (f (i ∷ h) x)
 ever_more P Q f (i ∷ h) (inr x) = inr (ever_more P Q f h x)
 
-pub broke_longer : (time more s n : ℕ) (h : History) → time ≤ more → Broke time s n h → Broke more s n h
-broke_longer time more s n h le x = ever_more (HappenedWithin time s n) (HappenedWithin more s n) (λ e y. record { recent = (let z = y.recent in omega arith); broke = y.broke }) h x
+pub broke_longer : (c : Conf) → (time more s n : ℕ) (h : History) → time ≤ more → Broke c time s n h → Broke c more s n h
+broke_longer c time more s n h le x = ever_more (HappenedWithin c time s n) (HappenedWithin c more s n) (λ e y. record { recent = (let z = y.recent in omega arith); broke = y.broke }) h x
 
 -- a moment that is later by less than t more
-pub broke_later : (time t s n m : ℕ) (h : History) → m < n + t → Broke time s n h → Broke (time + t) s m h
-broke_later time t s n m h lt x = ever_more (HappenedWithin time s n) (HappenedWithin (time + t) s m) (λ e y. record { recent = (let z = y.recent in omega arith); broke = y.broke }) h x
+pub broke_later : (c : Conf) → (time t s n m : ℕ) (h : History) → m < n + t → Broke c time s n h → Broke c (time + t) s m h
+broke_later c time t s n m h lt x = ever_more (HappenedWithin c time s n) (HappenedWithin c (time + t) s m) (λ e y. record { recent = (let z = y.recent in omega arith); broke = y.broke }) h x
 
 pub quiet_by_now : (ms : List Octets) (p : ℕ) (h : History) → quiet_with ms p h ≤ now h
 quiet_by_now ms p [] = omega arith
@@ -57,11 +57,11 @@ quiet_by_now ms p (Came e ∷ h) = (let i = quiet_by_now (came_here p h) p h in 
 quiet_by_now ms p (Put o ∷ h) = (let i = quiet_by_now ms p h in grind arith)
 
 -- two histories tell the same of a connection to server s at p
-pub record SameConn (s p : ℕ) (h h' : History) : Type 0 where
+pub record SameConn (c : Conf) (s p : ℕ) (h h' : History) : Type 0 where
   pub stand : stand p h' ≡ stand p h
   pub at : site p h' ≡ site p h
   pub waiting : (ms : List Octets) (id : ℕ) → waiting_with ms p id h' ≡ waiting_with ms p id h
-  pub idle : (ms : List Octets) → idle_with ms p h' ≡ idle_with ms p h
+  pub idle : (ms : List Octets) → idle_with c ms p h' ≡ idle_with c ms p h
   pub quiet : (ms : List Octets) → quiet_with ms p h' ≡ quiet_with ms p h
   pub writing : writing p h' ≡ writing p h
   pub reading : reading p h' ≡ reading p h
@@ -71,25 +71,25 @@ pub record SameConn (s p : ℕ) (h h' : History) : Type 0 where
   pub asking : (k : ℕ) → asking k h' ≡ asking k h
   pub starts : (k : ℕ) → started k s Stream h ≡ true → started k s Stream h' ≡ true
 
-unwritten_same : (s p : ℕ) (h h' : History) → SameConn s p h h' → is_unwritten p h' ≡ is_unwritten p h
-unwritten_same s p h h' same = ap (λ x. nat_lt x.taken x.wanted) same.writing
+unwritten_same : (c : Conf) → (s p : ℕ) (h h' : History) → SameConn c s p h h' → is_unwritten p h' ≡ is_unwritten p h
+unwritten_same c s p h h' same = ap (λ x. nat_lt x.taken x.wanted) same.writing
 
-loose_same : (s p : ℕ) (ms : List Octets) (h h' : History) → SameConn s p h h' → ends_loose_with ms p h' ≡ ends_loose_with ms p h
-loose_same s p [] h h' same = same.ended
-loose_same s p (m ∷ ms) h h' same = rw (unwritten_same s p h h' same, same.waiting) refl
+loose_same : (c : Conf) → (s p : ℕ) (ms : List Octets) (h h' : History) → SameConn c s p h h' → ends_loose_with ms p h' ≡ ends_loose_with ms p h
+loose_same c s p [] h h' same = same.ended
+loose_same c s p (m ∷ ms) h h' same = rw (unwritten_same c s p h h' same, same.waiting) refl
 
-reason_same : (s p since : ℕ) (ms : List Octets) (x : Conn) (h h' : History) → SameConn s p h h' → Reason s p since ms x h → Reason s p since ms x h'
-reason_same s p since ms x h h' same (HoldsSince id y e le) = HoldsSince id y e le
-reason_same s p since ms x h h' same (EndsSo e) = EndsSo (loose_same s p ms h h' same ∙ e)
-reason_same s p since ms x h h' same (HasInvalid k a e i st) = HasInvalid k a (same.asking k ∙ e) i (same.starts k st)
+reason_same : (c : Conf) → (s p since : ℕ) (ms : List Octets) (x : Conn) (h h' : History) → SameConn c s p h h' → Reason s p since ms x h → Reason s p since ms x h'
+reason_same c s p since ms x h h' same (HoldsSince id y e le) = HoldsSince id y e le
+reason_same c s p since ms x h h' same (EndsSo e) = EndsSo (loose_same c s p ms h h' same ∙ e)
+reason_same c s p since ms x h h' same (HasInvalid k a e i st) = HasInvalid k a (same.asking k ∙ e) i (same.starts k st)
 
-mode_same : (s p : ℕ) (past : History) (ms : List Octets) (x : Conn) (h h' : History) → SameConn s p h h' → (mode : Mode) → ModeFits s p past ms x h mode → ModeFits s p past ms x h' mode
-mode_same s p past ms x h h' same New f = tt
-mode_same s p past ms x h h' same (Active since) f = record { quiet = (let q = same.quiet ms in let r = f.quiet in omega arith); reason = reason_same s p since ms x h h' same f.reason }
-mode_same s p past ms x h h' same (Idle since) f = record { quiet = (let q = same.quiet ms in let r = f.quiet in omega arith); unheld = f.unheld; amid = λ lt. elim (f.amid lt) [ inl e ↦ inl e | inr e ↦ inr (unwritten_same s p h h' same ∙ e) ] }
+mode_same : (c : Conf) → (s p : ℕ) (past : History) (ms : List Octets) (x : Conn) (h h' : History) → SameConn c s p h h' → (mode : Mode) → ModeFits s p past ms x h mode → ModeFits s p past ms x h' mode
+mode_same c s p past ms x h h' same New f = tt
+mode_same c s p past ms x h h' same (Active since) f = record { quiet = (let q = same.quiet ms in let r = f.quiet in omega arith); reason = reason_same c s p since ms x h h' same f.reason }
+mode_same c s p past ms x h h' same (Idle since) f = record { quiet = (let q = same.quiet ms in let r = f.quiet in omega arith); unheld = f.unheld; amid = λ lt. elim (f.amid lt) [ inl e ↦ inl e | inr e ↦ inr (unwritten_same c s p h h' same ∙ e) ] }
 
-pub same_conn : (s p : ℕ) (past : History) (pend : What) (fr more : List Octets) (x : Conn) (h h' : History) → SameConn s p h h' → ConnFits s p past pend fr more x h → ConnFits s p past pend fr more x h'
-same_conn s p past pend fr more x h h' same f = record {
+pub same_conn : (c : Conf) → (s p : ℕ) (past : History) (pend : What) (fr more : List Octets) (x : Conn) (h h' : History) → SameConn c s p h h' → ConnFits c s p past pend fr more x h → ConnFits c s p past pend fr more x h'
+same_conn c s p past pend fr more x h h' same f = record {
   alive = same.stand ∙ f.alive;
   at = same.at ∙ f.at;
   ids = λ id. same.waiting fr id ∙ f.ids id;
@@ -98,7 +98,7 @@ same_conn s p past pend fr more x h h' same f = record {
   begun = λ id y e. same.starts y.request (f.begun id y e);
   carries = λ id y a e ask. f.carries id y a e (sym (same.asking y.request) ∙ ask);
   idle = same.idle fr ∙ f.idle;
-  mode = mode_same s p past fr x h h' same x.mode f.mode;
+  mode = mode_same c s p past fr x h h' same x.mode f.mode;
   left = record { some = rw same.writing f.left.some; none = rw same.writing f.left.none; amid = rw same.writing f.left.amid; room = rw same.writing f.left.room };
   read = record { left = f.read.left ∙ sym same.reading; frames = f.read.frames };
   frames = f.frames ∙ sym same.came;

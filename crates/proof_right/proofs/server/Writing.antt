@@ -8,7 +8,7 @@ use Rattle.client_request.specs.declared.event.What.{What}
 use Rattle.client_request.specs.declared.event.Out.{Out}
 use Rattle.client_request.specs.declared.event.Out.TheVariants.{Write}
 use Rattle.client_request.specs.declared.event.Via.TheVariants.{Stream}
-use Rattle.right_trace.specs.Trace.{History, Put}
+use Rattle.right_trace.specs.Trace.{History, Put, Conf}
 use Rattle.right_trace.specs.Time.{now, response_timeout}
 use Rattle.right_trace.specs.Messages.{Octets, CarriesInFrame}
 use Rattle.right_trace.specs.Requests.{Asking, asking, started}
@@ -65,15 +65,15 @@ left_written p n id k o x h none quiet some f =
     no_more true t = refl
     no_more false t = refl
 
-pub phase_same : (s k p : ℕ) (r : Request) (conns : ℕ → Option Conn) (opening : Option ℕ) (x x' : Conn) (h : History) → conns p ≡ Some x → x'.ids ≡ x.ids → (ph : Phase) → PhaseFits s k r conns opening h ph → PhaseFits s k r (with_at p (Some x') conns) opening h ph
-phase_same s k p r conns opening x x' h conn ids Free f = tt
-phase_same s k p r conns opening x x' h conn ids Expecting f = f
-phase_same s k p r conns opening x x' h conn ids (Lined q) f = go (cases_eq p q)
+pub phase_same : (c : Conf) → (s k p : ℕ) (r : Request) (conns : ℕ → Option Conn) (opening : Option ℕ) (x x' : Conn) (h : History) → conns p ≡ Some x → x'.ids ≡ x.ids → (ph : Phase) → PhaseFits c s k r conns opening h ph → PhaseFits c s k r (with_at p (Some x') conns) opening h ph
+phase_same c s k p r conns opening x x' h conn ids Free f = tt
+phase_same c s k p r conns opening x x' h conn ids Expecting f = f
+phase_same c s k p r conns opening x x' h conn ids (Lined q) f = go (cases_eq p q)
   where
     go : (p ≡ q) ⊎ (p ≡ q → ⊥) → (z : Conn) × (with_at p (Some x') conns q ≡ Some z)
     go (inl e) = (x', grind (arith, nat_tests))
     go (inr ne) = (f.0, at_there p q (Some x') conns ne ∙ f.1)
-phase_same s k p r conns opening x x' h conn ids (Holding q i) f = go (cases_eq p q)
+phase_same c s k p r conns opening x x' h conn ids (Holding q i) f = go (cases_eq p q)
   where
     go : (p ≡ q) ⊎ (p ≡ q → ⊥) → HoldsId (with_at p (Some x') conns) q i k
     go (inl e) =
@@ -81,18 +81,18 @@ phase_same s k p r conns opening x x' h conn ids (Holding q i) f = go (cases_eq 
         let there : x.ids i ≡ Some f.written = ap (λ c. c.ids i) same ∙ f.is_held in
         record { conn = x'; is_conn = grind (arith, nat_tests); written = f.written; is_held = (ap (λ l. l i) ids ∙ there); its = f.its }
     go (inr ne) = record { conn = f.conn; is_conn = at_there p q (Some x') conns ne ∙ f.is_conn; written = f.written; is_held = f.is_held; its = f.its }
-phase_same s k p r conns opening x x' h conn ids Broken f = f
-phase_same s k p r conns opening x x' h conn ids (BackingOff until) f = f
+phase_same c s k p r conns opening x x' h conn ids Broken f = f
+phase_same c s k p r conns opening x x' h conn ids (BackingOff until) f = f
 
-phase_writes : (s k p : ℕ) (r : Request) (conns : ℕ → Option Conn) (opening : Option ℕ) (x x' : Conn) (o : Out) (h : History) → conns p ≡ Some x → ((i : ℕ) (y : Written) → x.ids i ≡ Some y → x'.ids i ≡ Some y) → (ph : Phase) → PhaseFits s k r conns opening h ph → PhaseFits s k r (with_at p (Some x') conns) opening (Put o ∷ h) ph
-phase_writes s k p r conns opening x x' o h conn ids Free f = tt
-phase_writes s k p r conns opening x x' o h conn ids Expecting f = f
-phase_writes s k p r conns opening x x' o h conn ids (Lined q) f = go (cases_eq p q)
+phase_writes : (c : Conf) → (s k p : ℕ) (r : Request) (conns : ℕ → Option Conn) (opening : Option ℕ) (x x' : Conn) (o : Out) (h : History) → conns p ≡ Some x → ((i : ℕ) (y : Written) → x.ids i ≡ Some y → x'.ids i ≡ Some y) → (ph : Phase) → PhaseFits c s k r conns opening h ph → PhaseFits c s k r (with_at p (Some x') conns) opening (Put o ∷ h) ph
+phase_writes c s k p r conns opening x x' o h conn ids Free f = tt
+phase_writes c s k p r conns opening x x' o h conn ids Expecting f = f
+phase_writes c s k p r conns opening x x' o h conn ids (Lined q) f = go (cases_eq p q)
   where
     go : (p ≡ q) ⊎ (p ≡ q → ⊥) → (z : Conn) × (with_at p (Some x') conns q ≡ Some z)
     go (inl e) = (x', grind (arith, nat_tests))
     go (inr ne) = (f.0, at_there p q (Some x') conns ne ∙ f.1)
-phase_writes s k p r conns opening x x' o h conn ids (Holding q i) f = go (cases_eq p q)
+phase_writes c s k p r conns opening x x' o h conn ids (Holding q i) f = go (cases_eq p q)
   where
     go : (p ≡ q) ⊎ (p ≡ q → ⊥) → HoldsId (with_at p (Some x') conns) q i k
     go (inl e) =
@@ -100,22 +100,22 @@ phase_writes s k p r conns opening x x' o h conn ids (Holding q i) f = go (cases
         let there : x.ids i ≡ Some f.written = ap (λ c. c.ids i) same ∙ f.is_held in
         record { conn = x'; is_conn = grind (arith, nat_tests); written = f.written; is_held = ids i f.written there; its = f.its }
     go (inr ne) = record { conn = f.conn; is_conn = at_there p q (Some x') conns ne ∙ f.is_conn; written = f.written; is_held = f.is_held; its = f.its }
-phase_writes s k p r conns opening x x' o h conn ids Broken f = phase_put s k r conns opening o h Broken f
-phase_writes s k p r conns opening x x' o h conn ids (BackingOff until) f = phase_put s k r conns opening o h (BackingOff until) f
+phase_writes c s k p r conns opening x x' o h conn ids Broken f = phase_put c s k r conns opening o h Broken f
+phase_writes c s k p r conns opening x x' o h conn ids (BackingOff until) f = phase_put c s k r conns opening o h (BackingOff until) f
 
-pub writes : (s : ℕ) (past : History) (w pend : What) (fr more : ℕ → List Octets) (m : Multi) (h : History) (k : ℕ) (a : Asker) (p : ℕ) (x : Conn) (id : ℕ) (o : Octets) → Kept s past w pend fr more m h → m.asks k ≡ Some a → a.phase ≡ Lined p → m.conns p ≡ Some x → x.left ≡ 0 → x.heard ≡ false → x.ids id ≡ None → CarriesInFrame o a.request id → 0 < length o
-    → Kept s past w pend fr more (set_conn p (written_on id k (now h) o x) (move k a (Holding p id) m)) (Put (Write p k id o) ∷ h)
-writes s past w pend fr more m h k a p x id o kept ask lined conn none quiet free carries some =
+pub writes : (c : Conf) → (s : ℕ) (past : History) (w pend : What) (fr more : ℕ → List Octets) (m : Multi) (h : History) (k : ℕ) (a : Asker) (p : ℕ) (x : Conn) (id : ℕ) (o : Octets) → Kept c s past w pend fr more m h → m.asks k ≡ Some a → a.phase ≡ Lined p → m.conns p ≡ Some x → x.left ≡ 0 → x.heard ≡ false → x.ids id ≡ None → CarriesInFrame o a.request id → 0 < length o
+    → Kept c s past w pend fr more (set_conn p (written_on id k (now h) o x) (move k a (Holding p id) m)) (Put (Write p k id o) ∷ h)
+writes c s past w pend fr more m h k a p x id o kept ask lined conn none quiet free carries some =
     let fits = kept.conns p x conn in
     let x' = written_on id k (now h) o x in
-    let low = conn_below s past w pend fr more m h p x kept conn in
+    let low = conn_below c s past w pend fr more m h p x kept conn in
     let y' : Written = record { request = k; octets = o; moment = now h } in
     let keeps : (i : ℕ) (y : Written) → x.ids i ≡ Some y → x'.ids i ≡ Some y = λ i y e. (let ne : id ≢ i = λ g. (let z = sym (ap x.ids g) ∙ free in cc) in at_there id i (Some y') x.ids ne ∙ e) in
     let clear : fr p ≡ [] = fits.unheard quiet in
-    let fits' : ConnFits s p past pend [] (more p) x h = subst (λ l. ConnFits s p past pend l (more p) x h) clear fits in
+    let fits' : ConnFits c s p past pend [] (more p) x h = subst (λ l. ConnFits c s p past pend l (more p) x h) clear fits in
     let alike : (p == p) ≡ true = grind (arith, nat_tests) in
     let request = (kept.asks k a ask).asked in
-    let here : ConnFits s p past pend [] (more p) x' (Put (Write p k id o) ∷ h) = record {
+    let here : ConnFits c s p past pend [] (more p) x' (Put (Write p k id o) ∷ h) = record {
       alive = fits'.alive;
       at = fits'.at;
       ids = λ i. waits p id k i o x.ids h free (fits'.ids i);
@@ -136,22 +136,22 @@ writes s past w pend fr more m h k a p x id o kept ask lined conn none quiet fre
     } in
     record {
       row = row_put past w (Write p k id o) h kept.row;
-      asks = each_at (λ j b. AskFits s j b (with_at p (Some x') m.conns) m.opening (Put (Write p k id o) ∷ h)) k (moved a (Holding p id)) m.asks
+      asks = each_at (λ j b. AskFits c s j b (with_at p (Some x') m.conns) m.opening (Put (Write p k id o) ∷ h)) k (moved a (Holding p id)) m.asks
           (let f = kept.asks k a ask in record { asked = f.asked; since = f.since; phase = record { conn = x'; is_conn = grind (arith, nat_tests); written = y'; is_held = grind (arith, nat_tests); its = refl } })
-          (λ j b ne e. (let f = kept.asks j b e in ask_put s j b m.conns (with_at p (Some x') m.conns) m.opening m.opening (Write p k id o) h refl (phase_writes s j p b.request m.conns m.opening x x' (Write p k id o) h conn keeps b.phase f.phase) f));
-      conns = each_at (λ q z. ConnFits s q past pend (fr q) (more q) z (Put (Write p k id o) ∷ h)) p x' m.conns
-          (subst (λ l. ConnFits s p past pend l (more p) x' (Put (Write p k id o) ∷ h)) (sym clear) here)
-          (λ q z ne e. same_conn s q past pend (fr q) (more q) z h (Put (Write p k id o) ∷ h) (put_same s q (Write p k id o) h (untouched p k id q o ne)) (kept.conns q z e));
+          (λ j b ne e. (let f = kept.asks j b e in ask_put c s j b m.conns (with_at p (Some x') m.conns) m.opening m.opening (Write p k id o) h refl (phase_writes c s j p b.request m.conns m.opening x x' (Write p k id o) h conn keeps b.phase f.phase) f));
+      conns = each_at (λ q z. ConnFits c s q past pend (fr q) (more q) z (Put (Write p k id o) ∷ h)) p x' m.conns
+          (subst (λ l. ConnFits c s p past pend l (more p) x' (Put (Write p k id o) ∷ h)) (sym clear) here)
+          (λ q z ne e. same_conn c s q past pend (fr q) (more q) z h (Put (Write p k id o) ∷ h) (put_same c s q (Write p k id o) h (untouched p k id q o ne)) (kept.conns q z e));
       owners = each_at (λ q z. (i : ℕ) (y : Written) → z.ids i ≡ Some y → (b : Asker) → with_at k (Some (moved a (Holding p id))) m.asks y.request ≡ Some b → b.phase ≡ Holding q i) p x' m.conns
           (each_at (λ i y. (b : Asker) → with_at k (Some (moved a (Holding p id))) m.asks y.request ≡ Some b → b.phase ≡ Holding p i) id y' x.ids (λ b e. own_new e) (λ i y ne e b g. own_old p i y b g (kept.owners p x conn i y e)))
           (λ q z ne e i y g b u. own_old q i y b u (kept.owners q z e i y g));
-      opening = λ q e. opening_put s q past w pend (Write p k id o) h (untouched p k id q o (λ g. kept.apart q x e (ap m.conns (sym g) ∙ conn))) (kept.opening q e);
+      opening = λ q e. opening_put c s q past w pend (Write p k id o) h (untouched p k id q o (λ g. kept.apart q x e (ap m.conns (sym g) ∙ conn))) (kept.opening q e);
       apart = λ q z e g. grind (arith, nat_tests, kept.apart q, kept.apart p x);
       others = λ q e g n. kept.others q e (grind (arith, nat_tests)) n;
-      to_come = λ q le. (let ne : p ≢ q = λ g. omega arith in to_come_put s q past w m (set_conn p x' (move k a (Holding p id) m)) (Write p k id o) h (untouched p k id q o ne) (at_there p q (Some x') m.conns ne) (kept.to_come q le));
+      to_come = λ q le. (let ne : p ≢ q = λ g. omega arith in to_come_put c s q past w m (set_conn p x' (move k a (Holding p id) m)) (Write p k id o) h (untouched p k id q o ne) (at_there p q (Some x') m.conns ne) (kept.to_come q le));
       below = kept.below;
       calm = λ lt. inr (kept.calm lt);
-      late = each_at (λ q z. (since : ℕ) → z.mode ≡ Active since → since + response_timeout < now h → ReadTimerIsDue q (now h) past) p x' m.conns (λ since e lt. taken_late (kept.late p x conn) x.mode refl since e lt) (λ q z ne e. kept.late q z e);
+      late = each_at (λ q z. (since : ℕ) → z.mode ≡ Active since → since + response_timeout c < now h → ReadTimerIsDue c q (now h) past) p x' m.conns (λ since e lt. taken_late (kept.late p x conn) x.mode refl since e lt) (λ q z ne e. kept.late q z e);
     }
   where
     own_new : {b : Asker} → with_at k (Some (moved a (Holding p id))) m.asks k ≡ Some b → b.phase ≡ Holding p id
@@ -163,7 +163,7 @@ writes s past w pend fr more m h k a p x id o kept ask lined conn none quiet fre
       | inr ne ↦ old b (sym (at_there k y.request (Some (moved a (Holding p id))) m.asks ne) ∙ g)
     ]
 
-    taken_late : ((since : ℕ) → x.mode ≡ Active since → since + response_timeout < now h → ReadTimerIsDue p (now h) past) → (mode : Mode) → x.mode ≡ mode → (since : ℕ) → taking mode (now h) ≡ Active since → since + response_timeout < now h → ReadTimerIsDue p (now h) past
+    taken_late : ((since : ℕ) → x.mode ≡ Active since → since + response_timeout c < now h → ReadTimerIsDue c p (now h) past) → (mode : Mode) → x.mode ≡ mode → (since : ℕ) → taking mode (now h) ≡ Active since → since + response_timeout c < now h → ReadTimerIsDue c p (now h) past
     taken_late f New e since g lt = absurd (let i : now h ≡ since = cc in omega arith)
     taken_late f (Idle t) e since g lt = absurd (let i : now h ≡ since = cc in omega arith)
     taken_late f (Active t) e since g lt = f since (e ∙ g) lt

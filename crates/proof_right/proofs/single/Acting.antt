@@ -1,4 +1,5 @@
 -- What timers of the one server do, done by the client of parts.
+use Rattle.proof_right.proofs.Received.{places_on}
 use Rattle.std.proofs.Common.{◌≡◌, ◌≢◌, ℕ, ◌+◌, ◌-◌, ◌<◌, ◌≤◌, Bool, true, false, ◌⊎◌, inl, inr, Option, Some, None, List, [], ◌∷◌, ◌++◌, length, refl, arith, sym, ap, subst, ◌∙◌, ◌==◌}
 use Rattle.std.specs.Prelude.{if◌then◌else◌, ◌||◌, is_some, nat_lt, Result, Ok, Err, option_map}
 use Rattle.std.proofs.lemmas.Bool.Decides.{nat_tests}
@@ -9,7 +10,7 @@ use Rattle.client_request.specs.declared.event.What.{What}
 use Rattle.client_request.specs.declared.event.Out.{Out}
 use Rattle.client_request.specs.declared.event.Out.TheVariants.{OpenDgram, Close, Reply}
 use Rattle.right_trace.specs.Trace.{Conf}
-use Rattle.right_trace.specs.Time.{read_timeout}
+use Rattle.right_trace.specs.Time.{read_timeout, max_tries}
 use Rattle.right_trace.specs.Messages.{Octets}
 use Rattle.right_trace.specs.Settings.{Settings, defers_nothing}
 use Rattle.right_trace.specs.Keys.{is_cacheable}
@@ -34,7 +35,7 @@ use Rattle.client_request.specs.declared.error.Error.TheVariants as errors
 use Rattle.client_request.specs.declared.error.QueryError.TheVariants as query
 
 -- What is given on and who is gone make the same, in either order.
-module _ (n : ℕ) (s : State) (inv : Standing n s) (P : State → List Out → Type 0) (so : (S : State) (o : List Out) (f : ℕ → Option Held) → ((k : ℕ) → f k ≡ S.held k) → P S o → P (record S { held = f }) o) where
+module _ (c : Conf) (n : ℕ) (s : State) (inv : Standing c n s) (P : State → List Out → Type 0) (so : (S : State) (o : List Out) (f : ℕ → Option Held) → ((k : ℕ) → f k ≡ S.held k) → P S o → P (record S { held = f }) o) where
   pub either_order : (p k : ℕ) (a : Held) → s.held k ≡ Some a → placed a.stage ≡ Some p → P (give (lose p k s)).state (give (lose p k s)).outs → P (forget k (give (loosen p k a s)).state) (give (loosen p k a s)).outs
   either_order p k a held at = go s.queue refl
     where
@@ -99,7 +100,7 @@ left_so st k q (Ok m) = go (validity_of_message st m) refl
     as_it_is false n = refl
 
     go : (v : Option ℕ) → validity_of_message st m ≡ v → IsLeft st k q (Ok m)
-    go None e = record { leaving = record { request = k; asked = q; result = Ok m; is_stored = false; stale = None }; is = Passes m refl e; request = refl; result = refl }
+    go None e = record { leaving = record { request = k; asked = q; result = Ok m; given = Ok m; is_stored = false; stale = None }; is = Passes m refl e; request = refl; result = refl }
     go (Some n) e = record { leaving = outcome st k q (Ok m); is = Caches; request = rw e (number (is_cacheable q) n); result = rw e (as_it_is (is_cacheable q) n) }
 
 -- a place of a request that is gone
@@ -125,15 +126,15 @@ module _ (c : Conf) (st : Settings) (compose : Request → Result Octets Error) 
       go false e = refl
       go true e = absurd (waits_not st r defers e)
 
-  module _ (t : Told) (x : Upper Served) (s : State) (alike : Alike t [] x s) (n : ℕ) (inv : Standing n s) (some : 0 < length c.servers) where
+  module _ (t : Told) (x : Upper Served) (s : State) (alike : Alike t [] x s) (n : ℕ) (inv : Standing c n s) (some : 0 < length c.servers) where
     -- The first server gives a result: the request leaves with it, the place is given on, and the reply is put out.
     pub settles : (first : What) (taken : Bool) (p k : ℕ) (a : Held) (r : Result Octets Error) (u : Served) (next : ℕ) (outs : List Out)
-        → s.held k ≡ Some a → placed a.stage ≡ Some p → next ≡ x.place → Acts 0 x.place (x.ups 0) (record { state = u; place = next; outs = outs; posts = record { request = k; result = r } ∷ [] })
+        → s.held k ≡ Some a → placed a.stage ≡ Some p → next ≡ x.place → Acts c 0 x.place (x.ups 0) (record { state = u; place = next; outs = outs; posts = record { request = k; result = r } ∷ [] })
         → Mirrors u (lose p k s) → IsTold first taken u → Does c st compose (record t { first = first; taken = taken }) [] x (settle k r (loosen p k a s)).state (outs ++ (settle k r (loosen p k a s)).outs)
     settles first taken p k a r u next outs held at same acts mirrors told =
-        settled_so n s inv (λ S o. Does c st compose t' [] x S (outs ++ (o ++ Reply k r ∷ []))) (λ S o f e d. does_so c st compose t' [] x S (outs ++ (o ++ Reply k r ∷ [])) f e d) p k a r held at
+        settled_so c n s inv (λ S o. Does c st compose t' [] x S (outs ++ (o ++ Reply k r ∷ []))) (λ S o f e d. does_so c st compose t' [] x S (outs ++ (o ++ Reply k r ∷ [])) f e d) p k a r held at
         (then_does c st compose t' t' (z.leaving ∷ []) [] x (lose p k s) (give (lose p k s)).state outs ((give (lose p k s)).outs ++ Reply k r ∷ []) given
-        (λ y al. then_does c st compose t' t' (z.leaving ∷ []) [] y (give (lose p k s)).state (give (lose p k s)).state (give (lose p k s)).outs (Reply k r ∷ []) (gives c st compose t' (z.leaving ∷ []) y (lose p k s) some waits (let f = inv.few in omega arith) al)
+        (λ y al. then_does c st compose t' t' (z.leaving ∷ []) [] y (give (lose p k s)).state (give (lose p k s)).state (give (lose p k s)).outs (Reply k r ∷ []) (gives c st compose t' (z.leaving ∷ []) y (lose p k s) some waits (let f = inv.few in let pos = places_on c in omega (arith, pos)) al)
         (λ y al. subst (λ o. Does c st compose t' [] y (give (lose p k s)).state (o ∷ [])) reply_is (replies c st compose t' y (give (lose p k s)).state z.leaving (outcome_plain st k a.request r z.leaving z.is) al))))
       where
         t' : Told
@@ -199,10 +200,10 @@ module _ (c : Conf) (st : Settings) (compose : Request → Result Octets Error) 
     sent_in a p id m e = ap stage_in e
 
     -- its place is closed at the read timeout, and its next one opens
-    pub retries : (p id m k : ℕ) (a : Held) → s.held k ≡ Some a → a.stage ≡ Sent p id m → m + read_timeout ≤ s.now → a.tries < 6 → Does c st compose t [] x (retry p k a s).state (retry p k a s).outs
+    pub retries : (p id m k : ℕ) (a : Held) → s.held k ≡ Some a → a.stage ≡ Sent p id m → m + read_timeout c ≤ s.now → a.tries < max_tries c → Does c st compose t [] x (retry p k a s).state (retry p k a s).outs
     retries p id m k a held stage late few =
         then_does c st compose t t [] [] x (loosen p k a s) (retry p k a s).state (Close p ∷ []) (OpenDgram s.opened 0 ∷ []) closes
-        (λ y al. takes_place c st compose t [] y (loosen p k a s) k (staged a Loose) some al (here k (Some (staged a Loose)) s.held) refl (let f = inv.few in omega arith))
+        (λ y al. takes_place c st compose t [] y (loosen p k a s) k (staged a Loose) some al (here k (Some (staged a Loose)) s.held) refl (let f = inv.few in let pos = places_on c in omega (arith, pos)))
       where
         d' : Dgrams
         d' = dgrams.leave p k (tryer_of a) dgrams.Queued d
@@ -222,7 +223,7 @@ module _ (c : Conf) (st : Settings) (compose : Request → Result Octets Error) 
 
         closes : Does c st compose t [] x (loosen p k a s) (Close p ∷ [])
         closes = by_one c st compose t [] x (record { state = moved 0 (does v x.place (Puts (Close p))) x; outs = Close p ∷ [] }) (loosen p k a s)
-            (Server_moves 0 (does v x.place (Puts (Close p))) some (served_by.ByDgram (Puts (Close p)) d' _ (dgrams.Retries k (tryer_of a) p id m (is_held k a held) (sent_in a p id m stage) (subst (λ n. m + read_timeout ≤ n) (sym alike.first.clock) late) few) (AsItIs (settled_all (loosen p k a s).held d' follows))))
+            (Server_moves 0 (does v x.place (Puts (Close p))) some (served_by.ByDgram (Puts (Close p)) d' _ (dgrams.Retries k (tryer_of a) p id m (is_held k a held) (sent_in a p id m stage) (subst (λ n. m + read_timeout c ≤ n) (sym alike.first.clock) late) few) (AsItIs (settled_all (loosen p k a s).held d' follows))))
             (record {
               now = alike.now;
               asked = alike.asked;
@@ -237,10 +238,10 @@ module _ (c : Conf) (st : Settings) (compose : Request → Result Octets Error) 
             })
 
     -- after six tries it has its reply
-    pub stops : (p id m k : ℕ) (a : Held) → s.held k ≡ Some a → a.stage ≡ Sent p id m → m + read_timeout ≤ s.now → 6 ≤ a.tries → Does c st compose t [] x (finish p k a (Err (errors.Dgram query.Timeout)) s).state (finish p k a (Err (errors.Dgram query.Timeout)) s).outs
+    pub stops : (p id m k : ℕ) (a : Held) → s.held k ≡ Some a → a.stage ≡ Sent p id m → m + read_timeout c ≤ s.now → max_tries c ≤ a.tries → Does c st compose t [] x (finish p k a (Err (errors.Dgram query.Timeout)) s).state (finish p k a (Err (errors.Dgram query.Timeout)) s).outs
     stops p id m k a held stage late many =
         settles t.first t.taken p k a (Err (errors.Dgram query.Timeout)) (has_moved (record (x.ups 0).server { by_dgram = dgrams.forget k d' }) (x.ups 0)) x.place (Close p ∷ []) held (ap placed stage) refl
-        (served_by.ByDgram (Puts (Close p)) d' _ (dgrams.StopsTrying k (tryer_of a) p id m (is_held k a held) (sent_in a p id m stage) (subst (λ n. m + read_timeout ≤ n) (sym alike.first.clock) late) many)
+        (served_by.ByDgram (Puts (Close p)) d' _ (dgrams.StopsTrying k (tryer_of a) p id m (is_held k a held) (sent_in a p id m stage) (subst (λ n. m + read_timeout c ≤ n) (sym alike.first.clock) late) many)
         (WithResult k (dgrams.staged (tryer_of a) (dgrams.Ending (Err (errors.Dgram query.Timeout)))) (Err (errors.Dgram query.Timeout)) (here k (Some (dgrams.staged (tryer_of a) (dgrams.Ending (Err (errors.Dgram query.Timeout))))) d.held) refl))
         (gone p k (tryer_of a) (dgrams.Ending (Err (errors.Dgram query.Timeout))) (x.ups 0) s alike.first) (record { pending = alike.told.pending; taken = alike.told.taken })
       where
@@ -249,7 +250,7 @@ module _ (c : Conf) (st : Settings) (compose : Request → Result Octets Error) 
 
     -- The timeout of a request has passed: its reply is put out.
     abbrev late_leaving : (k : ℕ) → Held → Leaving
-    late_leaving k a = record { request = k; asked = a.request; result = Err errors.TimedOut; is_stored = false; stale = None }
+    late_leaving k a = record { request = k; asked = a.request; result = Err errors.TimedOut; given = Err errors.TimedOut; is_stored = false; stale = None }
 
     abbrev replied : (k : ℕ) → Held → Upper Served
     replied k a = record (leave (late_leaving k a) x) { leaving = []; stored = store x.now (late_leaving k a) x.stored }
@@ -297,7 +298,7 @@ module _ (c : Conf) (st : Settings) (compose : Request → Result Octets Error) 
     tries_in_vain : (p k : ℕ) (a : Held) → s.held k ≡ Some a → placed a.stage ≡ Some p → a.moment + c.timeout ≤ s.now → Does c st compose t [] x (give (lose p k s)).state ((Reply k (Err errors.TimedOut) ∷ Close p ∷ []) ++ (give (lose p k s)).outs)
     tries_in_vain p k a held at late =
         then_does c st compose t t [] [] x (lose p k s) (give (lose p k s)).state (Reply k (Err errors.TimedOut) ∷ Close p ∷ []) (give (lose p k s)).outs closes
-        (λ z al. gives c st compose t [] z (lose p k s) some waits (let f = inv.few in omega arith) al)
+        (λ z al. gives c st compose t [] z (lose p k s) some waits (let f = inv.few in let pos = places_on c in omega (arith, pos)) al)
       where
         v : Served
         v = has_moved (record (x.ups 0).server { by_dgram = dgrams.forget k (dgrams.leave p k (tryer_of a) (dgrams.Ending (Err errors.TimedOut)) d) }) (x.ups 0)
@@ -343,20 +344,20 @@ module _ (c : Conf) (st : Settings) (compose : Request → Result Octets Error) 
     expires k a held late (Sent p id m) e = tries_in_vain p k a held (ap placed e) late
 
     -- a timer that is due
-    pub fires_one : (z : Pick) → IsDue c.timeout s z → Does c st compose t [] x (act z s).state (act z s).outs
+    pub fires_one : (z : Pick) → IsDue c s z → Does c st compose t [] x (act c z s).state (act c z s).outs
     fires_one z due = go z.place refl
       where
-        go : (o : Option ℕ) → z.place ≡ o → Does c st compose t [] x (act_at o z.request z.held s).state (act_at o z.request z.held s).outs
+        go : (o : Option ℕ) → z.place ≡ o → Does c st compose t [] x (act_at c o z.request z.held s).state (act_at c o z.request z.held s).outs
         go None e = expires z.request z.held due.held (due.deadline e) z.held.stage refl
-        go (Some p) e = (let r = due.reading p e in by_tries p r.0 r.1 r.2 r.3 (nat_lt z.held.tries 6) refl)
+        go (Some p) e = (let r = due.reading p e in by_tries p r.0 r.1 r.2 r.3 (nat_lt z.held.tries (max_tries c)) refl)
           where
-            by_tries : (p id m : ℕ) → z.held.stage ≡ Sent p id m → m + read_timeout ≤ s.now → (b : Bool) → nat_lt z.held.tries 6 ≡ b → Does c st compose t [] x (if b then retry p z.request z.held s else finish p z.request z.held (Err (errors.Dgram query.Timeout)) s).state (if b then retry p z.request z.held s else finish p z.request z.held (Err (errors.Dgram query.Timeout)) s).outs
-            by_tries p id m stage late true e = retries p id m z.request z.held due.held stage late (ltb-true z.held.tries 6 e)
-            by_tries p id m stage late false e = stops p id m z.request z.held due.held stage late (ltb-false z.held.tries 6 e)
+            by_tries : (p id m : ℕ) → z.held.stage ≡ Sent p id m → m + read_timeout c ≤ s.now → (b : Bool) → nat_lt z.held.tries (max_tries c) ≡ b → Does c st compose t [] x (if b then retry p z.request z.held s else finish p z.request z.held (Err (errors.Dgram query.Timeout)) s).state (if b then retry p z.request z.held s else finish p z.request z.held (Err (errors.Dgram query.Timeout)) s).outs
+            by_tries p id m stage late true e = retries p id m z.request z.held due.held stage late (ltb-true z.held.tries (max_tries c) e)
+            by_tries p id m stage late false e = stops p id m z.request z.held due.held stage late (ltb-false z.held.tries (max_tries c) e)
 
 -- what a timer leaves stands
-fired_stands : (n timeout : ℕ) (s : State) → Standing n s → (z : Pick) → IsDue timeout s z → Standing n (act z s).state
-fired_stands n timeout s inv z due = go z.place refl
+fired_stands : (c : Conf) → (n : ℕ) (s : State) → Standing c n s → (z : Pick) → IsDue c s z → Standing c n (act c z s).state
+fired_stands c n s inv z due = go z.place refl
   where
     k : ℕ
     k = z.request
@@ -364,30 +365,30 @@ fired_stands n timeout s inv z due = go z.place refl
     a : Held
     a = z.held
 
-    settles_so : (p : ℕ) (x : Result Octets Error) → placed a.stage ≡ Some p → Standing n (settle k x (loosen p k a s)).state
-    settles_so p x at = settled_so n s inv (λ S o. Standing n S) (λ S o f e i. stands_so n S i f e) p k a x due.held at (gives_on n s inv p k a due.held at)
+    settles_so : (p : ℕ) (x : Result Octets Error) → placed a.stage ≡ Some p → Standing c n (settle k x (loosen p k a s)).state
+    settles_so p x at = settled_so c n s inv (λ S o. Standing c n S) (λ S o f e i. stands_so c n S i f e) p k a x due.held at (gives_on c n s inv p k a due.held at)
 
-    expires : (stage : Stage) → a.stage ≡ stage → Standing n (expire k stage s).state
-    expires Queued e = leaves_queue n s inv k a due.held e
+    expires : (stage : Stage) → a.stage ≡ stage → Standing c n (expire k stage s).state
+    expires Queued e = leaves_queue c n s inv k a due.held e
     expires Loose e = absurd (inv.settled k a due.held e)
-    expires (Trying p) e = gives_on n s inv p k a due.held (ap placed e)
-    expires (Sent p id m) e = gives_on n s inv p k a due.held (ap placed e)
+    expires (Trying p) e = gives_on c n s inv p k a due.held (ap placed e)
+    expires (Sent p id m) e = gives_on c n s inv p k a due.held (ap placed e)
 
-    go : (o : Option ℕ) → z.place ≡ o → Standing n (act_at o k a s).state
+    go : (o : Option ℕ) → z.place ≡ o → Standing c n (act_at c o k a s).state
     go None e = expires a.stage refl
-    go (Some p) e = (let r = due.reading p e in by_tries p (ap placed r.2) (nat_lt a.tries 6))
+    go (Some p) e = (let r = due.reading p e in by_tries p (ap placed r.2) (nat_lt a.tries (max_tries c)))
       where
-        by_tries : (p : ℕ) → placed a.stage ≡ Some p → (b : Bool) → Standing n (if b then retry p k a s else finish p k a (Err (errors.Dgram query.Timeout)) s).state
-        by_tries p at true = standing.retries n s inv p k a due.held at
+        by_tries : (p : ℕ) → placed a.stage ≡ Some p → (b : Bool) → Standing c n (if b then retry p k a s else finish p k a (Err (errors.Dgram query.Timeout)) s).state
+        by_tries p at true = standing.retries c n s inv p k a due.held at
         by_tries p at false = settles_so p (Err (errors.Dgram query.Timeout)) at
 
-pub fires_stand : (n timeout : ℕ) (s : State) (d : Done) → Fires timeout s d → Standing n s → Standing n d.state × Quiet timeout d.state
-fires_stand n timeout _ _ (Rests s quiet) inv = (inv, quiet)
-fires_stand n timeout _ _ (Fires_one s z d due more) inv = fires_stand n timeout (act z s).state d more (fired_stands n timeout s inv z due)
+pub fires_stand : (c : Conf) → (n : ℕ) (s : State) (d : Done) → Fires c s d → Standing c n s → Standing c n d.state × Quiet c d.state
+fires_stand c n _ _ (Rests s quiet) inv = (inv, quiet)
+fires_stand c n _ _ (Fires_one s z d due more) inv = fires_stand c n (act c z s).state d more (fired_stands c n s inv z due)
 
 -- timers fire until none is due
-pub fires_do : (c : Conf) (st : Settings) (compose : Request → Result Octets Error) → defers_nothing st ≡ true → (t : Told) (n : ℕ) → (0 < n → 0 < length c.servers) → (s : State) (d : Done) (x : Upper Served) → Fires c.timeout s d → Alike t [] x s → Standing n s → Does c st compose t [] x d.state d.outs
+pub fires_do : (c : Conf) (st : Settings) (compose : Request → Result Octets Error) → defers_nothing st ≡ true → (t : Told) (n : ℕ) → (0 < n → 0 < length c.servers) → (s : State) (d : Done) (x : Upper Served) → Fires c s d → Alike t [] x s → Standing c n s → Does c st compose t [] x d.state d.outs
 fires_do c st compose defers t n some _ _ x (Rests s quiet) alike inv = record { end = x; leads = Stays x; alike = alike }
 fires_do c st compose defers t n some _ _ x (Fires_one s z d due more) alike inv =
-    then_does c st compose t t [] [] x (act z s).state d.state (act z s).outs d.outs (fires_one c st compose defers t x s alike n inv (some (inv.some z.request z.held due.held)) z due)
-    (λ y al. fires_do c st compose defers t n some (act z s).state d y more al (fired_stands n c.timeout s inv z due))
+    then_does c st compose t t [] [] x (act c z s).state d.state (act c z s).outs d.outs (fires_one c st compose defers t x s alike n inv (some (inv.some z.request z.held due.held)) z due)
+    (λ y al. fires_do c st compose defers t n some (act c z s).state d y more al (fired_stands c n s inv z due))

@@ -1,4 +1,5 @@
 -- When a client of parts is as the client of one server is, and how places are given on and replies put out there.
+use Rattle.right_trace.specs.Time.{max_places}
 use Rattle.std.proofs.Common.{◌≡◌, ◌≢◌, ℕ, suc, ◌<◌, Bool, true, false, inl, inr, Option, Some, None, List, [], ◌∷◌, ◌++◌, length, refl, arith, sym, ap, subst, ◌∙◌, ◌==◌}
 use Rattle.std.specs.Prelude.{if◌then◌else◌, ◌||◌, Result, option_map}
 use Rattle.std.proofs.lemmas.Bool.Decides.{nat_tests}
@@ -190,11 +191,11 @@ module _ (c : Conf) (st : Settings) (compose : Request → Result Octets Error) 
   does_so t l x s outs f same d = record { end = d.end; leads = d.leads; alike = alike_so t l d.end s f same d.alike }
 
   -- a request that waits takes the next place
-  pub takes_place : (t : Told) (l : List Leaving) (x : Upper Served) (s : State) (k : ℕ) (a : Held) → 0 < length c.servers → Alike t l x s → s.held k ≡ Some a → stage_in a.stage ≡ dgrams.Queued → s.used < 100 → Does t l x (try k a s) (OpenDgram s.opened 0 ∷ [])
+  pub takes_place : (t : Told) (l : List Leaving) (x : Upper Served) (s : State) (k : ℕ) (a : Held) → 0 < length c.servers → Alike t l x s → s.held k ≡ Some a → stage_in a.stage ≡ dgrams.Queued → s.used < max_places c → Does t l x (try k a s) (OpenDgram s.opened 0 ∷ [])
   takes_place t l x s k a some alike held stage free =
       subst (λ p. Does t l x (try k a s) (OpenDgram p 0 ∷ [])) alike.place
       (by_one t l x (record { state = moved 0 (does (has_moved (record (x.ups 0).server { by_dgram = d' }) (x.ups 0)) x.place (Puts (OpenDgram x.place 0))) x; outs = OpenDgram x.place 0 ∷ [] }) (try k a s)
-      (Server_moves 0 (does (has_moved (record (x.ups 0).server { by_dgram = d' }) (x.ups 0)) x.place (Puts (OpenDgram x.place 0))) some (served_by.ByDgram (Puts (OpenDgram x.place 0)) d' _ (dgrams.Opens k (tryer_of a) is stage (subst (λ n. n < 100) (sym alike.first.used) free)) (AsItIs (settled_all (try k a s).held d' follows))))
+      (Server_moves 0 (does (has_moved (record (x.ups 0).server { by_dgram = d' }) (x.ups 0)) x.place (Puts (OpenDgram x.place 0))) some (served_by.ByDgram (Puts (OpenDgram x.place 0)) d' _ (dgrams.Opens k (tryer_of a) is stage (subst (λ n. n < max_places c) (sym alike.first.used) free)) (AsItIs (settled_all (try k a s).held d' follows))))
       (record {
         now = alike.now;
         asked = alike.asked;
@@ -228,7 +229,7 @@ module _ (c : Conf) (st : Settings) (compose : Request → Result Octets Error) 
           go false = alike.first.at p
 
   -- a free place is given on to the request that waits longest
-  pub gives : (t : Told) (l : List Leaving) (x : Upper Served) (s : State) → 0 < length c.servers → ((k : ℕ) → IsIn k s.queue → (a : Held) × (s.held k ≡ Some a) × (a.stage ≡ Queued)) → s.used < 100 → Alike t l x s → Does t l x (give s).state (give s).outs
+  pub gives : (t : Told) (l : List Leaving) (x : Upper Served) (s : State) → 0 < length c.servers → ((k : ℕ) → IsIn k s.queue → (a : Held) × (s.held k ≡ Some a) × (a.stage ≡ Queued)) → s.used < max_places c → Alike t l x s → Does t l x (give s).state (give s).outs
   gives t l x s some queued free alike = go s.queue queued
     where
       none : (q : List ℕ) → Alike t l x (put_back q s)

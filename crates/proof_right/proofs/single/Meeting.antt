@@ -1,5 +1,5 @@
 -- What an event does to the one server, done by the client of parts.
-use Rattle.std.proofs.Common.{◌≡◌, ℕ, suc, ◌+◌, ◌<◌, ◌≤◌, Bool, true, false, Option, Some, None, List, [], ◌∷◌, ◌++◌, length, take, refl, arith, sym, ap, subst, ◌∙◌, ◌==◌}
+use Rattle.std.proofs.Common.{◌≡◌, ℕ, zero, suc, ◌+◌, ◌<◌, ◌≤◌, Bool, true, false, Option, Some, None, List, [], ◌∷◌, ◌++◌, length, take, refl, arith, sym, ap, subst, ◌∙◌, ◌==◌}
 use Rattle.std.specs.Prelude.{if◌then◌else◌, ◌&&◌, nat_lt, nat_le, Result, Ok, Err, option_map}
 use Rattle.std.proofs.lemmas.Bool.Decides.{nat_tests}
 use Rattle.std.proofs.lemmas.Bool.{ltb-true, ltb-false, leb-true}
@@ -11,7 +11,7 @@ use Rattle.client_request.specs.declared.event.What.TheVariants.{Ask, Opened, Op
 use Rattle.client_request.specs.declared.event.Out.TheVariants.{Start, OpenDgram, Send, Close, Reply}
 use Rattle.client_request.specs.declared.event.Via.TheVariants.{Dgram}
 use Rattle.right_trace.specs.Trace.{Conf, Use, ByDatagrams}
-use Rattle.right_trace.specs.Time.{read_timeout}
+use Rattle.right_trace.specs.Time.{read_timeout, recv_size, max_places}
 use Rattle.right_trace.specs.Messages.{Octets, Composes, answers, truncated, under}
 use Rattle.right_trace.specs.Requests.{is_ask}
 use Rattle.right_trace.specs.Settings.{Settings, defers_nothing}
@@ -55,21 +55,21 @@ foreign (Ended p) m s = λ p e. s.conns p
 foreign Tick m s = λ p e. s.conns p
 
 -- TC is among the octets of a datagram that are looked at
-whole_still : (o : Octets) → truncated (take 2000 o) ≡ truncated o
+whole_still : (n : ℕ) (o : Octets) → 12 ≤ length (take n o) → (truncated (take n o) ≡ truncated o) × (3 ≤ length o)
 unfolding truncated
-whole_still [] = refl
-whole_still (a ∷ []) = refl
-whole_still (a ∷ b ∷ []) = refl
-whole_still (a ∷ b ∷ c ∷ o) = refl
+whole_still zero o long = absurd (omega arith)
+whole_still (suc zero) [] long = absurd (omega arith)
+whole_still (suc zero) (a ∷ o) long = absurd (omega arith)
+whole_still (suc (suc zero)) [] long = absurd (omega arith)
+whole_still (suc (suc zero)) (a ∷ []) long = absurd (omega arith)
+whole_still (suc (suc zero)) (a ∷ b ∷ o) long = absurd (omega arith)
+whole_still (suc (suc (suc n))) [] long = absurd (omega arith)
+whole_still (suc (suc (suc n))) (a ∷ []) long = absurd (omega arith)
+whole_still (suc (suc (suc n))) (a ∷ b ∷ []) long = absurd (omega arith)
+whole_still (suc (suc (suc n))) (a ∷ b ∷ d ∷ o) long = (refl, omega arith)
 
-uncut : (p : ℕ) (o : Octets) → IsUncut (Datagram p o) → 12 ≤ length (take 2000 o) → truncated (take 2000 o) ≡ false
-uncut p o whole long = whole_still o ∙ whole (three o long)
-  where
-    three : (o : Octets) → 12 ≤ length (take 2000 o) → 3 ≤ length o
-    three [] le = absurd (omega arith)
-    three (a ∷ []) le = absurd (omega arith)
-    three (a ∷ b ∷ []) le = absurd (omega arith)
-    three (a ∷ b ∷ c ∷ o) le = omega arith
+uncut : (c : Conf) → (p : ℕ) (o : Octets) → IsUncut (Datagram p o) → 12 ≤ length (take (recv_size c) o) → truncated (take (recv_size c) o) ≡ false
+uncut c p o whole long = (let w = whole_still (recv_size c) o long in w.0 ∙ whole w.1)
 
 -- what is at a place: nothing, a request that waits for it to open, or one that was sent there
 data AtPlace (s : State) (p : ℕ) : Type 0 where
@@ -77,8 +77,8 @@ data AtPlace (s : State) (p : ℕ) : Type 0 where
   Tries : (k : ℕ) (a : Held) → s.at p ≡ Some k → s.held k ≡ Some a → a.stage ≡ Trying p → AtPlace s p
   Waits : (k : ℕ) (a : Held) (id m : ℕ) → s.at p ≡ Some k → s.held k ≡ Some a → a.stage ≡ Sent p id m → AtPlace s p
 
-at_place : (n : ℕ) (s : State) → Standing n s → (p : ℕ) → AtPlace s p
-at_place n s inv p = go (s.at p) refl
+at_place : (c : Conf) → (n : ℕ) (s : State) → Standing c n s → (p : ℕ) → AtPlace s p
+at_place c n s inv p = go (s.at p) refl
   where
     by_stage : (k : ℕ) (a : Held) → s.at p ≡ Some k → s.held k ≡ Some a → (st : Stage) → a.stage ≡ st → placed st ≡ Some p → AtPlace s p
     by_stage k a at held Queued e f = absurd (cc)
@@ -96,16 +96,16 @@ module _ (c : Conf) (st : Settings) (compose : Request → Result Octets Error) 
     pub told : Told
     pub does : Does c st compose told [] x d.state d.outs
     pub answered : is_ask told.upper ≡ false
-    pub stands : Standing (length c.servers) d.state
-    pub ignores : (g : Dgrams) → IsIgnored told.first g
+    pub stands : Standing c (length c.servers) d.state
+    pub ignores : (g : Dgrams) → IsIgnored c told.first g
 
   -- or nothing happens, now and later
   pub data Meets (w : What) (x : Upper Served) (s : State) (d : Done) : Type 0 where
     Does_so : Met w x s d → Meets w x s d
-    Passes : d ≡ nothing s → is_ask w ≡ false → IsIgnored w (x.ups 0).server.by_dgram → Meets w x s d
+    Passes : d ≡ nothing s → is_ask w ≡ false → IsIgnored c w (x.ups 0).server.by_dgram → Meets w x s d
 
-  module _ (has : Bool) (composes : Composes compose) (defers : defers_nothing st ≡ true) (uses : (u : Use) → use_at 0 c.servers ≡ Some u → u ≡ ByDatagrams) where
-    module _ (w : What) (x : Upper Served) (s : State) (alike : Alike (record { upper = w; first = w; taken = false; others = w }) [] x s) (inv : Standing (length c.servers) s) (quiet : Quiet c.timeout s) where
+  module _ (has : Bool) (composes : Composes c compose) (defers : defers_nothing st ≡ true) (uses : (u : Use) → use_at 0 c.servers ≡ Some u → u ≡ ByDatagrams) where
+    module _ (w : What) (x : Upper Served) (s : State) (alike : Alike (record { upper = w; first = w; taken = false; others = w }) [] x s) (inv : Standing c (length c.servers) s) (quiet : Quiet c s) where
       abbrev t : Told
       t = record { upper = w; first = w; taken = false; others = w }
 
@@ -128,19 +128,19 @@ module _ (c : Conf) (st : Settings) (compose : Request → Result Octets Error) 
       nobody : (p j : ℕ) → s.at p ≡ None → d.at p ≡ Some j → ⊥
       nobody p j e f = (let z = sym (alike.first.at p ∙ e) ∙ f in cc)
 
-      in_time : IsInTime (x.ups 0).clock (x.ups 0).server
+      in_time : IsInTime c (x.ups 0).clock (x.ups 0).server
       in_time = record {
-        sent = λ k a p id m held stage. subst (λ n. n < m + read_timeout) (sym alike.first.clock) (early k (s.held k) a p id m refl (sym (alike.first.held k) ∙ held) stage);
+        sent = λ k a p id m held stage. subst (λ n. n < m + read_timeout c) (sym alike.first.clock) (early k (s.held k) a p id m refl (sym (alike.first.held k) ∙ held) stage);
         asked = λ k a ask. (let z = sym (alike.first.still.asks k) ∙ ask in absurd (cc));
       }
         where
-          by_stage : (k : ℕ) (b : Held) (p id m : ℕ) → s.held k ≡ Some b → (stage : Stage) → b.stage ≡ stage → stage_in stage ≡ dgrams.Sent p id m → s.now < m + read_timeout
+          by_stage : (k : ℕ) (b : Held) (p id m : ℕ) → s.held k ≡ Some b → (stage : Stage) → b.stage ≡ stage → stage_in stage ≡ dgrams.Sent p id m → s.now < m + read_timeout c
           by_stage k b p id m held Queued e f = absurd (cc)
           by_stage k b p id m held Loose e f = absurd (cc)
           by_stage k b p id m held (Trying q) e f = absurd (cc)
-          by_stage k b p id m held (Sent q i u) e f = (let is : u ≡ m = cc in subst (λ m. s.now < m + read_timeout) is ((quiet k b held).reading q i u e))
+          by_stage k b p id m held (Sent q i u) e f = (let is : u ≡ m = cc in subst (λ m. s.now < m + read_timeout c) is ((quiet k b held).reading q i u e))
 
-          early : (k : ℕ) (o : Option Held) (a : Tryer) (p id m : ℕ) → s.held k ≡ o → option_map tryer_of o ≡ Some a → a.stage ≡ dgrams.Sent p id m → s.now < m + read_timeout
+          early : (k : ℕ) (o : Option Held) (a : Tryer) (p id m : ℕ) → s.held k ≡ o → option_map tryer_of o ≡ Some a → a.stage ≡ dgrams.Sent p id m → s.now < m + read_timeout c
           early k None a p id m e f stage = absurd (cc)
           early k (Some b) a p id m e f stage = (let is : tryer_of b ≡ a = cc in by_stage k b p id m e b.stage refl (ap (λ (a : Tryer). a.stage) is ∙ stage))
 
@@ -149,17 +149,17 @@ module _ (c : Conf) (st : Settings) (compose : Request → Result Octets Error) 
 
       -- the event ends a request's place: it has this result
       ends : (not_asked : is_ask w ≡ false) (p k : ℕ) (a : Held) (r : Result Octets Error) (act : multi.Act) → s.held k ≡ Some a → placed a.stage ≡ Some p
-          → dgrams.Meets (x.ups 0).clock d w act (dgrams.leave p k (tryer_of a) (dgrams.Ending r) d) → place_after act x.place ≡ x.place
+          → dgrams.Meets c (x.ups 0).clock d w act (dgrams.leave p k (tryer_of a) (dgrams.Ending r) d) → place_after act x.place ≡ x.place
           → Meets w x s (record { state = (settle k r (loosen p k a s)).state; outs = outs_of act ++ (settle k r (loosen p k a s)).outs })
       ends not_asked p k a r act held at meets same = Does_so (record {
         told = record t { first = Tick; taken = true };
         does = settles c st compose defers t x s alike (length c.servers) inv (inv.some k a held) Tick true p k a r u (place_after act x.place) (outs_of act) held at same
-            (TellsDgrams act d' _ alike.told.taken in_time (subst (λ w. dgrams.Meets (x.ups 0).clock d w act d') (sym alike.told.pending) meets) (foreign (x.ups 0).pending (x.ups 0).server.by_stream alike.first.still)
+            (TellsDgrams act d' _ alike.told.taken in_time (subst (λ w. dgrams.Meets c (x.ups 0).clock d w act d') (sym alike.told.pending) meets) (foreign (x.ups 0).pending (x.ups 0).server.by_stream alike.first.still)
             (WithResult k (dgrams.staged (tryer_of a) (dgrams.Ending r)) r (here k (Some (dgrams.staged (tryer_of a) (dgrams.Ending r))) d.held) refl))
             (let g = gone p k (tryer_of a) (dgrams.Ending r) (x.ups 0) s alike.first in record { clock = g.clock; held = g.held; at = g.at; used = g.used; still = g.still; frames = refl })
             (record { pending = refl; taken = refl });
         answered = not_asked;
-        stands = settled_so (length c.servers) s inv (λ S o. Standing (length c.servers) S) (λ S o f e i. stands_so (length c.servers) S i f e) p k a r held at (gives_on (length c.servers) s inv p k a held at);
+        stands = settled_so c (length c.servers) s inv (λ S o. Standing c (length c.servers) S) (λ S o f e i. stands_so c (length c.servers) S i f e) p k a r held at (gives_on c (length c.servers) s inv p k a held at);
         ignores = λ g. tt;
       })
         where
@@ -170,7 +170,7 @@ module _ (c : Conf) (st : Settings) (compose : Request → Result Octets Error) 
           u = has_moved (record (x.ups 0).server { by_dgram = dgrams.forget k d' }) (has_taken_it (record (x.ups 0).server { by_dgram = d' }) (x.ups 0))
 
       -- the event does nothing, and is ignored
-      passes : (e : Done) → e ≡ nothing s → is_ask w ≡ false → IsIgnored w d → Meets w x s e
+      passes : (e : Done) → e ≡ nothing s → is_ask w ≡ false → IsIgnored c w d → Meets w x s e
       passes e is not_asked ignored = Passes is not_asked ignored
 
       with_it : (f : ℕ → Held → State → Done) (p k : ℕ) (a : Held) → s.at p ≡ Some k → s.held k ≡ Some a → with_owner f (s.at p) s ≡ f k a s
@@ -193,9 +193,9 @@ module _ (c : Conf) (st : Settings) (compose : Request → Result Octets Error) 
       tries_sent p k a at held stage z = (let e = its_tryer p k z.0 a z.1 at held z.4 z.5 in let y : dgrams.Trying p ≡ dgrams.Sent p z.2 z.3 = sym (ap stage_in stage) ∙ (ap (λ (a : Tryer). a.stage) e ∙ z.6) in cc)
 
       -- a place breaks at which somebody was sent
-      breaks : (not_asked : is_ask w ≡ false) (p : ℕ) (e : Error) → ((k : ℕ) (a : Held) (id m : ℕ) → d.at p ≡ Some k → d.held k ≡ Some (tryer_of a) → stage_in a.stage ≡ dgrams.Sent p id m → dgrams.Meets (x.ups 0).clock d w (Puts (Close p)) (dgrams.leave p k (tryer_of a) (dgrams.Ending (Err e)) d))
-          → ((SentAt p d → ⊥) → IsIgnored w d) → Meets w x s (with_owner (λ k a. broken_at p e a.stage k a) (s.at p) s)
-      breaks not_asked p e meets ignored = go (at_place (length c.servers) s inv p)
+      breaks : (not_asked : is_ask w ≡ false) (p : ℕ) (e : Error) → ((k : ℕ) (a : Held) (id m : ℕ) → d.at p ≡ Some k → d.held k ≡ Some (tryer_of a) → stage_in a.stage ≡ dgrams.Sent p id m → dgrams.Meets c (x.ups 0).clock d w (Puts (Close p)) (dgrams.leave p k (tryer_of a) (dgrams.Ending (Err e)) d))
+          → ((SentAt p d → ⊥) → IsIgnored c w d) → Meets w x s (with_owner (λ k a. broken_at p e a.stage k a) (s.at p) s)
+      breaks not_asked p e meets ignored = go (at_place c (length c.servers) s inv p)
         where
           go : AtPlace s p → Meets w x s (with_owner (λ k a. broken_at p e a.stage k a) (s.at p) s)
           go (Free at) = passes _ (with_none (λ k a. broken_at p e a.stage k a) p at) not_asked (ignored (none_sent p at))
@@ -205,9 +205,9 @@ module _ (c : Conf) (st : Settings) (compose : Request → Result Octets Error) 
               (ends not_asked p k a (Err e) (Puts (Close p)) held (ap placed stage) (meets k a id m (at_it p k at) (is_held k a held) (ap stage_in stage)) refl)
 
       -- a place does not open for which somebody waits
-      fails : (not_asked : is_ask w ≡ false) (p : ℕ) (e : Error) → ((k : ℕ) (a : Held) → d.at p ≡ Some k → d.held k ≡ Some (tryer_of a) → stage_in a.stage ≡ dgrams.Trying p → dgrams.Meets (x.ups 0).clock d w Nothing (dgrams.leave p k (tryer_of a) (dgrams.Ending (Err e)) d))
-          → ((TriesAt p d → ⊥) → IsIgnored w d) → Meets w x s (with_owner (λ k a. failed_at p e a.stage k a) (s.at p) s)
-      fails not_asked p e meets ignored = go (at_place (length c.servers) s inv p)
+      fails : (not_asked : is_ask w ≡ false) (p : ℕ) (e : Error) → ((k : ℕ) (a : Held) → d.at p ≡ Some k → d.held k ≡ Some (tryer_of a) → stage_in a.stage ≡ dgrams.Trying p → dgrams.Meets c (x.ups 0).clock d w Nothing (dgrams.leave p k (tryer_of a) (dgrams.Ending (Err e)) d))
+          → ((TriesAt p d → ⊥) → IsIgnored c w d) → Meets w x s (with_owner (λ k a. failed_at p e a.stage k a) (s.at p) s)
+      fails not_asked p e meets ignored = go (at_place c (length c.servers) s inv p)
         where
           go : AtPlace s p → Meets w x s (with_owner (λ k a. failed_at p e a.stage k a) (s.at p) s)
           go (Free at) = passes _ (with_none (λ k a. failed_at p e a.stage k a) p at) not_asked (ignored (none_tries p at))
@@ -217,13 +217,13 @@ module _ (c : Conf) (st : Settings) (compose : Request → Result Octets Error) 
               (ends not_asked p k a (Err e) Nothing held (ap placed stage) (meets k a (at_it p k at) (is_held k a held) (ap stage_in stage)) refl)
 
       -- a request is sent
-      dispatches : (not_asked : is_ask w ≡ false) (p id k : ℕ) (a : Held) (o : Octets) → s.at p ≡ Some k → s.held k ≡ Some a → a.stage ≡ Trying p → dgrams.Meets (x.ups 0).clock d w (Puts (Send p k id o)) (dgrams.send_at p id (x.ups 0).clock k (tryer_of a) d)
+      dispatches : (not_asked : is_ask w ≡ false) (p id k : ℕ) (a : Held) (o : Octets) → s.at p ≡ Some k → s.held k ≡ Some a → a.stage ≡ Trying p → dgrams.Meets c (x.ups 0).clock d w (Puts (Send p k id o)) (dgrams.send_at p id (x.ups 0).clock k (tryer_of a) d)
           → Meets w x s (record { state = dispatch p k id a s; outs = Send p k id o ∷ [] })
       dispatches not_asked p id k a o at held stage meets = Does_so (record {
         told = record t { first = Tick; taken = true };
         does = by_one c st compose (record t { first = Tick; taken = true }) [] x (record { state = moved 0 (does u x.place (Puts (Send p k id o))) x; outs = Send p k id o ∷ [] }) (dispatch p k id a s)
             (Server_moves 0 (does u x.place (Puts (Send p k id o))) (inv.some k a held)
-            (TellsDgrams (Puts (Send p k id o)) d' _ alike.told.taken in_time (subst (λ w. dgrams.Meets (x.ups 0).clock d w (Puts (Send p k id o)) d') (sym alike.told.pending) meets) (foreign (x.ups 0).pending (x.ups 0).server.by_stream alike.first.still) (AsItIs (settled_all (dispatch p k id a s).held d' follows))))
+            (TellsDgrams (Puts (Send p k id o)) d' _ alike.told.taken in_time (subst (λ w. dgrams.Meets c (x.ups 0).clock d w (Puts (Send p k id o)) d') (sym alike.told.pending) meets) (foreign (x.ups 0).pending (x.ups 0).server.by_stream alike.first.still) (AsItIs (settled_all (dispatch p k id a s).held d' follows))))
             (record {
               now = alike.now;
               asked = alike.asked;
@@ -237,7 +237,7 @@ module _ (c : Conf) (st : Settings) (compose : Request → Result Octets Error) 
               leaving = alike.leaving;
             });
         answered = not_asked;
-        stands = standing.dispatches (length c.servers) s inv p id k a held stage;
+        stands = standing.dispatches c (length c.servers) s inv p id k a held stage;
         ignores = λ g. tt;
       })
         where
@@ -252,49 +252,49 @@ module _ (c : Conf) (st : Settings) (compose : Request → Result Octets Error) 
 
       -- a message comes where somebody waits for it
       comes : (not_asked : is_ask w ≡ false) (p : ℕ) (o : Octets) → IsUncut (Datagram p o)
-          → ((k : ℕ) (a : Held) (id m : ℕ) → d.at p ≡ Some k → d.held k ≡ Some (tryer_of a) → stage_in a.stage ≡ dgrams.Sent p id m → 12 ≤ length (take 2000 o) → answers a.request id (take 2000 o) ≡ true → dgrams.Meets (x.ups 0).clock d w (Puts (Close p)) (dgrams.leave p k (tryer_of a) (dgrams.stage_of (take 2000 o)) d))
-          → (((k : ℕ) (a : Tryer) (id t : ℕ) → d.at p ≡ Some k → d.held k ≡ Some a → a.stage ≡ dgrams.Sent p id t → 12 ≤ length (take 2000 o) → answers a.request id (take 2000 o) ≡ false) → IsIgnored w d)
-          → Meets w x s (with_owner (λ k a. message_at p (take 2000 o) a.stage k a) (s.at p) s)
-      comes not_asked p o whole meets ignored = go (at_place (length c.servers) s inv p)
+          → ((k : ℕ) (a : Held) (id m : ℕ) → d.at p ≡ Some k → d.held k ≡ Some (tryer_of a) → stage_in a.stage ≡ dgrams.Sent p id m → 12 ≤ length (take (recv_size c) o) → answers a.request id (take (recv_size c) o) ≡ true → dgrams.Meets c (x.ups 0).clock d w (Puts (Close p)) (dgrams.leave p k (tryer_of a) (dgrams.stage_of (take (recv_size c) o)) d))
+          → (((k : ℕ) (a : Tryer) (id t : ℕ) → d.at p ≡ Some k → d.held k ≡ Some a → a.stage ≡ dgrams.Sent p id t → 12 ≤ length (take (recv_size c) o) → answers a.request id (take (recv_size c) o) ≡ false) → IsIgnored c w d)
+          → Meets w x s (with_owner (λ k a. message_at p (take (recv_size c) o) a.stage k a) (s.at p) s)
+      comes not_asked p o whole meets ignored = go (at_place c (length c.servers) s inv p)
         where
-          go : AtPlace s p → Meets w x s (with_owner (λ k a. message_at p (take 2000 o) a.stage k a) (s.at p) s)
-          go (Free at) = passes _ (with_none (λ k a. message_at p (take 2000 o) a.stage k a) p at) not_asked (ignored (λ k a id m at' held' stage' long. absurd (nobody p k at at')))
-          go (Tries k a at held stage) = passes _ (with_it (λ k a. message_at p (take 2000 o) a.stage k a) p k a at held ∙ ap (λ st. message_at p (take 2000 o) st k a s) stage) not_asked (ignored (λ j b id m at' held' stage' long. absurd (tries_sent p k a at held stage (j, b, id, m, at', held', stage'))))
+          go : AtPlace s p → Meets w x s (with_owner (λ k a. message_at p (take (recv_size c) o) a.stage k a) (s.at p) s)
+          go (Free at) = passes _ (with_none (λ k a. message_at p (take (recv_size c) o) a.stage k a) p at) not_asked (ignored (λ k a id m at' held' stage' long. absurd (nobody p k at at')))
+          go (Tries k a at held stage) = passes _ (with_it (λ k a. message_at p (take (recv_size c) o) a.stage k a) p k a at held ∙ ap (λ st. message_at p (take (recv_size c) o) st k a s) stage) not_asked (ignored (λ j b id m at' held' stage' long. absurd (tries_sent p k a at held stage (j, b, id, m, at', held', stage'))))
           go (Waits k a id m at held stage) =
-              subst (Meets w x s) (sym (with_it (λ k a. message_at p (take 2000 o) a.stage k a) p k a at held ∙ ap (λ st. message_at p (take 2000 o) st k a s) stage))
-              (by_test (nat_le 12 (length (take 2000 o))) refl (answers a.request id (take 2000 o)) refl)
+              subst (Meets w x s) (sym (with_it (λ k a. message_at p (take (recv_size c) o) a.stage k a) p k a at held ∙ ap (λ st. message_at p (take (recv_size c) o) st k a s) stage))
+              (by_test (nat_le 12 (length (take (recv_size c) o))) refl (answers a.request id (take (recv_size c) o)) refl)
             where
-              unanswered : (nat_le 12 (length (take 2000 o)) ≡ true → answers a.request id (take 2000 o) ≡ false) → IsIgnored w d
+              unanswered : (nat_le 12 (length (take (recv_size c) o)) ≡ true → answers a.request id (take (recv_size c) o) ≡ false) → IsIgnored c w d
               unanswered differs = ignored (λ j b i u at' held' stage' long. (let e = its_tryer p k j a b at held at' held' in
                   let same : dgrams.Sent p id m ≡ dgrams.Sent p i u = sym (ap stage_in stage) ∙ (ap (λ (a : Tryer). a.stage) e ∙ stage') in
                   let id_is : id ≡ i = cc in
-                  subst (λ i. answers b.request i (take 2000 o) ≡ false) id_is (subst (λ (b : Tryer). answers b.request id (take 2000 o) ≡ false) e (differs (le_true 12 (length (take 2000 o)) long)))))
+                  subst (λ i. answers b.request i (take (recv_size c) o) ≡ false) id_is (subst (λ (b : Tryer). answers b.request id (take (recv_size c) o) ≡ false) e (differs (le_true 12 (length (take (recv_size c) o)) long)))))
                 where
                   le_true : (a b : ℕ) → a ≤ b → nat_le a b ≡ true
                   le_true a b le = grind (arith, nat_tests)
 
-              by_test : (b1 : Bool) → nat_le 12 (length (take 2000 o)) ≡ b1 → (b2 : Bool) → answers a.request id (take 2000 o) ≡ b2 → Meets w x s (if nat_le 12 (length (take 2000 o)) && answers a.request id (take 2000 o) then finish p k a (Ok (take 2000 o)) s else nothing s)
+              by_test : (b1 : Bool) → nat_le 12 (length (take (recv_size c) o)) ≡ b1 → (b2 : Bool) → answers a.request id (take (recv_size c) o) ≡ b2 → Meets w x s (if nat_le 12 (length (take (recv_size c) o)) && answers a.request id (take (recv_size c) o) then finish p k a (Ok (take (recv_size c) o)) s else nothing s)
               by_test false e1 b2 e2 = rw e1 (passes (nothing s) refl not_asked (unanswered (λ e. (let z : true ≡ false = sym e ∙ e1 in absurd (cc)))))
               by_test true e1 false e2 = rw (e1, e2) (passes (nothing s) refl not_asked (unanswered (λ e. e2)))
               by_test true e1 true e2 =
-                  let long = leb-true 12 (length (take 2000 o)) e1 in
-                  let is : dgrams.stage_of (take 2000 o) ≡ dgrams.Ending (Ok (take 2000 o)) = ap (λ b. if b then dgrams.Cut else dgrams.Ending (Ok (take 2000 o))) (uncut p o whole long) in
-                  rw (e1, e2) (ends not_asked p k a (Ok (take 2000 o)) (Puts (Close p)) held (ap placed stage)
-                  (subst (λ st. dgrams.Meets (x.ups 0).clock d w (Puts (Close p)) (dgrams.leave p k (tryer_of a) st d)) is (meets k a id m (at_it p k at) (is_held k a held) (ap stage_in stage) long e2)) refl)
+                  let long = leb-true 12 (length (take (recv_size c) o)) e1 in
+                  let is : dgrams.stage_of (take (recv_size c) o) ≡ dgrams.Ending (Ok (take (recv_size c) o)) = ap (λ b. if b then dgrams.Cut else dgrams.Ending (Ok (take (recv_size c) o))) (uncut c p o whole long) in
+                  rw (e1, e2) (ends not_asked p k a (Ok (take (recv_size c) o)) (Puts (Close p)) held (ap placed stage)
+                  (subst (λ st. dgrams.Meets c (x.ups 0).clock d w (Puts (Close p)) (dgrams.leave p k (tryer_of a) st d)) is (meets k a id m (at_it p k at) (is_held k a held) (ap stage_in stage) long e2)) refl)
 
     -- a place opens for which somebody waits
-    opens : (p id : ℕ) (x : Upper Served) (s : State) → Alike (record { upper = Opened p; first = Opened p; taken = false; others = Opened p }) [] x s → Standing (length c.servers) s → Quiet c.timeout s → id < 65536 → Meets (Opened p) x s (content compose has (Opened p) id s)
-    opens p id x s alike inv quiet small = go (at_place (length c.servers) s inv p)
+    opens : (p id : ℕ) (x : Upper Served) (s : State) → Alike (record { upper = Opened p; first = Opened p; taken = false; others = Opened p }) [] x s → Standing c (length c.servers) s → Quiet c s → id < 65536 → Meets (Opened p) x s (content c compose has (Opened p) id s)
+    opens p id x s alike inv quiet small = go (at_place c (length c.servers) s inv p)
       where
         f : ℕ → Held → State → Done
-        f k a = opened_at compose has p id a.stage k a
+        f k a = opened_at c compose has p id a.stage k a
 
-        go : AtPlace s p → Meets (Opened p) x s (with_owner (λ k a. opened_at compose has p id a.stage k a) (s.at p) s)
-        go (Free at) = passes (Opened p) x s alike inv quiet _ (with_none (Opened p) x s alike inv quiet (λ k a. opened_at compose has p id a.stage k a) p at) refl (none_tries (Opened p) x s alike inv quiet p at)
+        go : AtPlace s p → Meets (Opened p) x s (with_owner (λ k a. opened_at c compose has p id a.stage k a) (s.at p) s)
+        go (Free at) = passes (Opened p) x s alike inv quiet _ (with_none (Opened p) x s alike inv quiet (λ k a. opened_at c compose has p id a.stage k a) p at) refl (none_tries (Opened p) x s alike inv quiet p at)
         go (Waits k a i m at held stage) =
-            passes (Opened p) x s alike inv quiet _ (with_it (Opened p) x s alike inv quiet (λ k a. opened_at compose has p id a.stage k a) p k a at held ∙ ap (λ st. opened_at compose has p id st k a s) stage) refl (sent_tries (Opened p) x s alike inv quiet p k a i m at held stage)
+            passes (Opened p) x s alike inv quiet _ (with_it (Opened p) x s alike inv quiet (λ k a. opened_at c compose has p id a.stage k a) p k a at held ∙ ap (λ st. opened_at c compose has p id st k a s) stage) refl (sent_tries (Opened p) x s alike inv quiet p k a i m at held stage)
         go (Tries k a at held stage) =
-            subst (Meets (Opened p) x s) (sym (with_it (Opened p) x s alike inv quiet (λ k a. opened_at compose has p id a.stage k a) p k a at held ∙ ap (λ st. opened_at compose has p id st k a s) stage)) (by_composing (compose (under id a.request)) refl)
+            subst (Meets (Opened p) x s) (sym (with_it (Opened p) x s alike inv quiet (λ k a. opened_at c compose has p id a.stage k a) p k a at held ∙ ap (λ st. opened_at c compose has p id st k a s) stage)) (by_composing (compose (under c id a.request)) refl)
           where
             at' : (x.ups 0).server.by_dgram.at p ≡ Some k
             at' = at_it (Opened p) x s alike inv quiet p k at
@@ -302,12 +302,12 @@ module _ (c : Conf) (st : Settings) (compose : Request → Result Octets Error) 
             held' : (x.ups 0).server.by_dgram.held k ≡ Some (tryer_of a)
             held' = is_held (Opened p) x s alike inv quiet k a held
 
-            by_composing : (o : Result Octets Error) → compose (under id a.request) ≡ o → Meets (Opened p) x s (send_composed p id k a s o)
-            by_composing (Ok o) e = dispatches (Opened p) x s alike inv quiet refl p id k a o at held stage (dgrams.IsSent k (tryer_of a) p id o at' held' (ap stage_in stage) (carried_by a.request id o small (composes.carries a.request id o (inv.octets k a held) e)))
+            by_composing : (o : Result Octets Error) → compose (under c id a.request) ≡ o → Meets (Opened p) x s (send_composed p id k a s o)
+            by_composing (Ok o) e = dispatches (Opened p) x s alike inv quiet refl p id k a o at held stage (dgrams.IsSent k (tryer_of a) p id o at' held' (ap stage_in stage) (carried_by c a.request id o small (composes.carries a.request id o (inv.octets k a held) e)))
             by_composing (Err e) is = ends (Opened p) x s alike inv quiet refl p k a (Err e) (Puts (Close p)) held (ap placed stage) (dgrams.CannotBeSent k (tryer_of a) p e at' held' (ap stage_in stage) (composes.refused_under a.request id e (inv.octets k a held) is)) refl
 
     -- a request is asked
-    module _ (r : Request) (x : Upper Served) (s : State) (alike : Alike (record { upper = Ask r; first = Ask r; taken = false; others = Ask r }) [] x s) (inv : Standing (length c.servers) s) where
+    module _ (r : Request) (x : Upper Served) (s : State) (alike : Alike (record { upper = Ask r; first = Ask r; taken = false; others = Ask r }) [] x s) (inv : Standing c (length c.servers) s) where
       abbrev asked : Told
       asked = record { upper = Tick; first = Ask r; taken = false; others = Ask r }
 
@@ -320,7 +320,7 @@ module _ (c : Conf) (st : Settings) (compose : Request → Result Octets Error) 
             (record { now = alike.now; asked = ap suc alike.asked; place = alike.place; held = alike.held; first = (let u = alike.first in record { clock = u.clock; held = u.held; at = u.at; used = u.used; still = u.still; frames = u.frames }); told = record { pending = alike.told.pending; taken = alike.told.taken }; others = alike.others; pending = refl; board = alike.board; leaving = ap (λ l. l ++ z ∷ []) alike.leaving }))
             (λ y al. subst (λ o. Does c st compose asked [] y (record s { asked = suc s.asked }) (o ∷ [])) (ap (λ k. Reply k z.result) (number ∙ alike.asked) ∙ ap (Reply s.asked) result) (replies c st compose asked y (record s { asked = suc s.asked }) z (at_once_plain c st compose x.now x.asked x.stored r z now) al));
         answered = refl;
-        stands = standing.refuses (length c.servers) s inv;
+        stands = standing.refuses c (length c.servers) s inv;
         ignores = λ g. tt;
       })
 
@@ -388,18 +388,18 @@ module _ (c : Conf) (st : Settings) (compose : Request → Result Octets Error) 
         abbrev settled_in : Bool → Done
         settled_in b = if b then record { state = try s.asked (newcomer r s) (admit r s); outs = OpenDgram s.opened 0 ∷ [] } else record { state = line_up s.asked (newcomer r s) (admit r s); outs = [] }
 
-        enters : Meets (Ask r) x s (enter r s)
+        enters : Meets (Ask r) x s (enter c r s)
         enters = Does_so (record {
           told = asked;
-          does = then_does c st compose asked asked [] [] x (admit r s) (enter r s).state (Start s.asked 0 Dgram ∷ []) (settle_in s.asked (newcomer r s) (admit r s)).outs admits (λ y al. settles_in y al (nat_lt s.used 100) refl);
+          does = then_does c st compose asked asked [] [] x (admit r s) (enter c r s).state (Start s.asked 0 Dgram ∷ []) (settle_in c s.asked (newcomer r s) (admit r s)).outs admits (λ y al. settles_in y al (nat_lt s.used (max_places c)) refl);
           answered = refl;
-          stands = stands_in (nat_lt s.used 100) refl;
+          stands = stands_in (nat_lt s.used (max_places c)) refl;
           ignores = λ g. tt;
         })
           where
-            settles_in : (y : Upper Served) → Alike asked [] y (admit r s) → (b : Bool) → nat_lt s.used 100 ≡ b
+            settles_in : (y : Upper Served) → Alike asked [] y (admit r s) → (b : Bool) → nat_lt s.used (max_places c) ≡ b
                 → Does c st compose asked [] y (settled_in b).state (settled_in b).outs
-            settles_in y al true e = takes_place c st compose asked [] y (admit r s) s.asked (newcomer r s) some al (here s.asked (Some (newcomer r s)) s.held) refl (ltb-true s.used 100 e)
+            settles_in y al true e = takes_place c st compose asked [] y (admit r s) s.asked (newcomer r s) some al (here s.asked (Some (newcomer r s)) s.held) refl (ltb-true s.used (max_places c) e)
             settles_in y al false e = record {
               end = y;
               leads = Stays y;
@@ -417,22 +417,22 @@ module _ (c : Conf) (st : Settings) (compose : Request → Result Octets Error) 
               };
             }
 
-            stands_in : (b : Bool) → nat_lt s.used 100 ≡ b → Standing (length c.servers) (settled_in b).state
-            stands_in true e = standing.enters (length c.servers) s inv r octets some (ltb-true s.used 100 e)
-            stands_in false e = standing.lines_up (length c.servers) s inv r octets some (ltb-false s.used 100 e)
+            stands_in : (b : Bool) → nat_lt s.used (max_places c) ≡ b → Standing c (length c.servers) (settled_in b).state
+            stands_in true e = standing.enters c (length c.servers) s inv r octets some (ltb-true s.used (max_places c) e)
+            stands_in false e = standing.lines_up c (length c.servers) s inv r octets some (ltb-false s.used (max_places c) e)
 
-      asks : has ≡ nat_lt 0 (length c.servers) → IsOfOctets r → Meets (Ask r) x s (content compose has (Ask r) 0 s)
+      asks : has ≡ nat_lt 0 (length c.servers) → IsOfOctets r → Meets (Ask r) x s (content c compose has (Ask r) 0 s)
       asks is octets = by_composing (compose r) refl has refl
         where
-          by_composing : (o : Result Octets Error) → compose r ≡ o → (b : Bool) → has ≡ b → Meets (Ask r) x s (enter_or_refuse r s (refusal_of b o))
-          by_composing (Err e) composed b h = refuses e (record { request = x.asked; asked = r; result = Err e; is_stored = false; stale = None }) (Refused e composed) refl refl
+          by_composing : (o : Result Octets Error) → compose r ≡ o → (b : Bool) → has ≡ b → Meets (Ask r) x s (enter_or_refuse c r s (refusal_of b o))
+          by_composing (Err e) composed b h = refuses e (record { request = x.asked; asked = r; result = Err e; given = Err e; is_stored = false; stale = None }) (Refused e composed) refl refl
           by_composing (Ok o) composed true h = enters o composed octets (ltb-true 0 (length c.servers) (sym is ∙ h))
           by_composing (Ok o) composed false h =
               let z = error_so st x.asked r errors.NoTransportAvailable in
               refuses errors.NoTransportAvailable (outcome st x.asked r (Err errors.NoTransportAvailable)) (Nowhere (o, composed) (let le = ltb-false 0 (length c.servers) (sym is ∙ h) in omega arith)) z.0 z.1
 
     -- whatever happens
-    pub meets_all : has ≡ nat_lt 0 (length c.servers) → (w : What) (id : ℕ) (x : Upper Served) (s : State) → Alike (record { upper = w; first = w; taken = false; others = w }) [] x s → Standing (length c.servers) s → Quiet c.timeout s → id < 65536 → IsAskedInOctets w → IsUncut w → Meets w x s (content compose has w id s)
+    pub meets_all : has ≡ nat_lt 0 (length c.servers) → (w : What) (id : ℕ) (x : Upper Served) (s : State) → Alike (record { upper = w; first = w; taken = false; others = w }) [] x s → Standing c (length c.servers) s → Quiet c s → id < 65536 → IsAskedInOctets w → IsUncut w → Meets w x s (content c compose has w id s)
     meets_all is (Ask r) id x s alike inv quiet small octets whole = asks r x s alike inv is octets
     meets_all is (Opened p) id x s alike inv quiet small octets whole = opens p id x s alike inv quiet small
     meets_all is (OpenFailed p f) id x s alike inv quiet small octets whole = fails (OpenFailed p f) x s alike inv quiet refl p (errors.Dgram (query.Connect f)) (λ k a at held stage. dgrams.DoesNotOpen k (tryer_of a) p f at held stage) (λ none. none)

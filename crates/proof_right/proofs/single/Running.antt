@@ -10,7 +10,7 @@ use Rattle.client_request.specs.declared.event.What.TheVariants.{Ask, Opened, Op
 use Rattle.client_request.specs.declared.event.Out.{Out}
 use Rattle.client_request.specs.declared.event.Row.{Row}
 use Rattle.right_trace.specs.Trace.{Conf, Use, ByDatagrams}
-use Rattle.right_trace.specs.Time.{read_timeout}
+use Rattle.right_trace.specs.Time.{read_timeout, max_places}
 use Rattle.right_trace.specs.Messages.{Octets, Composes}
 use Rattle.right_trace.specs.Requests.{is_ask}
 use Rattle.right_trace.specs.Settings.{Settings, defers_nothing}
@@ -53,13 +53,13 @@ begins t e x s c st compose al = record {
   leaving = al.leaving;
 }
 
-stands_at : (n moment : ℕ) (s : State) → Standing n s → Standing n (clock moment s)
-stands_at n moment s v = record { slots = v.slots; few = v.few; lined = v.lined; queued = v.queued; distinct = v.distinct; full = v.full; unasked = v.unasked; octets = v.octets; some = v.some; settled = v.settled }
+stands_at : (c : Conf) → (n moment : ℕ) (s : State) → Standing c n s → Standing c n (clock moment s)
+stands_at c n moment s v = record { slots = v.slots; few = v.few; lined = v.lined; queued = v.queued; distinct = v.distinct; full = v.full; unasked = v.unasked; octets = v.octets; some = v.some; settled = v.settled }
 
 -- where no timer is due, none fires
-none_fires : (timeout : ℕ) (s : State) (d : Done) → Quiet timeout s → Fires timeout s d → d ≡ nothing s
-none_fires timeout _ _ quiet (Rests s q) = refl
-none_fires timeout _ _ quiet (Fires_one s z d due more) = absurd (go z.place refl)
+none_fires : (c : Conf) → (s : State) (d : Done) → Quiet c s → Fires c s d → d ≡ nothing s
+none_fires c _ _ quiet (Rests s q) = refl
+none_fires c _ _ quiet (Fires_one s z d due more) = absurd (go z.place refl)
   where
     go : (o : Option ℕ) → z.place ≡ o → ⊥
     go None e = (let late = due.deadline e in let early = (quiet z.request z.held due.held).deadline in omega arith)
@@ -67,7 +67,7 @@ none_fires timeout _ _ quiet (Fires_one s z d due more) = absurd (go z.place ref
 
 module _ (c : Conf) (st : Settings) (compose : Request → Result Octets Error) where
   -- When no timer is due, the row may end.
-  module _ (t : Told) (y : Upper Served) (s : State) (al : Alike t [] y s) (inv : Standing (length c.servers) s) (quiet : Quiet c.timeout s) (answered : is_ask t.upper ≡ false) (ignored : IsIgnored t.first (y.ups 0).server.by_dgram) where
+  module _ (t : Told) (y : Upper Served) (s : State) (al : Alike t [] y s) (inv : Standing c (length c.servers) s) (quiet : Quiet c s) (answered : is_ask t.upper ≡ false) (ignored : IsIgnored c t.first (y.ups 0).server.by_dgram) where
     abbrev d : Dgrams
     d = (y.ups 0).server.by_dgram
 
@@ -96,25 +96,25 @@ module _ (c : Conf) (st : Settings) (compose : Request → Result Octets Error) 
         go None f = (let z = sym (al.held k ∙ ap (option_map waiting_of) f) ∙ e in absurd (cc))
         go (Some b) f = (let z : Some (waiting_of b) ≡ Some a = sym (al.held k ∙ ap (option_map waiting_of) f) ∙ e in record { held = b; is = f; same = cc })
 
-    lined : (k : ℕ) (b : Held) → s.held k ≡ Some b → (stage : Stage) → b.stage ≡ stage → stage_in stage ≡ dgrams.Queued → d.used ≡ 100
+    lined : (k : ℕ) (b : Held) → s.held k ≡ Some b → (stage : Stage) → b.stage ≡ stage → stage_in stage ≡ dgrams.Queued → d.used ≡ max_places c
     lined k b e Queued f g = al.first.used ∙ inv.full k (inv.lined k b e f)
     lined k b e Loose f g = absurd (inv.settled k b e f)
     lined k b e (Trying p) f g = absurd (cc)
     lined k b e (Sent p id m) f g = absurd (cc)
 
-    early : (k : ℕ) (b : Held) (p id m : ℕ) → s.held k ≡ Some b → (stage : Stage) → b.stage ≡ stage → stage_in stage ≡ dgrams.Sent p id m → s.now < m + read_timeout
+    early : (k : ℕ) (b : Held) (p id m : ℕ) → s.held k ≡ Some b → (stage : Stage) → b.stage ≡ stage → stage_in stage ≡ dgrams.Sent p id m → s.now < m + read_timeout c
     early k b p id m e Queued f g = absurd (cc)
     early k b p id m e Loose f g = absurd (cc)
     early k b p id m e (Trying q) f g = absurd (cc)
-    early k b p id m e (Sent q i u) f g = (let is : u ≡ m = cc in subst (λ m. s.now < m + read_timeout) is ((quiet k b e).reading q i u f))
+    early k b p id m e (Sent q i u) f g = (let is : u ≡ m = cc in subst (λ m. s.now < m + read_timeout c) is ((quiet k b e).reading q i u f))
 
-    first_rests : RestsNow (y.ups 0)
+    first_rests : RestsNow c (y.ups 0)
     first_rests =
         let still = al.first.still in
         let settled = settled_all s.held d al.first.held in record {
           rests = record {
             waiting = λ k a e f. (let h = held_as k a e in lined k h.held h.is h.held.stage refl (ap (λ (a : Tryer). a.stage) h.same ∙ f));
-            reading = λ k a p id m e f. (let h = held_as k a e in subst (λ n. n < m + read_timeout) (sym al.first.clock) (early k h.held p id m h.is h.held.stage refl (ap (λ (a : Tryer). a.stage) h.same ∙ f)));
+            reading = λ k a p id m e f. (let h = held_as k a e in subst (λ n. n < m + read_timeout c) (sym al.first.clock) (early k h.held p id m h.is h.held.stage refl (ap (λ (a : Tryer). a.stage) h.same ∙ f)));
             ending = λ k a x e. settled k a e x;
             cut = none_cut s.held d al.first.held;
             free = λ k a e. (let z = sym (still.asks k) ∙ e in absurd (cc));
@@ -126,11 +126,11 @@ module _ (c : Conf) (st : Settings) (compose : Request → Result Octets Error) 
             idle = λ p x u e f. (let z = sym (still.conns p) ∙ e in absurd (cc));
           };
           frames = al.first.frames;
-          ignored = subst (λ w. IsIgnored w d) (sym al.told.pending) ignored;
+          ignored = subst (λ w. IsIgnored c w d) (sym al.told.pending) ignored;
           foreign = foreign (y.ups 0).pending (y.ups 0).server.by_stream still;
         }
 
-    none_ignored : (w : What) (g : Dgrams) → ((k : ℕ) → g.held k ≡ None) → IsIgnored w g
+    none_ignored : (w : What) (g : Dgrams) → ((k : ℕ) → g.held k ≡ None) → IsIgnored c w g
     none_ignored (Ask r) g none = tt
     none_ignored (Opened p) g none = λ z. (let e = sym (none z.0) ∙ z.3 in cc)
     none_ignored (OpenFailed p f) g none = λ z. (let e = sym (none z.0) ∙ z.3 in cc)
@@ -145,7 +145,7 @@ module _ (c : Conf) (st : Settings) (compose : Request → Result Octets Error) 
     none_ignored (Ended p) g none = tt
     none_ignored Tick g none = tt
 
-    other_rests : (i : ℕ) → 0 ≢ i → RestsNow (y.ups i)
+    other_rests : (i : ℕ) → 0 ≢ i → RestsNow c (y.ups i)
     other_rests i ne =
         let u = al.others i ne in
         let still = u.still in record {
@@ -189,7 +189,7 @@ module _ (c : Conf) (st : Settings) (compose : Request → Result Octets Error) 
       taken = ap is_ask al.pending ∙ answered;
       board = al.board;
       leaving = al.leaving;
-      rests = λ i le. elim (cases_eq 0 i) [ inl e ↦ subst (λ i. RestsNow (y.ups i)) e first_rests | inr ne ↦ other_rests i ne ];
+      rests = λ i le. elim (cases_eq 0 i) [ inl e ↦ subst (λ i. RestsNow c (y.ups i)) e first_rests | inr ne ↦ other_rests i ne ];
       tried_alone = λ i k le e. elim (cases_eq 0 i) [
         | inl is ↦ is_tried k (sym (holds_so k) ∙ subst (λ i. holds (y.ups i) k ≡ true) (sym is) e)
         | inr ne ↦ (let z : true ≡ false = sym e ∙ none_held i k ne in absurd (cc))
@@ -204,13 +204,13 @@ module _ (c : Conf) (st : Settings) (compose : Request → Result Octets Error) 
     step : IsStep c st compose (served c) x row next
     told : Told
     alike : Alike told [] next s'
-    stands : Standing (length c.servers) s'
+    stands : Standing c (length c.servers) s'
 
-  module _ (composes : Composes compose) (defers : defers_nothing st ≡ true) (uses : (u : Use) → use_at 0 c.servers ≡ Some u → u ≡ ByDatagrams) where
+  module _ (composes : Composes c compose) (defers : defers_nothing st ≡ true) (uses : (u : Use) → use_at 0 c.servers ≡ Some u → u ≡ ByDatagrams) where
     abbrev has : Bool
     has = nat_lt 0 (length c.servers)
 
-    goes_so : (t : Told) (x : Upper Served) (s : State) (row : Row) (s' : State) → Alike t [] x s → Standing (length c.servers) s → IsAskedInOctets row.event.what → IsUncut row.event.what → single.IsStep compose has c.timeout s row s' → Goes_so x row s'
+    goes_so : (t : Told) (x : Upper Served) (s : State) (row : Row) (s' : State) → Alike t [] x s → Standing c (length c.servers) s → IsAskedInOctets row.event.what → IsUncut row.event.what → single.IsStep c compose has s row s' → Goes_so x row s'
     goes_so t x s row s' al inv octets whole step = by_event (meets_all c st compose has composes defers uses refl w step.id f.end step.first.state f.alike g.0 g.1 step.small octets whole)
       where
         w : What
@@ -225,17 +225,17 @@ module _ (c : Conf) (st : Settings) (compose : Request → Result Octets Error) 
         s0 : State
         s0 = clock (row.event.moment).0 s
 
-        inv0 : Standing (length c.servers) s0
-        inv0 = stands_at (length c.servers) (row.event.moment).0 s inv
+        inv0 : Standing c (length c.servers) s0
+        inv0 = stands_at c (length c.servers) (row.event.moment).0 s inv
 
         f : Does c st compose t0 [] x0 step.first.state step.first.outs
         f = fires_do c st compose defers t0 (length c.servers) (λ le. le) s0 step.first x0 step.fires (begins t row.event x s c st compose al) inv0
 
-        g : Standing (length c.servers) step.first.state × Quiet c.timeout step.first.state
-        g = fires_stand (length c.servers) c.timeout s0 step.first step.fires inv0
+        g : Standing c (length c.servers) step.first.state × Quiet c step.first.state
+        g = fires_stand c (length c.servers) s0 step.first step.fires inv0
 
         e : Done
-        e = content compose has w step.id step.first.state
+        e = content c compose has w step.id step.first.state
 
         by_event : Meets c st compose w f.end step.first.state e → Goes_so x row s'
         by_event (Does_so m) = record {
@@ -250,14 +250,14 @@ module _ (c : Conf) (st : Settings) (compose : Request → Result Octets Error) 
           };
           told = m.told;
           alike = subst (Alike m.told [] l.end) (sym step.leaves) l.alike;
-          stands = subst (Standing (length c.servers)) (sym step.leaves) h.0;
+          stands = subst (Standing c (length c.servers)) (sym step.leaves) h.0;
         }
           where
             l : Does c st compose m.told [] m.does.end step.last.state step.last.outs
             l = fires_do c st compose defers m.told (length c.servers) (λ le. le) e.state step.last m.does.end step.fires_again m.does.alike m.stands
 
-            h : Standing (length c.servers) step.last.state × Quiet c.timeout step.last.state
-            h = fires_stand (length c.servers) c.timeout e.state step.last step.fires_again m.stands
+            h : Standing c (length c.servers) step.last.state × Quiet c step.last.state
+            h = fires_stand c (length c.servers) e.state step.last step.fires_again m.stands
         by_event (Passes is not_asked ignored) = record {
           next = f.end;
           step = record {
@@ -268,11 +268,11 @@ module _ (c : Conf) (st : Settings) (compose : Request → Result Octets Error) 
           };
           told = t0;
           alike = subst (Alike t0 [] f.end) same f.alike;
-          stands = subst (Standing (length c.servers)) same g.0;
+          stands = subst (Standing c (length c.servers)) same g.0;
         }
           where
             last : step.last ≡ nothing step.first.state
-            last = none_fires c.timeout step.first.state step.last g.1 (subst (λ (e : Done). Fires c.timeout e.state step.last) is step.fires_again)
+            last = none_fires c step.first.state step.last g.1 (subst (λ (e : Done). Fires c e.state step.last) is step.fires_again)
 
             same : step.first.state ≡ s'
             same = sym (step.leaves ∙ ap (λ (d : Done). d.state) last)
@@ -281,20 +281,20 @@ module _ (c : Conf) (st : Settings) (compose : Request → Result Octets Error) 
             nil_end [] = refl
             nil_end (y ∷ o) = ap (λ l. y ∷ l) (nil_end o)
 
-    runs_so : (t : Told) (x : Upper Served) (s : State) (rows : List Row) → Alike t [] x s → Standing (length c.servers) s → AllAskedInOctets (map (λ row. row.event) rows) → NoneIsTruncated (map (λ row. row.event) rows) → single.IsRun compose has c.timeout s rows → IsRun c st compose (served c) x rows
+    runs_so : (t : Told) (x : Upper Served) (s : State) (rows : List Row) → Alike t [] x s → Standing c (length c.servers) s → AllAskedInOctets (map (λ row. row.event) rows) → NoneIsTruncated (map (λ row. row.event) rows) → single.IsRun c compose has s rows → IsRun c st compose (served c) x rows
     runs_so t x _ _ al inv octets whole (single.Ends s) = Ends x
     runs_so t x _ _ al inv octets whole (single.Goes_on s row s' rows step more) =
         let g = goes_so t x s row s' al inv octets.0 whole.0 step in
         Goes_on x row g.next rows g.step (runs_so g.told g.next s' rows g.alike g.stands octets.1 whole.1 more)
 
-fresh_stands : (n : ℕ) → Standing n single.fresh
-fresh_stands n = record { slots = λ p k e. absurd (cc); few = omega arith; lined = λ k a e st. absurd (cc); queued = λ k i. absurd i; distinct = tt; full = λ k i. absurd i; unasked = λ k le. refl; octets = λ k a e. absurd (cc); some = λ k a e. absurd (cc); settled = λ k a e. absurd (cc) }
+fresh_stands : (c : Conf) → (n : ℕ) → Standing c n single.fresh
+fresh_stands c n = record { slots = λ p k e. absurd (cc); few = omega arith; lined = λ k a e st. absurd (cc); queued = λ k i. absurd i; distinct = tt; full = λ k i. absurd i; unasked = λ k le. refl; octets = λ k a e. absurd (cc); some = λ k a e. absurd (cc); settled = λ k a e. absurd (cc) }
 
 abbrev quiet_told : Told
 quiet_told = record { upper = Tick; first = Tick; taken = true; others = Tick }
 
 pub one_server_runs : RunsOfOneServerAreRuns
-one_server_runs c st compose rows composes defers uses octets whole run = runs_so c st compose composes defers uses quiet_told (begun c st compose (served c)) single.fresh rows fresh_alike (fresh_stands (length c.servers)) octets whole run
+one_server_runs c st compose rows composes defers uses octets whole run = runs_so c st compose composes defers uses quiet_told (begun c st compose (served c)) single.fresh rows fresh_alike (fresh_stands c (length c.servers)) octets whole run
   where
     still : Still (unserved.server.by_stream)
     still = record { asks = λ k. refl; conns = λ p. refl; opening = refl }

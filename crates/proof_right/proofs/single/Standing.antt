@@ -1,4 +1,7 @@
 -- What holds of the client of one server between two moves: slots, the queue, and who is held.
+use Rattle.proof_right.proofs.Received.{places_on}
+use Rattle.right_trace.specs.Trace.{Conf}
+use Rattle.right_trace.specs.Time.{max_places}
 use Rattle.std.proofs.Common.{◌≡◌, ◌≢◌, ℕ, suc, ◌<◌, ◌≤◌, Bool, true, false, ◌⊎◌, inl, inr, Option, Some, None, List, [], ◌∷◌, ◌++◌, refl, arith, sym, ap, subst, ◌∙◌, ◌==◌}
 use Rattle.std.specs.Prelude.{if◌then◌else◌}
 use Rattle.std.proofs.lemmas.Bool.Decides.{nat_tests}
@@ -18,13 +21,13 @@ abbrev pub Distinct : List ℕ → Type 0
 Distinct [] = Unit {0}
 Distinct (x ∷ xs) = (IsIn x xs → ⊥) × Distinct xs
 
-pub record Standing (servers : ℕ) (s : State) : Type 0 where
+pub record Standing (c : Conf) (servers : ℕ) (s : State) : Type 0 where
   pub slots : (p k : ℕ) → s.at p ≡ Some k → (a : Held) × (s.held k ≡ Some a) × (placed a.stage ≡ Some p)
-  pub few : s.used ≤ 100
+  pub few : s.used ≤ max_places c
   pub lined : (k : ℕ) (a : Held) → s.held k ≡ Some a → a.stage ≡ Queued → IsIn k s.queue
   pub queued : (k : ℕ) → IsIn k s.queue → (a : Held) × (s.held k ≡ Some a) × (a.stage ≡ Queued)
   pub distinct : Distinct s.queue
-  pub full : (k : ℕ) → IsIn k s.queue → s.used ≡ 100
+  pub full : (k : ℕ) → IsIn k s.queue → s.used ≡ max_places c
   pub unasked : (k : ℕ) → s.asked ≤ k → s.held k ≡ None
   pub octets : (k : ℕ) (a : Held) → s.held k ≡ Some a → IsOfOctets a.request
   pub some : (k : ℕ) (a : Held) → s.held k ≡ Some a → 0 < servers
@@ -55,13 +58,13 @@ trying_fixed p = λ e. cc
 one_of : (k : ℕ) (a b : Held) (s : State) → s.held k ≡ Some a → s.held k ≡ Some b → a ≡ b
 one_of k a b s x y = (let z : Some a ≡ Some b = sym x ∙ y in cc)
 
-module _ (n : ℕ) (s : State) (inv : Standing n s) where
+module _ (c : Conf) (n : ℕ) (s : State) (inv : Standing c n s) where
   -- who has a place is not queued
   not_in_queue : (k : ℕ) (a : Held) (p : ℕ) → s.held k ≡ Some a → placed a.stage ≡ Some p → IsIn k s.queue → ⊥
   not_in_queue k a p held at i = (let q = inv.queued k i in let same : a ≡ q.0 = one_of k a q.0 s held q.1 in let z : placed Queued ≡ Some p = ap placed (sym q.2) ∙ (ap (λ (a : Held). placed a.stage) (sym same) ∙ at) in cc)
 
   -- a place is no more, and its request is gone
-  pub loses : (p k : ℕ) (a : Held) → s.held k ≡ Some a → placed a.stage ≡ Some p → s.queue ≡ [] → Standing n (lose p k s)
+  pub loses : (p k : ℕ) (a : Held) → s.held k ≡ Some a → placed a.stage ≡ Some p → s.queue ≡ [] → Standing c n (lose p k s)
   loses p k a held at none = record {
     slots = λ q j e. (let b = was_left p s.at q j e in let g = inv.slots q j b.1 in (g.0, (there k j None s.held (λ is. b.0 (let same : a ≡ g.0 = one_of j a g.0 s (ap s.held (sym is) ∙ held) g.1 in let z : Some p ≡ Some q = sym at ∙ (ap (λ (a : Held). placed a.stage) same ∙ g.2) in cc)) ∙ g.1), g.2));
     few = (let f = inv.few in omega arith);
@@ -79,7 +82,7 @@ module _ (n : ℕ) (s : State) (inv : Standing n s) where
       left j e = grind (arith, nat_tests)
 
   -- and the request that waits longest takes the next place
-  pub passes : (p k : ℕ) (a : Held) (j : ℕ) (b : Held) (q : List ℕ) → s.held k ≡ Some a → placed a.stage ≡ Some p → s.queue ≡ j ∷ q → s.held j ≡ Some b → b.stage ≡ Queued → (k ≢ j) × Standing n (try j b (put_back q (lose p k s)))
+  pub passes : (p k : ℕ) (a : Held) (j : ℕ) (b : Held) (q : List ℕ) → s.held k ≡ Some a → placed a.stage ≡ Some p → s.queue ≡ j ∷ q → s.held j ≡ Some b → b.stage ≡ Queued → (k ≢ j) × Standing c n (try j b (put_back q (lose p k s)))
   passes p k a j b q held at is held' stage = (
     ne,
     record {
@@ -92,14 +95,14 @@ module _ (n : ℕ) (s : State) (inv : Standing n s) where
             let not_j : j ≢ i = λ e. (let same : b ≡ g.0 = one_of i b g.0 s (ap s.held (sym e) ∙ held') g.1 in let z : placed Queued ≡ Some r = ap placed (sym stage) ∙ (ap (λ (a : Held). placed a.stage) same ∙ g.2) in cc) in
             (g.0, there j i (Some (staged b (Trying s.opened))) (with_at k None s.held) not_j ∙ (there k i None s.held not_k ∙ g.1), g.2))
       ];
-      few = (let f = inv.few in omega arith);
+      few = (let f = inv.few in let pos = places_on c in omega (arith, pos));
       lined = λ i h e st. elim (was_at j (staged b (Trying s.opened)) (with_at k None s.held) i h e) [
         | inl w ↦ absurd (let z : Trying s.opened ≡ Queued = ap (λ (a : Held). a.stage) w.1 ∙ st in cc)
         | inr w ↦ (let v = was_left k s.held i h w.1 in in_rest i w.0 (subst (IsIn i) is (inv.lined i h v.1 st)))
       ];
       queued = λ i l. (let g = inv.queued i (subst (IsIn i) (sym is) (inr l)) in (g.0, there j i (Some (staged b (Trying s.opened))) (with_at k None s.held) (λ e. dis.0 (subst (λ i. IsIn i q) (sym e) l)) ∙ (there k i None s.held (λ e. not_in_queue k a p held at (subst (λ k. IsIn k s.queue) (sym e) (subst (IsIn i) (sym is) (inr l)))) ∙ g.1), g.2));
       distinct = dis.1;
-      full = λ i l. (let f = inv.full j (subst (IsIn j) (sym is) (inl refl)) in omega arith);
+      full = λ i l. (let f = inv.full j (subst (IsIn j) (sym is) (inl refl)) in let pos = places_on c in omega (arith, pos));
       unasked = λ i le. none i le;
       octets = λ i h e. elim (was_at j (staged b (Trying s.opened)) (with_at k None s.held) i h e) [ inl w ↦ subst (λ (h : Held). IsOfOctets h.request) w.1 (inv.octets j b held') | inr w ↦ inv.octets i h (was_left k s.held i h w.1).1 ];
       some = λ i h e. inv.some j b held';
@@ -124,7 +127,7 @@ module _ (n : ℕ) (s : State) (inv : Standing n s) where
           left i e = grind (arith, nat_tests)
 
   -- a place is given up for the next
-  pub retries : (p k : ℕ) (a : Held) → s.held k ≡ Some a → placed a.stage ≡ Some p → Standing n (try k a (loosen p k a s))
+  pub retries : (p k : ℕ) (a : Held) → s.held k ≡ Some a → placed a.stage ≡ Some p → Standing c n (try k a (loosen p k a s))
   retries p k a held at = record {
     slots = λ r i e. elim (was_at s.opened k (with_at p None s.at) r i e) [
       | inl w ↦ (staged a (Trying s.opened), subst (λ i. with_at k (Some (staged a (Trying s.opened))) (with_at k (Some (staged a Loose)) s.held) i ≡ Some (staged a (Trying s.opened))) w.1 (here k (Some (staged a (Trying s.opened))) (with_at k (Some (staged a Loose)) s.held)), ap Some w.0)
@@ -134,11 +137,11 @@ module _ (n : ℕ) (s : State) (inv : Standing n s) where
           let not_k : k ≢ i = λ e. v.0 (let same : a ≡ g.0 = one_of i a g.0 s (ap s.held (sym e) ∙ held) g.1 in let z : Some p ≡ Some r = sym at ∙ (ap (λ (a : Held). placed a.stage) same ∙ g.2) in cc) in
           (g.0, there k i (Some (staged a (Trying s.opened))) (with_at k (Some (staged a Loose)) s.held) not_k ∙ (there k i (Some (staged a Loose)) s.held not_k ∙ g.1), g.2))
     ];
-    few = (let f = inv.few in omega arith);
+    few = (let f = inv.few in let pos = places_on c in omega (arith, pos));
     lined = λ i h e st. elim (twice i h e) [ inl w ↦ absurd (let z : Trying s.opened ≡ Queued = ap (λ (a : Held). a.stage) w.1 ∙ st in cc) | inr w ↦ inv.lined i h w.1 st ];
     queued = λ i l. (let g = inv.queued i l in let not_k : k ≢ i = λ e. not_in_queue k a p held at (subst (λ k. IsIn k s.queue) (sym e) l) in (g.0, there k i (Some (staged a (Trying s.opened))) (with_at k (Some (staged a Loose)) s.held) not_k ∙ (there k i (Some (staged a Loose)) s.held not_k ∙ g.1), g.2));
     distinct = inv.distinct;
-    full = λ i l. (let f = inv.full i l in omega arith);
+    full = λ i l. (let f = inv.full i l in let pos = places_on c in omega (arith, pos));
     unasked = λ i le. (let u = inv.unasked i le in let not_k : k ≢ i = λ e. (let z = sym u ∙ (ap s.held (sym e) ∙ held) in cc) in there k i (Some (staged a (Trying s.opened))) (with_at k (Some (staged a Loose)) s.held) not_k ∙ (there k i (Some (staged a Loose)) s.held not_k ∙ u));
     octets = λ i h e. elim (twice i h e) [ inl w ↦ subst (λ (h : Held). IsOfOctets h.request) w.1 (inv.octets k a held) | inr w ↦ inv.octets i h w.1 ];
     some = λ i h e. inv.some k a held;
@@ -149,7 +152,7 @@ module _ (n : ℕ) (s : State) (inv : Standing n s) where
       twice i h e = elim (was_at k (staged a (Trying s.opened)) (with_at k (Some (staged a Loose)) s.held) i h e) [ inl w ↦ inl w | inr w ↦ inr (w.0, sym (there k i (Some (staged a Loose)) s.held w.0) ∙ w.1) ]
 
   -- a request that waits for a slot is gone
-  pub leaves_queue : (k : ℕ) (a : Held) → s.held k ≡ Some a → a.stage ≡ Queued → Standing n (put_back (remove k s.queue) (forget k s))
+  pub leaves_queue : (k : ℕ) (a : Held) → s.held k ≡ Some a → a.stage ≡ Queued → Standing c n (put_back (remove k s.queue) (forget k s))
   leaves_queue k a held stage = record {
     slots = λ q j e. (let g = inv.slots q j e in (g.0, there k j None s.held (λ is. (let same : a ≡ g.0 = one_of j a g.0 s (ap s.held (sym is) ∙ held) g.1 in let z : placed Queued ≡ Some q = ap placed (sym stage) ∙ (ap (λ (a : Held). placed a.stage) same ∙ g.2) in cc)) ∙ g.1, g.2));
     few = inv.few;
@@ -203,7 +206,7 @@ module _ (n : ℕ) (s : State) (inv : Standing n s) where
           go false ih = (λ i. d.0 (still k x xs i), ih)
 
   -- a request is sent at its place
-  pub dispatches : (p id k : ℕ) (a : Held) → s.held k ≡ Some a → a.stage ≡ Trying p → Standing n (dispatch p k id a s)
+  pub dispatches : (p id k : ℕ) (a : Held) → s.held k ≡ Some a → a.stage ≡ Trying p → Standing c n (dispatch p k id a s)
   dispatches p id k a held stage = record {
     slots = λ q j e. (let g = inv.slots q j e in elim (cases_eq k j) [
       | inl is ↦
@@ -224,7 +227,7 @@ module _ (n : ℕ) (s : State) (inv : Standing n s) where
   }
 
   -- a new request takes a place
-  pub enters : (r : Request) → IsOfOctets r → 0 < n → s.used < 100 → Standing n (try s.asked (newcomer r s) (admit r s))
+  pub enters : (r : Request) → IsOfOctets r → 0 < n → s.used < max_places c → Standing c n (try s.asked (newcomer r s) (admit r s))
   enters r octets has free = record {
     slots = λ q j e. elim (was_at s.opened s.asked s.at q j e) [
       | inl w ↦ (staged (newcomer r s) (Trying s.opened), subst (λ j. with_at s.asked (Some (staged (newcomer r s) (Trying s.opened))) (with_at s.asked (Some (newcomer r s)) s.held) j ≡ Some (staged (newcomer r s) (Trying s.opened))) w.1 (here s.asked (Some (staged (newcomer r s) (Trying s.opened))) (with_at s.asked (Some (newcomer r s)) s.held)), ap Some w.0)
@@ -251,7 +254,7 @@ module _ (n : ℕ) (s : State) (inv : Standing n s) where
       twice i h e = elim (was_at s.asked (staged (newcomer r s) (Trying s.opened)) (with_at s.asked (Some (newcomer r s)) s.held) i h e) [ inl w ↦ inl w | inr w ↦ inr (w.0, sym (there s.asked i (Some (newcomer r s)) s.held w.0) ∙ w.1) ]
 
   -- or it is lined up
-  pub lines_up : (r : Request) → IsOfOctets r → 0 < n → 100 ≤ s.used → Standing n (line_up s.asked (newcomer r s) (admit r s))
+  pub lines_up : (r : Request) → IsOfOctets r → 0 < n → max_places c ≤ s.used → Standing c n (line_up s.asked (newcomer r s) (admit r s))
   lines_up r octets has taken = record {
     slots = λ q j e. (let g = inv.slots q j e in (g.0, away j (λ e. new j g.0 e g.1) ∙ g.1, g.2));
     few = inv.few;
@@ -297,11 +300,11 @@ module _ (n : ℕ) (s : State) (inv : Standing n s) where
       more (x ∷ xs) d none = ((λ l. elim (in_either x xs l) [ inl m ↦ d.0 m | inr m ↦ none (inl (sym m)) ]), more xs d.1 (λ l. none (inr l)))
 
   -- a request that is not handed on
-  pub refuses : Standing n (record s { asked = suc s.asked })
+  pub refuses : Standing c n (record s { asked = suc s.asked })
   refuses = record { slots = inv.slots; few = inv.few; lined = inv.lined; queued = inv.queued; distinct = inv.distinct; full = inv.full; unasked = λ k le. inv.unasked k (omega arith); octets = inv.octets; some = inv.some; settled = inv.settled }
 
   -- Only what is held counts of what is held.
-  pub stands_so : (f : ℕ → Option Held) → ((k : ℕ) → f k ≡ s.held k) → Standing n (record s { held = f })
+  pub stands_so : (f : ℕ → Option Held) → ((k : ℕ) → f k ≡ s.held k) → Standing c n (record s { held = f })
   stands_so f same = record {
     slots = λ p k e. (let g = inv.slots p k e in (g.0, same k ∙ g.1, g.2));
     few = inv.few;
@@ -316,12 +319,12 @@ module _ (n : ℕ) (s : State) (inv : Standing n s) where
   }
 
   -- Who gives up a place gives it on.
-  pub gives_on : (p k : ℕ) (a : Held) → s.held k ≡ Some a → placed a.stage ≡ Some p → Standing n (give (lose p k s)).state
+  pub gives_on : (p k : ℕ) (a : Held) → s.held k ≡ Some a → placed a.stage ≡ Some p → Standing c n (give (lose p k s)).state
   gives_on p k a held at = go s.queue refl
     where
-      go : (q : List ℕ) → s.queue ≡ q → Standing n (give_to q (lose p k s)).state
+      go : (q : List ℕ) → s.queue ≡ q → Standing c n (give_to q (lose p k s)).state
       go [] e = loses p k a held at e
       go (j ∷ q) e =
           let b = inv.queued j (subst (IsIn j) (sym e) (inl refl)) in
           let z = passes p k a j b.0 q held at e b.1 b.2 in
-          subst (λ o. Standing n (give_held j o (put_back q (lose p k s))).state) (sym (there k j None s.held z.0 ∙ b.1)) z.1
+          subst (λ o. Standing c n (give_held j o (put_back q (lose p k s))).state) (sym (there k j None s.held z.0 ∙ b.1)) z.1

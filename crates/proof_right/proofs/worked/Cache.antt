@@ -13,7 +13,7 @@ use Rattle.client_request.specs.declared.event.What.TheVariants.{OpenFailed, Dat
 use Rattle.client_request.specs.declared.event.Out.TheVariants.{Close}
 use Rattle.client_request.specs.declared.event.Via.TheVariants.{Dgram, Stream}
 use Rattle.right_trace.specs.Trace.{History, Came, Put}
-use Rattle.right_trace.specs.Time.{read_timeout}
+use Rattle.right_trace.specs.Time.{read_timeout, recv_size, max_places, max_tries}
 use Rattle.right_trace.specs.Messages.{Octets, CarriesBy, id_in, answers, truncated, base_is_read, passes_count, fits, is_valid}
 use Rattle.right_trace.specs.Keys.{Do, Ad, Plain, Covers, question_of, key_of, is_cacheable}
 use Rattle.right_trace.specs.Parts.{Parts, Says, read_parts, known_parts, lowered_parts}
@@ -32,11 +32,11 @@ use Rattle.client_request.specs.declared.error.Error.TheVariants as errors
 use Rattle.client_request.specs.declared.error.QueryError.TheVariants as query
 
 -- the requests as they are sent
-pub carried : CarriesBy Dgram (as_datagram 18 52) plain_request 4660
+pub carried : CarriesBy by_datagrams Dgram (as_datagram 18 52) plain_request 4660
 unfolding name_at walk head_at data_at data_spelling question_at record_at list_at items_at questions_of answer_of authority_of additional_of answer_items authority_items additional_items first_question sole_question reads knows opt_of opt_rcode contents_of id_in
 carried = (record { contents = _; are = refl; reading = _; read = refl; header = refl; agree = record { questions = (refl, tt); answer = tt; authority = tt; additional = (record { owner = refl; rtype = refl; class = refl; ttl = refl; content = refl }, tt) } }, refl)
 
-pub carried_in_frame : CarriesBy Stream as_frame plain_request 0
+pub carried_in_frame : CarriesBy by_datagrams Stream as_frame plain_request 0
 unfolding name_at walk head_at data_at data_spelling question_at record_at list_at items_at questions_of answer_of authority_of additional_of answer_items authority_items additional_items first_question sole_question reads knows opt_of opt_rcode contents_of id_in
 carried_in_frame = record { rest = drop 2 as_frame; framed = refl; short = omega arith; named = refl; says = inr (record { contents = _; are = refl; reading = _; read = refl; header = refl; agree = record { questions = (refl, tt); answer = tt; authority = tt; additional = (record { owner = refl; rtype = refl; class = refl; ttl = refl; content = refl }, tt) } }) }
 
@@ -53,7 +53,7 @@ abbrev pub answered : History
 answered = Put (Close 0) ∷ Came (record { moment = record { 0 = 0 }; what = Datagram 0 (answer 18 52 100) }) ∷ so_far 2 asked_again
 
 pub came_it : CameFor by_datagrams 0 (answer 18 52 100) (so_far 2 asked_again) (Datagram 0 (answer 18 52 100)) answered
-unfolding read_timeout
+unfolding read_timeout recv_size max_places max_tries
 came_it = record {
   request = plain_request;
   via = Dgram;

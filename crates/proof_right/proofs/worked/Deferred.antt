@@ -20,7 +20,7 @@ use Rattle.client_request.specs.declared.event.Via.TheVariants.{Dgram}
 use Rattle.client_request.specs.declared.event.What.{What}
 use Rattle.client_request.specs.declared.event.What.TheVariants.{Ask, Opened, OpenFailed, Datagram}
 use Rattle.right_trace.specs.Trace.{ByDatagrams}
-use Rattle.right_trace.specs.Time.{read_timeout}
+use Rattle.right_trace.specs.Time.{read_timeout, recv_size, max_places, max_tries}
 use Rattle.right_trace.specs.Messages.{Octets, CarriesBy, base_is_read, answers, truncated}
 use Rattle.right_trace.specs.Requests.{is_ask}
 use Rattle.right_trace.specs.Right.{Right}
@@ -60,7 +60,7 @@ both Q a b (suc (suc i)) lt = absurd (omega arith)
 fails_nowhere : (p : ℕ) (f : Fault) (m : Multi) → m.opening ≡ None → IsForeign (OpenFailed p f) m
 fails_nowhere p f m none e = (let z = sym none ∙ e in cc)
 
-nobody_fails : (p : ℕ) (f : Fault) (d : Dgrams) → d.at p ≡ None → IsIgnored (OpenFailed p f) d
+nobody_fails : (p : ℕ) (f : Fault) (d : Dgrams) → d.at p ≡ None → IsIgnored two_servers (OpenFailed p f) d
 nobody_fails p f d none x = (let z = sym none ∙ x.2 in cc)
 
 -- the part of one of the servers, and what its moves make of the client
@@ -80,8 +80,8 @@ abbrev nowhere : {V : Type 0} → ℕ → Option V
 nowhere k = None
 
 -- a server that has nothing rests
-idle : (n : ℕ) (u : Served) → ((k : ℕ) → u.server.by_dgram.held k ≡ None) → ((k : ℕ) → u.server.by_stream.asks k ≡ None) → ((p : ℕ) → u.server.by_stream.conns p ≡ None) → u.clock ≡ n → u.frames ≡ [] → IsIgnored u.pending u.server.by_dgram → IsForeign u.pending u.server.by_stream → RestsNow u
-idle n u held asks conns clock frames ignored foreign = record { rests = rests_by u.clock u.server (nobody _ u.server.by_dgram.held held) (nobody _ u.server.by_stream.asks asks) (nobody _ u.server.by_stream.conns conns); frames = frames; ignored = ignored; foreign = foreign }
+idle : (n : ℕ) (u : Served) → ((k : ℕ) → u.server.by_dgram.held k ≡ None) → ((k : ℕ) → u.server.by_stream.asks k ≡ None) → ((p : ℕ) → u.server.by_stream.conns p ≡ None) → u.clock ≡ n → u.frames ≡ [] → IsIgnored two_servers u.pending u.server.by_dgram → IsForeign u.pending u.server.by_stream → RestsNow two_servers u
+idle n u held asks conns clock frames ignored foreign = record { rests = (rests_by two_servers) u.clock u.server (nobody _ u.server.by_dgram.held held) (nobody _ u.server.by_stream.asks asks) (nobody _ u.server.by_stream.conns conns); frames = frames; ignored = ignored; foreign = foreign }
 
 module _ (compose : Request → Result Octets Error) (o : Octets) (r : Request) (composed : compose r ≡ Ok o) where
   abbrev begins : ℕ → What → Upper Served → Upper Served
@@ -94,12 +94,12 @@ module _ (compose : Request → Result Octets Error) (o : Octets) (r : Request) 
   row x n w outs y rows moves more = Goes_on x (at n w outs) y rows (record { made = record { state = y; outs = outs }; moves = moves; outs = refl; leaves = refl }) more
 
   -- server s holds the one request that is tried
-  tries_one : (x : Upper Served) (a : Waiting) (s : ℕ) → s < 2 → is_ask x.pending ≡ false → x.board ≡ [] → x.leaving ≡ [] → RestsNow (x.ups 0) → RestsNow (x.ups 1) → x.held 0 ≡ Some a → ((j : ℕ) → 0 ≢ j → x.held j ≡ None) → holds (x.ups s) 0 ≡ true → ((j : ℕ) → 0 ≢ j → holds (x.ups 0) j ≡ false) → ((j : ℕ) → 0 ≢ j → holds (x.ups 1) j ≡ false) → x.now < a.moment + 5000000 → IsDone two_servers deferring compose P x
+  tries_one : (x : Upper Served) (a : Waiting) (s : ℕ) → s < 2 → is_ask x.pending ≡ false → x.board ≡ [] → x.leaving ≡ [] → RestsNow two_servers (x.ups 0) → RestsNow two_servers (x.ups 1) → x.held 0 ≡ Some a → ((j : ℕ) → 0 ≢ j → x.held j ≡ None) → holds (x.ups s) 0 ≡ true → ((j : ℕ) → 0 ≢ j → holds (x.ups 0) j ≡ false) → ((j : ℕ) → 0 ≢ j → holds (x.ups 1) j ≡ false) → x.now < a.moment + 5000000 → IsDone two_servers deferring compose P x
   tries_one x a s lt pend board leaving rest0 rest1 held others has none0 none1 early = record {
     taken = pend;
     board = board;
     leaving = leaving;
-    rests = both (λ i. RestsNow (x.ups i)) rest0 rest1;
+    rests = both (λ i. RestsNow two_servers (x.ups i)) rest0 rest1;
     tried_alone = λ i j low h. elim (cases_eq 0 j) [ inl is ↦ subst (λ j. is_some (x.held j) ≡ true) is (ap is_some held) | inr ne ↦ absurd (let z : true ≡ false = sym h ∙ both (λ i. holds (x.ups i) j ≡ false) (none0 j ne) (none1 j ne) i low in cc) ];
     goes_on = only (λ j b. (i : ℕ) × (i < 2) × (holds (x.ups i) j ≡ true)) 0 a x.held held others (s, lt, has);
     early = only (λ j b. x.now < b.moment + 5000000) 0 a x.held held others early;
@@ -140,18 +140,19 @@ module _ (compose : Request → Result Octets Error) (o : Octets) (r : Request) 
   others_held = away_held 0 _ _ (away_held 0 _ _ (λ j ne. refl))
 
   row1 : Goes_to x0 0 (Ask r) x1 (Start 0 1 Dgram ∷ OpenDgram 0 1 ∷ [])
+  unfolding max_places
   row1 =
       Goes (begins 0 (Ask r) x0) _ _ (Takes_on r o None refl composed (below 0 2 refl) (λ e q. absurd (cc)))
       (Goes y1 _ _ (Hands_on 1 0 (newcomer r 0) _ (below 1 2 refl) refl refl (served.IsHanded ByDatagrams (Puts (Start 0 1 Dgram)) (with_dgrams d1 (server_at 1 y1)) refl (server.ToDgrams refl refl)))
       (Goes z1 _ _ (Server_moves 1 _ (below 1 2 refl) (served.ByDgram (Puts (OpenDgram 0 1)) d2 _ (dgrams.Opens 0 queued refl refl (below 0 100 refl)) (AsItIs (only (λ k (a : Tryer). StageSettled a.stage) 0 trying d2.held refl others2 (trying_settled 0)))))
       (Rests x1 (tries_one x1 first 1 (below 1 2 refl) refl refl refl
       (idle 0 (x1.ups 0) (λ k. refl) (λ k. refl) (λ p. refl) refl refl tt (ask_foreign r (server_at 0 x1).by_stream))
-      (record { rests = rests_by 0 (server_at 1 x1) (only (λ k (a : Tryer). StageRests 0 1 a.stage) 0 trying d2.held refl others2 tt) (nobody _ nowhere (λ j. refl)) (nobody _ nowhere (λ j. refl)); frames = refl; ignored = tt; foreign = ask_foreign r (server_at 1 x1).by_stream })
+      (record { rests = (rests_by two_servers) 0 (server_at 1 x1) (only (λ k (a : Tryer). (StageRests two_servers) 0 1 a.stage) 0 trying d2.held refl others2 tt) (nobody _ nowhere (λ j. refl)) (nobody _ nowhere (λ j. refl)); frames = refl; ignored = tt; foreign = ask_foreign r (server_at 1 x1).by_stream })
       refl others_held refl (λ j ne. refl) (λ j ne. not_held (x1.ups 1) j (others2 j ne) refl) (below 0 5000000 refl)))))
 
   -- It is sent, and what answers it is deferred.
-  module _ (o1 m : Octets) (carries : CarriesBy Dgram o1 r 0) (long : 12 ≤ length (take 2000 m)) (answers_so : answers r 0 (take 2000 m) ≡ true) (uncut : truncated (take 2000 m) ≡ false) (waits : waits_for_others deferring (Ok (take 2000 m)) ≡ true)
-      (kept : outcome deferring 0 r (Ok (take 2000 m)) ≡ record { request = 0; asked = r; result = Ok (take 2000 m); is_stored = true; stale = None }) where
+  module _ (o1 m : Octets) (carries : CarriesBy two_servers Dgram o1 r 0) (long : 12 ≤ length (take 2000 m)) (answers_so : answers r 0 (take 2000 m) ≡ true) (uncut : truncated (take 2000 m) ≡ false) (waits : waits_for_others deferring (Ok (take 2000 m)) ≡ true)
+      (kept : outcome deferring 0 r (Ok (take 2000 m)) ≡ record { request = 0; asked = r; result = Ok (take 2000 m); given = Ok (take 2000 m); is_stored = true; stale = None }) where
     abbrev sent : Tryer
     sent = record { request = r; tries = 1; stage = dgrams.Sent 0 0 0 }
 
@@ -168,13 +169,13 @@ module _ (compose : Request → Result Octets Error) (o : Octets) (r : Request) 
     others3 = away 0 _ _ others2
 
     row2 : Goes_to x1 0 (Opened 0) x2 (Send 0 0 0 o1 ∷ [])
-    unfolding read_timeout
+    unfolding read_timeout recv_size max_places max_tries
     row2 =
-        Goes y2 _ _ (Server_moves 1 _ (below 1 2 refl) (served.TellsDgrams (Puts (Send 0 0 0 o1)) d3 _ refl (in_time_by 0 (server_at 1 y2) (only (λ k (a : Tryer). StageInTime 0 a.stage) 0 trying d2.held refl others2 tt) (nobody _ nowhere (λ j. refl)))
+        Goes y2 _ _ (Server_moves 1 _ (below 1 2 refl) (served.TellsDgrams (Puts (Send 0 0 0 o1)) d3 _ refl ((in_time_by two_servers) 0 (server_at 1 y2) (only (λ k (a : Tryer). (StageInTime two_servers) 0 a.stage) 0 trying d2.held refl others2 tt) (nobody _ nowhere (λ j. refl)))
         (dgrams.IsSent 0 trying 0 0 o1 refl refl refl carries) (opens_nothing 0 (server_at 1 y2).by_stream refl) (AsItIs (only (λ k (a : Tryer). StageSettled a.stage) 0 sent d3.held refl others3 (sent_settled 0 0 0)))))
         (Rests x2 (tries_one x2 first 1 (below 1 2 refl) refl refl refl
-        (idle 0 (x2.ups 0) (λ k. refl) (λ k. refl) (λ p. refl) refl refl (nobody_tries 0 (server_at 0 x2).by_dgram refl) (opens_nothing 0 (server_at 0 x2).by_stream refl))
-        (record { rests = rests_by 0 (server_at 1 x2) (only (λ k (a : Tryer). StageRests 0 1 a.stage) 0 sent d3.held refl others3 (below 0 5000000 refl)) (nobody _ nowhere (λ j. refl)) (nobody _ nowhere (λ j. refl)); frames = refl; ignored = tt; foreign = tick_foreign (server_at 1 x2).by_stream })
+        (idle 0 (x2.ups 0) (λ k. refl) (λ k. refl) (λ p. refl) refl refl ((nobody_tries two_servers) 0 (server_at 0 x2).by_dgram refl) (opens_nothing 0 (server_at 0 x2).by_stream refl))
+        (record { rests = (rests_by two_servers) 0 (server_at 1 x2) (only (λ k (a : Tryer). (StageRests two_servers) 0 1 a.stage) 0 sent d3.held refl others3 (below 0 5000000 refl)) (nobody _ nowhere (λ j. refl)) (nobody _ nowhere (λ j. refl)); frames = refl; ignored = tt; foreign = tick_foreign (server_at 1 x2).by_stream })
         refl others_held refl (λ j ne. refl) (λ j ne. not_held (x2.ups 1) j (others3 j ne) refl) (below 0 5000000 refl)))
 
     -- the answer is kept back, and the request handed to the first server
@@ -227,15 +228,15 @@ module _ (compose : Request → Result Octets Error) (o : Octets) (r : Request) 
     others_held3 = away_held 0 _ _ (away_held 0 _ _ others_held)
 
     row3 : Goes_to x2 10000 (Datagram 0 m) x3 (Close 0 ∷ Start 0 0 Dgram ∷ OpenDgram 1 0 ∷ [])
-    unfolding read_timeout
+    unfolding read_timeout recv_size max_places max_tries
     row3 =
-        Goes y3 _ _ (Server_moves 1 act (below 1 2 refl) (served.TellsDgrams (Puts (Close 0)) d4 act refl (in_time_by 10000 (server_at 1 y3) (only (λ k (a : Tryer). StageInTime 10000 a.stage) 0 sent d3.held refl others3 (below 10000 5000000 refl)) (nobody _ nowhere (λ j. refl)))
+        Goes y3 _ _ (Server_moves 1 act (below 1 2 refl) (served.TellsDgrams (Puts (Close 0)) d4 act refl ((in_time_by two_servers) 10000 (server_at 1 y3) (only (λ k (a : Tryer). (StageInTime two_servers) 10000 a.stage) 0 sent d3.held refl others3 (below 10000 5000000 refl)) (nobody _ nowhere (λ j. refl)))
         (dgrams.IsAnswered 0 sent 0 0 0 m refl refl refl long answers_so) (datagram_foreign 0 m (server_at 1 y3).by_stream) (WithResult 0 ended (Ok (take 2000 m)) refl is_ended)))
         (Goes z3 _ _ (Keeps_back [] [] answered first refl refl waits)
         (Goes v3 _ _ (Hands_on 0 0 second_try _ (below 0 2 refl) refl refl (served.IsHanded ByDatagrams (Puts (Start 0 0 Dgram)) (with_dgrams d1 (server_at 0 v3)) refl (server.ToDgrams refl refl)))
         (Goes w3 _ _ (Server_moves 0 _ (below 0 2 refl) (served.ByDgram (Puts (OpenDgram 1 0)) e2 _ (dgrams.Opens 0 queued refl refl (below 0 100 refl)) (AsItIs (only (λ k (a : Tryer). StageSettled a.stage) 0 opened e2.held refl away2 (trying_settled 1)))))
         (Rests x3 (tries_one x3 (handing 0 second_try) 0 (below 0 2 refl) refl refl refl
-        (record { rests = rests_by 10000 (server_at 0 x3) (only (λ k (a : Tryer). StageRests 10000 1 a.stage) 0 opened e2.held refl away2 tt) (nobody _ nowhere (λ j. refl)) (nobody _ nowhere (λ j. refl)); frames = refl; ignored = nobody_sent 0 m e2 refl; foreign = datagram_foreign 0 m (server_at 0 x3).by_stream })
+        (record { rests = (rests_by two_servers) 10000 (server_at 0 x3) (only (λ k (a : Tryer). (StageRests two_servers) 10000 1 a.stage) 0 opened e2.held refl away2 tt) (nobody _ nowhere (λ j. refl)) (nobody _ nowhere (λ j. refl)); frames = refl; ignored = (nobody_sent two_servers) 0 m e2 refl; foreign = datagram_foreign 0 m (server_at 0 x3).by_stream })
         (idle 10000 (x3.ups 1) none4 (λ k. refl) (λ p. refl) refl refl tt (tick_foreign (server_at 1 x3).by_stream))
         refl others_held3 refl (λ j ne. not_held (x3.ups 0) j (away2 j ne) refl) (λ j ne. not_held (x3.ups 1) j (none4 j) refl) (below 10000 5000000 refl))))))
 
@@ -268,7 +269,7 @@ module _ (compose : Request → Result Octets Error) (o : Octets) (r : Request) 
     v4 = record z4 { board = []; held = with_held 0 (Some tried_all) z4.held }
 
     abbrev leaving : Leaving
-    leaving = record { request = 0; asked = r; result = Ok (take 2000 m); is_stored = true; stale = None }
+    leaving = record { request = 0; asked = r; result = Ok (take 2000 m); given = Ok (take 2000 m); is_stored = true; stale = None }
 
     abbrev w4 : Upper Served
     w4 = leave leaving v4
@@ -287,7 +288,7 @@ module _ (compose : Request → Result Octets Error) (o : Octets) (r : Request) 
 
     gives_at_last : Goes_to x3 20000 (OpenFailed 1 Refused) x4 (Reply 0 (Ok (take 2000 m)) ∷ [])
     gives_at_last =
-        Goes y4 _ _ (Server_moves 0 act4 (below 0 2 refl) (served.TellsDgrams Nothing e3 act4 refl (in_time_by 20000 (server_at 0 y4) (only (λ k (a : Tryer). StageInTime 20000 a.stage) 0 opened e2.held refl away2 tt) (nobody _ nowhere (λ j. refl)))
+        Goes y4 _ _ (Server_moves 0 act4 (below 0 2 refl) (served.TellsDgrams Nothing e3 act4 refl ((in_time_by two_servers) 20000 (server_at 0 y4) (only (λ k (a : Tryer). (StageInTime two_servers) 20000 a.stage) 0 opened e2.held refl away2 tt) (nobody _ nowhere (λ j. refl)))
         (dgrams.DoesNotOpen 0 opened 1 Refused refl refl refl) (fails_nowhere 1 Refused (server_at 0 y4).by_stream refl) (WithResult 0 failed refused refl refl)))
         (Goes z4 _ _ (Keeps_back [] [] fault (handing 0 second_try) refl refl refl)
         (Goes v4 _ _ concludes
@@ -296,7 +297,7 @@ module _ (compose : Request → Result Octets Error) (o : Octets) (r : Request) 
           taken = refl;
           board = refl;
           leaving = refl;
-          rests = both (λ i. RestsNow (x4.ups i))
+          rests = both (λ i. RestsNow two_servers (x4.ups i))
               (idle 20000 (x4.ups 0) none_left (λ k. refl) (λ p. refl) refl refl tt (tick_foreign (server_at 0 x4).by_stream))
               (idle 20000 (x4.ups 1) none4 (λ k. refl) (λ p. refl) refl refl (nobody_fails 1 Refused (server_at 1 x4).by_dgram refl) (fails_nowhere 1 Refused (server_at 1 x4).by_stream refl));
           tried_alone = λ i j low h. absurd (let z : true ≡ false = sym h ∙ both (λ i. holds (x4.ups i) j ≡ false) (not_held (x4.ups 0) j (none_left j) refl) (not_held (x4.ups 1) j (none4 j) refl) i low in cc);
@@ -312,9 +313,9 @@ module _ (compose : Request → Result Octets Error) (o : Octets) (r : Request) 
         ∷ [])
     deferred_run = row x0 0 _ _ x1 _ row1 (row x1 0 _ _ x2 _ row2 (row x2 10000 _ _ x3 _ row3 (row x3 20000 _ _ x4 _ gives_at_last (Ends x4))))
 
-kept_failing : outcome deferring 0 plain_request (Ok failing) ≡ record { request = 0; asked = plain_request; result = Ok failing; is_stored = true; stale = None }
+kept_failing : outcome deferring 0 plain_request (Ok failing) ≡ record { request = 0; asked = plain_request; result = Ok failing; given = Ok failing; is_stored = true; stale = None }
 unfolding name_at walk head_at data_at data_spelling question_at record_at list_at items_at questions_of answer_of authority_of additional_of answer_items authority_items additional_items first_question sole_question reads knows opt_of opt_rcode base_is_read truncated question_of key_of is_cacheable read_parts known_parts second validity_of_message
 kept_failing = refl
 
 pub failing_server_is_right : Right two_servers deferring failing_server × Timely two_servers failing_server
-failing_server_is_right = every_run two_servers deferring composed failing_server composed_composes (of_octets, (tt, (tt, (tt, tt)))) (deferred_run composed (is_composed.0) plain_request is_composed.1 (as_datagram 0 0) failing carried (at_most 12 12 refl) answers_it whole defers_it kept_failing)
+failing_server_is_right = every_run two_servers deferring composed failing_server (composed_composes two_servers) (of_octets, (tt, (tt, (tt, tt)))) (deferred_run composed (is_composed.0) plain_request is_composed.1 (as_datagram 0 0) failing carried (at_most 12 12 refl) answers_it whole defers_it kept_failing)

@@ -1,4 +1,5 @@
 -- A worked request by datagram, computed.
+use Rattle.proof_right.specs.examples.Rows.{by_datagrams}
 use Rattle.std.proofs.Common.{◌≡◌, ℕ, true, inl, refl, ap, sym, subst, arith}
 use Rattle.std.proofs.lemmas.Bool.Decides.{nat_tests}
 use Rattle.dns_names.specs.Name.{name_at, walk, head_at}
@@ -12,7 +13,7 @@ use Rattle.client_request.specs.declared.event.What.{What}
 use Rattle.client_request.specs.declared.event.What.TheVariants.{RecvFailed}
 use Rattle.client_request.specs.declared.event.Via.TheVariants.{Dgram}
 use Rattle.client_request.specs.declared.fault.Fault.{Fault}
-use Rattle.right_trace.specs.Time.{read_timeout}
+use Rattle.right_trace.specs.Time.{read_timeout, recv_size, max_places, max_tries}
 use Rattle.right_trace.specs.Messages.{id_in, answers, base_is_read, passes_count, fits, is_valid}
 use Rattle.right_trace.specs.Requests.{started}
 use Rattle.right_trace.specs.Places.{is_at}
@@ -27,21 +28,21 @@ abbrev place_of : What → ℕ
 place_of (RecvFailed p f) = p
 place_of _ = 0
 
-not_there : (f : Fault) → FailedAt (λ p. RecvFailed p f) 0 example_history (RecvFailed 1 f) → ⊥
+not_there : (f : Fault) → FailedAt by_datagrams (λ p. RecvFailed p f) 0 example_history (RecvFailed 1 f) → ⊥
 not_there f x = subst (λ p. IsOneOf x.send (named p 0 example_history)) (sym (ap place_of x.is_told)) x.named_there
 
-another_server : (f : Fault) → FailedAt (λ p. RecvFailed p f) 0 elsewhere_example (RecvFailed 0 f) → ⊥
+another_server : (f : Fault) → FailedAt by_datagrams (λ p. RecvFailed p f) 0 elsewhere_example (RecvFailed 0 f) → ⊥
 another_server f x =
     let at : is_at Dgram x.server 0 elsewhere_example ≡ true = subst (λ p. is_at Dgram x.server p elsewhere_example ≡ true) (sym (ap place_of x.is_told)) x.at in
     let is : x.server ≡ 1 = grind (arith, nat_tests) in
     let begun : started 0 1 Dgram elsewhere_example ≡ true = subst (λ s. started 0 s Dgram elsewhere_example ≡ true) is x.has_it in
     absurd (cc)
 
-not_yet : (f : Fault) → FailedAt (λ p. RecvFailed p f) 0 opened_example (RecvFailed 0 f) → ⊥
+not_yet : (f : Fault) → FailedAt by_datagrams (λ p. RecvFailed p f) 0 opened_example (RecvFailed 0 f) → ⊥
 not_yet f x = subst (λ p. IsOneOf x.send (named p 0 opened_example)) (sym (ap place_of x.is_told)) x.named_there
 
 pub worked : WorkedDatagrams
-unfolding name_at walk head_at data_at data_spelling question_at record_at list_at items_at questions_of answer_of authority_of additional_of answer_items authority_items additional_items first_question sole_question reads knows opt_of opt_rcode is_answer contents_of read_timeout id_in answers base_is_read passes_count fits is_valid
+unfolding name_at walk head_at data_at data_spelling question_at record_at list_at items_at questions_of answer_of authority_of additional_of answer_items authority_items additional_items first_question sole_question reads knows opt_of opt_rcode is_answer contents_of read_timeout recv_size max_places max_tries id_in answers base_is_read passes_count fits is_valid
 worked = record {
   alive = refl;
   at = refl;

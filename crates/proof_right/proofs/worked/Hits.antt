@@ -6,7 +6,7 @@ use Rattle.right_trace.specs.Settings.{first_settings}
 use Rattle.right_trace.specs.Hit.{Views, AllHit, asks_since, replies_since}
 use Rattle.proof_right.specs.examples.Messages.{plain_request, answer}
 use Rattle.proof_right.specs.examples.Rows.{by_datagrams}
-use Rattle.proof_right.specs.examples.Hits.{before_it, its_row, missed, WorkedHit}
+use Rattle.proof_right.specs.examples.Hits.{before_it, missed, WorkedHit}
 use Rattle.proof_right.proofs.worked.Cache.{fresh, cacheable, computed, viewable_30}
 use Rattle.proof_right.proofs.worked.Rightness.{is_composed}
 

@@ -35,7 +35,7 @@ is_composed : (o : Octets) × (composed afsdb_request ≡ Ok o)
 unfolding name_at walk head_at data_at data_spelling question_at record_at list_at items_at questions_of answer_of authority_of additional_of answer_items authority_items additional_items first_question size limit_of counts_in fresh with_header pushed_question pushed_record cleared finished refusal counts_spelling appended composed
 is_composed = (_, refl)
 
-carried : CarriesBy Dgram afsdb_datagram afsdb_request 4660
+carried : CarriesBy by_datagrams Dgram afsdb_datagram afsdb_request 4660
 unfolding name_at walk head_at data_at data_spelling question_at record_at list_at items_at questions_of answer_of authority_of additional_of answer_items authority_items additional_items first_question sole_question reads knows opt_of opt_rcode contents_of id_in
 carried = (record { contents = _; are = refl; reading = _; read = refl; header = refl; agree = record { questions = (refl, tt); answer = tt; authority = tt; additional = (record { owner = refl; rtype = refl; class = refl; ttl = refl; content = refl }, tt) } }, refl)
 
@@ -45,7 +45,7 @@ record Computed : Type 0 where
   pub answers_it : answers afsdb_request 4660 pointing ≡ true
   pub whole : truncated pointing ≡ false
   pub valid : validity_of_message first_settings pointing ≡ Some 100000000
-  pub kept : outcome first_settings 0 afsdb_request (Ok pointing) ≡ record { request = 0; asked = afsdb_request; result = Ok pointing; is_stored = true; stale = None }
+  pub kept : outcome first_settings 0 afsdb_request (Ok pointing) ≡ record { request = 0; asked = afsdb_request; result = Ok pointing; given = Ok pointing; is_stored = true; stale = None }
 
 computed : Computed
 unfolding name_at walk head_at data_at data_spelling question_at record_at list_at items_at questions_of answer_of authority_of additional_of answer_items authority_items additional_items first_question sole_question reads knows opt_of opt_rcode contents_of answers is_answer base_is_read truncated question_of key_of is_cacheable read_parts known_parts second validity_of_message
@@ -71,6 +71,6 @@ of_octets = record { base = are_octets afsdb_request.base refl; long = leb-true 
 
 pub named_again_is_right : Right by_datagrams first_settings named_again × Timely by_datagrams named_again
 named_again_is_right =
-    every_run by_datagrams first_settings composed named_again composed_composes (of_octets, (tt, (tt, (of_octets, (of_octets, (of_octets, tt))))))
+    every_run by_datagrams first_settings composed named_again (composed_composes by_datagrams) (of_octets, (tt, (tt, (of_octets, (of_octets, (of_octets, tt))))))
     (view_run composed is_composed.0 afsdb_request is_composed.1 afsdb_datagram pointing (written_out 70) (written_out 0) viewable.parts carried (at_most 12 61 refl) computed.answers_it computed.whole computed.kept (is_final pointing)
     (record { cacheable = computed.cacheable; keys = keys_refl (key_of afsdb_request) }) (valid_at 30000000 (leb-true 30000000 100000000 refl)) viewable.after_30 (valid_at 100000000 (leb-true 100000000 100000000 refl)) viewable.after_100)

@@ -1,4 +1,5 @@
 -- When one server rests, and a client of one server is done with a row.
+use Rattle.right_trace.specs.Trace.{Conf}
 use Rattle.std.proofs.Common.{◌≡◌, ◌≢◌, ℕ, zero, suc, ◌+◌, ◌<◌, ◌≤◌, true, false, inl, inr, Option, Some, None, List, [], ◌∷◌, is_some, refl, arith, sym, ap, subst, ◌∙◌}
 use Rattle.std.specs.Prelude.{Result, ◌==◌, nat_lt, nat_le}
 use Rattle.std.proofs.lemmas.Bool.Decides.{nat_tests}
@@ -6,7 +7,7 @@ use Rattle.client_request.specs.declared.event.What.TheVariants.{Ask, Opened, Da
 use Rattle.std.proofs.lemmas.Bool.{cases_eq}
 use Rattle.client_request.specs.Request.{Request}
 use Rattle.client_request.specs.declared.error.Error.{Error}
-use Rattle.right_trace.specs.Time.{read_timeout, response_timeout, stream_timeout}
+use Rattle.right_trace.specs.Time.{read_timeout, response_timeout, stream_timeout, max_places}
 use Rattle.right_trace.specs.Messages.{Octets}
 use Rattle.right_trace.specs.Requests.{is_ask}
 use Rattle.proof_right.specs.machine.Streams as multi
@@ -84,12 +85,12 @@ sent_settled p id t = λ x e. cc
 pub cut_settled : (st : Stage) → st ≡ dgrams.Cut → StageSettled st
 cut_settled st e = λ x i. cc
 
-abbrev pub StageInTime : (n : ℕ) → Stage → Type 0
-StageInTime n (dgrams.Sent p id t) = n < t + read_timeout
-StageInTime n _ = Unit {0}
+abbrev pub StageInTime : (c : Conf) → (n : ℕ) → Stage → Type 0
+StageInTime c n (dgrams.Sent p id t) = n < t + read_timeout c
+StageInTime c n _ = Unit {0}
 
-pub in_time_by : (n : ℕ) (v : Server) → ((k : ℕ) (a : Tryer) → v.by_dgram.held k ≡ Some a → StageInTime n a.stage) → ((k : ℕ) (a : Asker) → v.by_stream.asks k ≡ Some a → n < a.since + stream_timeout) → IsInTime n v
-in_time_by n v dg st = record { sent = λ k a p id t e s. subst (λ s. StageInTime n s) s (dg k a e); asked = st }
+pub in_time_by : (c : Conf) → (n : ℕ) (v : Server) → ((k : ℕ) (a : Tryer) → v.by_dgram.held k ≡ Some a → StageInTime c n a.stage) → ((k : ℕ) (a : Asker) → v.by_stream.asks k ≡ Some a → n < a.since + stream_timeout c) → IsInTime c n v
+in_time_by c n v dg st = record { sent = λ k a p id t e s. subst (λ s. StageInTime c n s) s (dg k a e); asked = st }
 
 -- Events that are nobody's
 
@@ -105,20 +106,20 @@ datagram_foreign p o m q e = absurd (cc)
 pub opens_nothing : (p : ℕ) (m : Multi) → m.opening ≡ None → IsForeign (Opened p) m
 opens_nothing p m none e = (let z = sym none ∙ e in cc)
 
-pub nobody_tries : (p : ℕ) (d : Dgrams) → d.at p ≡ None → IsIgnored (Opened p) d
-nobody_tries p d none x = (let z = sym none ∙ x.2 in cc)
+pub nobody_tries : (c : Conf) → (p : ℕ) (d : Dgrams) → d.at p ≡ None → IsIgnored c (Opened p) d
+nobody_tries c p d none x = (let z = sym none ∙ x.2 in cc)
 
-pub nobody_sent : (p : ℕ) (o : Octets) (d : Dgrams) → d.at p ≡ None → IsIgnored (Datagram p o) d
-nobody_sent p o d none k a id t at = absurd (let z = sym none ∙ at in cc)
+pub nobody_sent : (c : Conf) → (p : ℕ) (o : Octets) (d : Dgrams) → d.at p ≡ None → IsIgnored c (Datagram p o) d
+nobody_sent c p o d none k a id t at = absurd (let z = sym none ∙ at in cc)
 
 -- What each request and each connection owes when the server rests
 
-abbrev pub StageRests : (n used : ℕ) → Stage → Type 0
-StageRests n used dgrams.Queued = used ≡ 100
-StageRests n used (dgrams.Trying p) = Unit {0}
-StageRests n used (dgrams.Sent p id t) = n < t + read_timeout
-StageRests n used (dgrams.Ending x) = ⊥
-StageRests n used dgrams.Cut = ⊥
+abbrev pub StageRests : (c : Conf) → (n used : ℕ) → Stage → Type 0
+StageRests c n used dgrams.Queued = used ≡ max_places c
+StageRests c n used (dgrams.Trying p) = Unit {0}
+StageRests c n used (dgrams.Sent p id t) = n < t + read_timeout c
+StageRests c n used (dgrams.Ending x) = ⊥
+StageRests c n used dgrams.Cut = ⊥
 
 abbrev pub PhaseRests : (n : ℕ) → (ℕ → Option Conn) → Phase → Type 0
 PhaseRests n conns multi.Free = ⊥
@@ -128,24 +129,24 @@ PhaseRests n conns (multi.Holding p id) = Unit {0}
 PhaseRests n conns multi.Broken = ⊥
 PhaseRests n conns (multi.BackingOff until) = n < until
 
-abbrev pub ModeRests : (n idle : ℕ) → Mode → Type 0
-ModeRests n idle multi.New = Unit {0}
-ModeRests n idle (multi.Active since) = n ≤ since + response_timeout
-ModeRests n idle (multi.Idle since) = n < since + idle
+abbrev pub ModeRests : (c : Conf) → (n idle : ℕ) → Mode → Type 0
+ModeRests c n idle multi.New = Unit {0}
+ModeRests c n idle (multi.Active since) = n ≤ since + response_timeout c
+ModeRests c n idle (multi.Idle since) = n < since + idle
 
-pub rests_by : (n : ℕ) (v : Server) → ((k : ℕ) (a : Tryer) → v.by_dgram.held k ≡ Some a → StageRests n v.by_dgram.used a.stage) → ((k : ℕ) (a : Asker) → v.by_stream.asks k ≡ Some a → PhaseRests n v.by_stream.conns a.phase × (n < a.since + stream_timeout)) → ((p : ℕ) (x : Conn) → v.by_stream.conns p ≡ Some x → ModeRests n x.idle x.mode) → Rests n v
-rests_by n v dg st co = record {
-  waiting = λ k a e s. subst (λ s. StageRests n v.by_dgram.used s) s (dg k a e);
-  reading = λ k a p id t e s. subst (λ s. StageRests n v.by_dgram.used s) s (dg k a e);
-  ending = λ k a x e s. subst (λ s. StageRests n v.by_dgram.used s) s (dg k a e);
-  cut = λ k a e s. subst (λ s. StageRests n v.by_dgram.used s) s (dg k a e);
+pub rests_by : (c : Conf) → (n : ℕ) (v : Server) → ((k : ℕ) (a : Tryer) → v.by_dgram.held k ≡ Some a → StageRests c n v.by_dgram.used a.stage) → ((k : ℕ) (a : Asker) → v.by_stream.asks k ≡ Some a → PhaseRests n v.by_stream.conns a.phase × (n < a.since + stream_timeout c)) → ((p : ℕ) (x : Conn) → v.by_stream.conns p ≡ Some x → ModeRests c n x.idle x.mode) → Rests c n v
+rests_by c n v dg st co = record {
+  waiting = λ k a e s. subst (λ s. StageRests c n v.by_dgram.used s) s (dg k a e);
+  reading = λ k a p id t e s. subst (λ s. StageRests c n v.by_dgram.used s) s (dg k a e);
+  ending = λ k a x e s. subst (λ s. StageRests c n v.by_dgram.used s) s (dg k a e);
+  cut = λ k a e s. subst (λ s. StageRests c n v.by_dgram.used s) s (dg k a e);
   free = λ k a e s. subst (λ s. PhaseRests n v.by_stream.conns s) s (st k a e).0;
   broken = λ k a e s. subst (λ s. PhaseRests n v.by_stream.conns s) s (st k a e).0;
   lined = λ k a p x e s c. subst (λ s. PhaseRests n v.by_stream.conns s) s (st k a e).0 x c;
   backing = λ k a until e s. subst (λ s. PhaseRests n v.by_stream.conns s) s (st k a e).0;
   silent = λ k a e. (st k a e).1;
-  quiet = λ p x since e m. subst (λ m. ModeRests n x.idle m) m (co p x e);
-  idle = λ p x since e m. subst (λ m. ModeRests n x.idle m) m (co p x e);
+  quiet = λ p x since e m. subst (λ m. ModeRests c n x.idle m) m (co p x e);
+  idle = λ p x since e m. subst (λ m. ModeRests c n x.idle m) m (co p x e);
 }
 
 module _ (compose : Request → Result Octets Error) where
@@ -154,24 +155,24 @@ module _ (compose : Request → Result Octets Error) where
   first_alone P p (suc i) lt = absurd (omega arith)
 
   -- one request is tried
-  pub done_with : (x : Upper Served) (k : ℕ) (a : Waiting) → is_ask x.pending ≡ false → x.board ≡ [] → x.leaving ≡ [] → RestsNow (x.ups 0) → x.held k ≡ Some a → ((j : ℕ) → k ≢ j → x.held j ≡ None) → holds (x.ups 0) k ≡ true → ((j : ℕ) → k ≢ j → holds (x.ups 0) j ≡ false) → x.now < a.moment + 5000000 → IsDone by_datagrams first_settings compose (served by_datagrams) x
+  pub done_with : (x : Upper Served) (k : ℕ) (a : Waiting) → is_ask x.pending ≡ false → x.board ≡ [] → x.leaving ≡ [] → RestsNow by_datagrams (x.ups 0) → x.held k ≡ Some a → ((j : ℕ) → k ≢ j → x.held j ≡ None) → holds (x.ups 0) k ≡ true → ((j : ℕ) → k ≢ j → holds (x.ups 0) j ≡ false) → x.now < a.moment + 5000000 → IsDone by_datagrams first_settings compose (served by_datagrams) x
   done_with x k a pend board leaving rests held others has hasnt early = record {
     taken = pend;
     board = board;
     leaving = leaving;
-    rests = first_alone (λ i. RestsNow (x.ups i)) rests;
+    rests = first_alone (λ i. RestsNow by_datagrams (x.ups i)) rests;
     tried_alone = λ i j lt h. first_alone (λ i. holds (x.ups i) j ≡ true → is_some (x.held j) ≡ true) (λ h. elim (cases_eq k j) [ inl is ↦ subst (λ j. is_some (x.held j) ≡ true) is (ap is_some held) | inr ne ↦ absurd (let z : true ≡ false = sym h ∙ hasnt j ne in cc) ]) i lt h;
     goes_on = only (λ j b. (i : ℕ) × (i < 1) × (holds (x.ups i) j ≡ true)) k a x.held held others (0, omega arith, has);
     early = only (λ j b. x.now < b.moment + 5000000) k a x.held held others early;
   }
 
   -- none is
-  pub done_with_none : (x : Upper Served) → is_ask x.pending ≡ false → x.board ≡ [] → x.leaving ≡ [] → RestsNow (x.ups 0) → ((j : ℕ) → x.held j ≡ None) → ((j : ℕ) → holds (x.ups 0) j ≡ false) → IsDone by_datagrams first_settings compose (served by_datagrams) x
+  pub done_with_none : (x : Upper Served) → is_ask x.pending ≡ false → x.board ≡ [] → x.leaving ≡ [] → RestsNow by_datagrams (x.ups 0) → ((j : ℕ) → x.held j ≡ None) → ((j : ℕ) → holds (x.ups 0) j ≡ false) → IsDone by_datagrams first_settings compose (served by_datagrams) x
   done_with_none x pend board leaving rests none hasnt = record {
     taken = pend;
     board = board;
     leaving = leaving;
-    rests = first_alone (λ i. RestsNow (x.ups i)) rests;
+    rests = first_alone (λ i. RestsNow by_datagrams (x.ups i)) rests;
     tried_alone = λ i j lt h. first_alone (λ i. holds (x.ups i) j ≡ true → is_some (x.held j) ≡ true) (λ h. absurd (let z : true ≡ false = sym h ∙ hasnt j in cc)) i lt h;
     goes_on = λ j b e. absurd (let z = sym (none j) ∙ e in cc);
     early = λ j b e. absurd (let z = sym (none j) ∙ e in cc);

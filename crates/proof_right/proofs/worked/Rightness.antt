@@ -47,7 +47,7 @@ pub of_octets : IsOfOctets plain_request
 of_octets = record { base = are_octets plain_request.base refl; long = leb-true 12 29 refl; header = refl; opt = tt }
 
 pub cut_goes_on_is_right : Right by_datagrams first_settings cut_goes_on × Timely by_datagrams cut_goes_on
-cut_goes_on_is_right = every_run by_datagrams first_settings composed cut_goes_on composed_composes (of_octets, (tt, (tt, (tt, (tt, (tt, (tt, tt))))))) (cut_goes_on_is_a_run composed (is_composed.0) is_composed.1)
+cut_goes_on_is_right = every_run by_datagrams first_settings composed cut_goes_on (composed_composes by_datagrams) (of_octets, (tt, (tt, (tt, (tt, (tt, (tt, tt))))))) (cut_goes_on_is_a_run composed (is_composed.0) is_composed.1)
 
 pub asked_again_is_right : Right by_datagrams first_settings asked_again × Timely by_datagrams asked_again
-asked_again_is_right = every_run by_datagrams first_settings composed asked_again composed_composes (of_octets, (tt, (tt, (of_octets, (of_octets, (of_octets, tt)))))) (asked_again_is_a_run composed (is_composed.0) is_composed.1)
+asked_again_is_right = every_run by_datagrams first_settings composed asked_again (composed_composes by_datagrams) (of_octets, (tt, (tt, (of_octets, (of_octets, (of_octets, tt)))))) (asked_again_is_a_run composed (is_composed.0) is_composed.1)

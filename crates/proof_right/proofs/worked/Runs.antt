@@ -3,7 +3,7 @@ use Rattle.std.proofs.Common.{◌≡◌, ◌≢◌, ℕ, ◌+◌, ◌<◌, ◌�
 use Rattle.std.specs.Prelude.{Result, Ok, Err, if◌then◌else◌}
 use Rattle.client_request.specs.Request.{Request}
 use Rattle.client_request.specs.declared.error.Error.{Error}
-use Rattle.right_trace.specs.Time.{read_timeout, response_timeout, stream_timeout, idle_timeout}
+use Rattle.right_trace.specs.Time.{read_timeout, response_timeout, stream_timeout, idle_timeout, recv_size, max_places, max_tries}
 use Rattle.right_trace.specs.Messages.{Octets, CarriesBy, CarriesInFrame, base_is_read, answers, truncated, id_in, keepalive_of}
 use Rattle.right_trace.specs.Frames.{Length, fed, is_bad}
 use Rattle.right_trace.specs.Timers.{told_idle}
@@ -119,17 +119,18 @@ module _ (compose : Request → Result Octets Error) (o : Octets) (r : Request) 
   others_held = away_held 0 _ _ (away_held 0 _ _ (λ j ne. refl))
 
   row1 : Goes_to x0 0 (Ask r) x1 (Start 0 0 Dgram ∷ OpenDgram 0 0 ∷ [])
+  unfolding max_places
   row1 =
       Goes (begins 0 (Ask r) x0) _ _ (Takes_on r o None refl composed (below 0 1 refl) (λ e q. absurd (cc)))
       (Goes y1 _ _ (Hands_on 0 0 (newcomer r 0) _ (below 0 1 refl) refl refl (served.IsHanded ByDatagrams (Puts (Start 0 0 Dgram)) (with_dgrams d1 (server_in y1)) refl (server.ToDgrams refl refl)))
       (Goes y2 _ _ (Server_moves 0 _ (below 0 1 refl) (served.ByDgram (Puts (OpenDgram 0 0)) d2 _ (dgrams.Opens 0 queued refl refl (below 0 100 refl)) (AsItIs (only (λ k (a : Tryer). StageSettled a.stage) 0 trying d2.held refl others2 (trying_settled 0)))))
       (Rests x1 (done_with compose x1 0 waiting refl refl refl
-      (record { rests = rests_by 0 (server_in x1) (only (λ k (a : Tryer). StageRests 0 1 a.stage) 0 trying d2.held refl others2 tt) (nobody _ nowhere (λ j. refl)) (nobody _ nowhere (λ j. refl)); frames = refl; ignored = tt; foreign = ask_foreign r (server_in x1).by_stream })
+      (record { rests = (rests_by by_datagrams) 0 (server_in x1) (only (λ k (a : Tryer). (StageRests by_datagrams) 0 1 a.stage) 0 trying d2.held refl others2 tt) (nobody _ nowhere (λ j. refl)) (nobody _ nowhere (λ j. refl)); frames = refl; ignored = tt; foreign = ask_foreign r (server_in x1).by_stream })
       refl others_held refl (λ j ne. not_held (x1.ups 0) j (others2 j ne) refl) (below 0 5000000 refl)))))
 
   -- A cut answer goes on by stream.
-  module _ (o1 m1 m0 w b m2 : Octets) (carries : CarriesBy Dgram o1 r 4660) (long : 12 ≤ length (take 2000 m1)) (answers1 : answers r 4660 (take 2000 m1) ≡ true) (cut : truncated (take 2000 m1) ≡ true) (in_frame : CarriesInFrame w r 0) (some : 0 < length w) (few : length w ≤ 46) (frames : (fed Length b).frames ≡ m2 ∷ []) (good : is_bad m2 ≡ false) (id0 : id_in m2 ≡ 0) (answers2 : answers r 0 m2 ≡ true)
-      (stays : 20004 < 20004 + told_idle (keepalive_of m2) idle_timeout) (kept : outcome first_settings 0 r (Ok m2) ≡ record { request = 0; asked = r; result = Ok m2; is_stored = true; stale = None }) (final : waits_for_others first_settings (Ok m2) ≡ false) where
+  module _ (o1 m1 m0 w b m2 : Octets) (carries : CarriesBy by_datagrams Dgram o1 r 4660) (long : 12 ≤ length (take 2000 m1)) (answers1 : answers r 4660 (take 2000 m1) ≡ true) (cut : truncated (take 2000 m1) ≡ true) (in_frame : CarriesInFrame w r 0) (some : 0 < length w) (few : length w ≤ 46) (frames : (fed Length b).frames ≡ m2 ∷ []) (good : is_bad m2 ≡ false) (id0 : id_in m2 ≡ 0) (answers2 : answers r 0 m2 ≡ true)
+      (stays : 20004 < 20004 + told_idle (keepalive_of m2) (idle_timeout by_datagrams)) (kept : outcome first_settings 0 r (Ok m2) ≡ record { request = 0; asked = r; result = Ok m2; given = Ok m2; is_stored = true; stale = None }) (final : waits_for_others first_settings (Ok m2) ≡ false) where
     -- it is sent
     abbrev sent : Tryer
     sent = record { request = r; tries = 1; stage = dgrams.Sent 0 4660 10 }
@@ -147,12 +148,12 @@ module _ (compose : Request → Result Octets Error) (o : Octets) (r : Request) 
     others3 = away 0 _ _ others2
 
     row2 : Goes_to x1 10 (Opened 0) x2 (Send 0 0 4660 o1 ∷ [])
-    unfolding read_timeout
+    unfolding read_timeout recv_size max_places max_tries
     row2 =
-        Goes z2 _ _ (Server_moves 0 _ (below 0 1 refl) (served.TellsDgrams (Puts (Send 0 0 4660 o1)) d3 _ refl (in_time_by 10 (server_in z2) (only (λ k (a : Tryer). StageInTime 10 a.stage) 0 trying d2.held refl others2 tt) (nobody _ nowhere (λ j. refl)))
+        Goes z2 _ _ (Server_moves 0 _ (below 0 1 refl) (served.TellsDgrams (Puts (Send 0 0 4660 o1)) d3 _ refl ((in_time_by by_datagrams) 10 (server_in z2) (only (λ k (a : Tryer). (StageInTime by_datagrams) 10 a.stage) 0 trying d2.held refl others2 tt) (nobody _ nowhere (λ j. refl)))
         (dgrams.IsSent 0 trying 0 4660 o1 refl refl refl carries) (opens_nothing 0 (server_in z2).by_stream refl) (AsItIs (only (λ k (a : Tryer). StageSettled a.stage) 0 sent d3.held refl others3 (sent_settled 0 4660 10)))))
         (Rests x2 (done_with compose x2 0 waiting refl refl refl
-        (record { rests = rests_by 10 (server_in x2) (only (λ k (a : Tryer). StageRests 10 1 a.stage) 0 sent d3.held refl others3 (below 10 5000010 refl)) (nobody _ nowhere (λ j. refl)) (nobody _ nowhere (λ j. refl)); frames = refl; ignored = tt; foreign = tick_foreign (server_in x2).by_stream })
+        (record { rests = (rests_by by_datagrams) 10 (server_in x2) (only (λ k (a : Tryer). (StageRests by_datagrams) 10 1 a.stage) 0 sent d3.held refl others3 (below 10 5000010 refl)) (nobody _ nowhere (λ j. refl)) (nobody _ nowhere (λ j. refl)); frames = refl; ignored = tt; foreign = tick_foreign (server_in x2).by_stream })
         refl others_held refl (λ j ne. not_held (x2.ups 0) j (others3 j ne) refl) (below 10 5000000 refl)))
 
     -- the cut answer comes
@@ -199,14 +200,14 @@ module _ (compose : Request → Result Octets Error) (o : Octets) (r : Request) 
     is_cut = ap (λ b. if b then dgrams.Cut else dgrams.Ending (Ok (take 2000 m1))) cut
 
     row3 : Goes_to x2 20000 (Datagram 0 m1) x3 (Close 0 ∷ Start 0 0 Stream ∷ OpenStream 1 0 ∷ [])
-    unfolding read_timeout stream_timeout
+    unfolding read_timeout recv_size max_places max_tries stream_timeout
     row3 =
-        Goes z3 _ _ (Server_moves 0 _ (below 0 1 refl) (served.TellsDgrams (Puts (Close 0)) d4 _ refl (in_time_by 20000 (server_in z3) (only (λ k (a : Tryer). StageInTime 20000 a.stage) 0 sent d3.held refl others3 (below 20000 5000010 refl)) (nobody _ nowhere (λ j. refl)))
+        Goes z3 _ _ (Server_moves 0 _ (below 0 1 refl) (served.TellsDgrams (Puts (Close 0)) d4 _ refl ((in_time_by by_datagrams) 20000 (server_in z3) (only (λ k (a : Tryer). (StageInTime by_datagrams) 20000 a.stage) 0 sent d3.held refl others3 (below 20000 5000010 refl)) (nobody _ nowhere (λ j. refl)))
         (dgrams.IsAnswered 0 sent 0 4660 10 m1 refl refl refl long answers1) (datagram_foreign 0 m1 (server_in z3).by_stream) (AsItIs (only (λ k (a : Tryer). StageSettled a.stage) 0 ended d4.held refl others4 (cut_settled (dgrams.stage_of (take 2000 m1)) is_cut)))))
         (Goes v3 _ _ (Server_moves 0 _ (below 0 1 refl) (served.FallsBack 0 ended refl is_cut))
         (Goes y3 _ _ (Server_moves 0 _ (below 0 1 refl) (served.ByStream (Puts (OpenStream 1 0)) s2 (multi.Opens 0 free refl refl refl (nobody _ s1.conns (λ j. refl)))))
         (Rests x3 (done_with compose x3 0 waiting refl refl refl
-        (record { rests = rests_by 20000 (server_in x3) (nobody _ (dgrams.forget 0 d4).held none4) (only (λ k (a : Asker). PhaseRests 20000 s2.conns a.phase × (20000 < a.since + stream_timeout)) 0 (multi.moved free multi.Expecting) s2.asks refl asks3 (tt, below 20000 30020000 refl)) (nobody _ s2.conns (λ j. refl)); frames = refl; ignored = tt; foreign = tick_foreign s2 })
+        (record { rests = (rests_by by_datagrams) 20000 (server_in x3) (nobody _ (dgrams.forget 0 d4).held none4) (only (λ k (a : Asker). PhaseRests 20000 s2.conns a.phase × (20000 < a.since + stream_timeout by_datagrams)) 0 (multi.moved free multi.Expecting) s2.asks refl asks3 (tt, below 20000 30020000 refl)) (nobody _ s2.conns (λ j. refl)); frames = refl; ignored = tt; foreign = tick_foreign s2 })
         refl others_held refl (λ j ne. not_held (x3.ups 0) j (none4 j) (asks3 j ne)) (below 20000 5000000 refl)))))
 
     -- a datagram for the closed place is nobody's
@@ -216,7 +217,7 @@ module _ (compose : Request → Result Octets Error) (o : Octets) (r : Request) 
     row4 : Goes_to x3 20001 (Datagram 0 m0) x4 []
     unfolding stream_timeout
     row4 = Rests x4 (done_with compose x4 0 waiting refl refl refl
-        (record { rests = rests_by 20001 (server_in x4) (nobody _ (dgrams.forget 0 d4).held none4) (only (λ k (a : Asker). PhaseRests 20001 (server_in x4).by_stream.conns a.phase × (20001 < a.since + stream_timeout)) 0 (multi.moved free multi.Expecting) s2.asks refl asks3 (tt, below 20001 30020000 refl)) (nobody _ (server_in x4).by_stream.conns (λ j. refl)); frames = refl; ignored = nobody_sent 0 m0 (dgrams.forget 0 d4) refl; foreign = datagram_foreign 0 m0 (server_in x4).by_stream })
+        (record { rests = (rests_by by_datagrams) 20001 (server_in x4) (nobody _ (dgrams.forget 0 d4).held none4) (only (λ k (a : Asker). PhaseRests 20001 (server_in x4).by_stream.conns a.phase × (20001 < a.since + stream_timeout by_datagrams)) 0 (multi.moved free multi.Expecting) s2.asks refl asks3 (tt, below 20001 30020000 refl)) (nobody _ (server_in x4).by_stream.conns (λ j. refl)); frames = refl; ignored = (nobody_sent by_datagrams) 0 m0 (dgrams.forget 0 d4) refl; foreign = datagram_foreign 0 m0 (server_in x4).by_stream })
         refl others_held refl (λ j ne. not_held (x4.ups 0) j (none4 j) (asks3 j ne)) (below 20001 5000000 refl))
 
     -- the connection opens, and the request is written
@@ -224,7 +225,7 @@ module _ (compose : Request → Result Octets Error) (o : Octets) (r : Request) 
     z5 = begins 20002 (Opened 1) x4
 
     abbrev s3 : Multi
-    s3 = multi.open_at 1 (server_in z5).by_stream
+    s3 = multi.open_at by_datagrams 1 (server_in z5).by_stream
 
     abbrev y5 : Upper Served
     y5 = takes_to (with_streams s3 (server_in z5)) Nothing z5
@@ -242,7 +243,7 @@ module _ (compose : Request → Result Octets Error) (o : Octets) (r : Request) 
     holding = multi.moved free (multi.Holding 1 0)
 
     abbrev c5 : Conn
-    c5 = multi.written_on 0 0 20002 w multi.new_conn
+    c5 = multi.written_on 0 0 20002 w (multi.new_conn by_datagrams)
 
     abbrev s5 : Multi
     s5 = multi.set_conn 1 c5 (multi.move 0 lined (multi.Holding 1 0) s4)
@@ -259,11 +260,11 @@ module _ (compose : Request → Result Octets Error) (o : Octets) (r : Request) 
     row5 : Goes_to x4 20002 (Opened 1) x5 (Write 1 0 0 w ∷ [])
     unfolding stream_timeout response_timeout
     row5 =
-        Goes z5 _ _ (Server_moves 0 _ (below 0 1 refl) (served.TellsStreams Nothing s3 refl (not_octets 1) (multi.ItOpens 1 refl) (nobody_tries 1 (dgrams.forget 0 d4) refl)))
-        (Goes y5 _ _ (Server_moves 0 _ (below 0 1 refl) (served.ByStream Nothing s4 (multi.Joins 0 free 1 multi.new_conn refl refl refl)))
-        (Goes v5 _ _ (Server_moves 0 _ (below 0 1 refl) (served.ByStream (Puts (Write 1 0 0 w)) s5 (multi.Writes 0 lined 1 multi.new_conn 0 w refl refl refl refl refl refl in_frame some)))
+        Goes z5 _ _ (Server_moves 0 _ (below 0 1 refl) (served.TellsStreams Nothing s3 refl (not_octets 1) (multi.ItOpens 1 refl) ((nobody_tries by_datagrams) 1 (dgrams.forget 0 d4) refl)))
+        (Goes y5 _ _ (Server_moves 0 _ (below 0 1 refl) (served.ByStream Nothing s4 (multi.Joins 0 free 1 (multi.new_conn by_datagrams) refl refl refl)))
+        (Goes v5 _ _ (Server_moves 0 _ (below 0 1 refl) (served.ByStream (Puts (Write 1 0 0 w)) s5 (multi.Writes 0 lined 1 (multi.new_conn by_datagrams) 0 w refl refl refl refl refl refl in_frame some)))
         (Rests x5 (done_with compose x5 0 waiting refl refl refl
-        (record { rests = rests_by 20002 (server_in x5) (nobody _ (dgrams.forget 0 d4).held none4) (only (λ k (a : Asker). PhaseRests 20002 s5.conns a.phase × (20002 < a.since + stream_timeout)) 0 holding s5.asks refl asks5 (tt, below 20002 30020000 refl)) (only (λ p (x : Conn). ModeRests 20002 x.idle x.mode) 1 c5 s5.conns refl conns5 (at_most 20002 19020002 refl)); frames = refl; ignored = tt; foreign = tick_foreign s5 })
+        (record { rests = (rests_by by_datagrams) 20002 (server_in x5) (nobody _ (dgrams.forget 0 d4).held none4) (only (λ k (a : Asker). PhaseRests 20002 s5.conns a.phase × (20002 < a.since + stream_timeout by_datagrams)) 0 holding s5.asks refl asks5 (tt, below 20002 30020000 refl)) (only (λ p (x : Conn). (ModeRests by_datagrams) 20002 x.idle x.mode) 1 c5 s5.conns refl conns5 (at_most 20002 19020002 refl)); frames = refl; ignored = tt; foreign = tick_foreign s5 })
         refl others_held refl (λ j ne. not_held (x5.ups 0) j (none4 j) (asks5 j ne)) (below 20002 5000000 refl)))))
 
     -- all is written
@@ -290,7 +291,7 @@ module _ (compose : Request → Result Octets Error) (o : Octets) (r : Request) 
     row6 =
         Goes z6 _ _ (Server_moves 0 _ (below 0 1 refl) (served.TellsStreams Nothing s6 refl (wrote_plain 1 46) (multi.AllWritten 1 46 c5' refl some few) tt))
         (Rests x6 (done_with compose x6 0 waiting refl refl refl
-        (record { rests = rests_by 20003 (server_in x6) (nobody _ (dgrams.forget 0 d4).held none4) (only (λ k (a : Asker). PhaseRests 20003 s6.conns a.phase × (20003 < a.since + stream_timeout)) 0 holding s6.asks refl asks5 (tt, below 20003 30020000 refl)) (only (λ p (x : Conn). ModeRests 20003 x.idle x.mode) 1 c6 s6.conns refl conns6 (at_most 20003 19020002 refl)); frames = refl; ignored = tt; foreign = tick_foreign s6 })
+        (record { rests = (rests_by by_datagrams) 20003 (server_in x6) (nobody _ (dgrams.forget 0 d4).held none4) (only (λ k (a : Asker). PhaseRests 20003 s6.conns a.phase × (20003 < a.since + stream_timeout by_datagrams)) 0 holding s6.asks refl asks5 (tt, below 20003 30020000 refl)) (only (λ p (x : Conn). (ModeRests by_datagrams) 20003 x.idle x.mode) 1 c6 s6.conns refl conns6 (at_most 20003 19020002 refl)); frames = refl; ignored = tt; foreign = tick_foreign s6 })
         refl others_held refl (λ j ne. not_held (x6.ups 0) j (none4 j) (asks5 j ne)) (below 20003 5000000 refl)))
 
     -- the answer comes
@@ -322,7 +323,7 @@ module _ (compose : Request → Result Octets Error) (o : Octets) (r : Request) 
     v7 = moved 0 (does (served.frames_left [] s8 (y7.ups 0)) y7.place (Gives 0 (multi.result_of r (id_in m2) m2))) y7
 
     abbrev leaving : Leaving
-    leaving = record { request = 0; asked = r; result = Ok m2; is_stored = true; stale = None }
+    leaving = record { request = 0; asked = r; result = Ok m2; given = Ok m2; is_stored = true; stale = None }
 
     abbrev u7 : Upper Served
     u7 = leave leaving (record v7 { board = [] })
@@ -359,11 +360,11 @@ module _ (compose : Request → Result Octets Error) (o : Octets) (r : Request) 
     unfolding stream_timeout response_timeout
     row7 =
         Goes z7 _ _ (Server_moves 0 _ (below 0 1 refl) (served.Reads 1 b c6' refl refl refl))
-        (Goes y7 _ _ (Server_moves 0 _ (below 0 1 refl) (served.TakesOne m2 [] (Gives 0 (multi.result_of r (id_in m2) m2)) s8 frames (in_time_by 20004 (server_in y7) (nobody _ (dgrams.forget 0 d4).held none4) (only (λ k (a : Asker). 20004 < a.since + stream_timeout) 0 holding s7.asks refl asks5 (below 20004 30020000 refl))) takes_frame))
+        (Goes y7 _ _ (Server_moves 0 _ (below 0 1 refl) (served.TakesOne m2 [] (Gives 0 (multi.result_of r (id_in m2) m2)) s8 frames ((in_time_by by_datagrams) 20004 (server_in y7) (nobody _ (dgrams.forget 0 d4).held none4) (only (λ k (a : Asker). 20004 < a.since + stream_timeout by_datagrams) 0 holding s7.asks refl asks5 (below 20004 30020000 refl))) takes_frame))
         (Goes v7 _ _ delivers
         (Goes u7 _ _ (Replies [] [] leaving refl)
         (Rests x7 (done_with_none compose x7 refl refl refl
-        (record { rests = rests_by 20004 (server_in x7) (nobody _ (dgrams.forget 0 d4).held none4) (nobody _ s8.asks asks8) (only (λ p (x : Conn). ModeRests 20004 x.idle x.mode) 1 c8 s8.conns refl conns8 stays); frames = refl; ignored = tt; foreign = tick_foreign s8 })
+        (record { rests = (rests_by by_datagrams) 20004 (server_in x7) (nobody _ (dgrams.forget 0 d4).held none4) (nobody _ s8.asks asks8) (only (λ p (x : Conn). (ModeRests by_datagrams) 20004 x.idle x.mode) 1 c8 s8.conns refl conns8 stays); frames = refl; ignored = tt; foreign = tick_foreign s8 })
         (gone_held 0 _ others_held) (λ j. not_held (x7.ups 0) j (none4 j) (asks8 j)))))))
 
     pub cut_run : IsRun by_datagrams first_settings compose P x0
@@ -378,7 +379,7 @@ module _ (compose : Request → Result Octets Error) (o : Octets) (r : Request) 
     cut_run = row _ 0 _ _ x1 _ row1 (row x1 10 _ _ x2 _ row2 (row x2 20000 _ _ x3 _ row3 (row x3 20001 _ _ x4 _ row4 (row x4 20002 _ _ x5 _ row5 (row x5 20003 _ _ x6 _ row6 (row x6 20004 _ _ x7 _ row7 (Ends x7)))))))
 
   -- An answer is given again as a view, and then no more.
-  module _ (o1 m v30 v100 : Octets) (x : Parts Data) (carries : CarriesBy Dgram o1 r 4660) (long : 12 ≤ length (take 2000 m)) (answers1 : answers r 4660 (take 2000 m) ≡ true) (whole : truncated (take 2000 m) ≡ false) (kept : outcome first_settings 0 r (Ok (take 2000 m)) ≡ record { request = 0; asked = r; result = Ok (take 2000 m); is_stored = true; stale = None }) (final : waits_for_others first_settings (Ok (take 2000 m)) ≡ false)
+  module _ (o1 m v30 v100 : Octets) (x : Parts Data) (carries : CarriesBy by_datagrams Dgram o1 r 4660) (long : 12 ≤ length (take 2000 m)) (answers1 : answers r 4660 (take 2000 m) ≡ true) (whole : truncated (take 2000 m) ≡ false) (kept : outcome first_settings 0 r (Ok (take 2000 m)) ≡ record { request = 0; asked = r; result = Ok (take 2000 m); given = Ok (take 2000 m); is_stored = true; stale = None }) (final : waits_for_others first_settings (Ok (take 2000 m)) ≡ false)
       (covers : KeyCovers (key_of r) r) (valid30 : IsValidView first_settings r r (take 2000 m) x 30000000) (says30 : Says v30 (view_of r r 30000000 x)) (valid100 : IsValidView first_settings r r (take 2000 m) x 100000000) (says100 : Says v100 (view_of r r 100000000 x)) where
     -- it is sent at once
     abbrev sent0 : Tryer
@@ -397,12 +398,12 @@ module _ (compose : Request → Result Octets Error) (o : Octets) (r : Request) 
     away3 = away 0 _ _ others2
 
     sends : Goes_to x1 0 (Opened 0) w2 (Send 0 0 4660 o1 ∷ [])
-    unfolding read_timeout
+    unfolding read_timeout recv_size max_places max_tries
     sends =
-        Goes t2 _ _ (Server_moves 0 _ (below 0 1 refl) (served.TellsDgrams (Puts (Send 0 0 4660 o1)) e3 _ refl (in_time_by 0 (server_in t2) (only (λ k (a : Tryer). StageInTime 0 a.stage) 0 trying d2.held refl others2 tt) (nobody _ nowhere (λ j. refl)))
+        Goes t2 _ _ (Server_moves 0 _ (below 0 1 refl) (served.TellsDgrams (Puts (Send 0 0 4660 o1)) e3 _ refl ((in_time_by by_datagrams) 0 (server_in t2) (only (λ k (a : Tryer). (StageInTime by_datagrams) 0 a.stage) 0 trying d2.held refl others2 tt) (nobody _ nowhere (λ j. refl)))
         (dgrams.IsSent 0 trying 0 4660 o1 refl refl refl carries) (opens_nothing 0 (server_in t2).by_stream refl) (AsItIs (only (λ k (a : Tryer). StageSettled a.stage) 0 sent0 e3.held refl away3 (sent_settled 0 4660 0)))))
         (Rests w2 (done_with compose w2 0 waiting refl refl refl
-        (record { rests = rests_by 0 (server_in w2) (only (λ k (a : Tryer). StageRests 0 1 a.stage) 0 sent0 e3.held refl away3 (below 0 5000000 refl)) (nobody _ nowhere (λ j. refl)) (nobody _ nowhere (λ j. refl)); frames = refl; ignored = tt; foreign = tick_foreign (server_in w2).by_stream })
+        (record { rests = (rests_by by_datagrams) 0 (server_in w2) (only (λ k (a : Tryer). (StageRests by_datagrams) 0 1 a.stage) 0 sent0 e3.held refl away3 (below 0 5000000 refl)) (nobody _ nowhere (λ j. refl)) (nobody _ nowhere (λ j. refl)); frames = refl; ignored = tt; foreign = tick_foreign (server_in w2).by_stream })
         refl others_held refl (λ j ne. not_held (w2.ups 0) j (away3 j ne) refl) (below 0 5000000 refl)))
 
     -- the answer comes
@@ -422,7 +423,7 @@ module _ (compose : Request → Result Octets Error) (o : Octets) (r : Request) 
     a3 = moved 0 act t3
 
     abbrev first : Leaving
-    first = record { request = 0; asked = r; result = Ok (take 2000 m); is_stored = true; stale = None }
+    first = record { request = 0; asked = r; result = Ok (take 2000 m); given = Ok (take 2000 m); is_stored = true; stale = None }
 
     abbrev b3 : Upper Served
     b3 = leave first (record a3 { board = [] })
@@ -443,14 +444,14 @@ module _ (compose : Request → Result Octets Error) (o : Octets) (r : Request) 
     gives = subst (λ l. Move by_datagrams first_settings compose P a3 (unmade (leave l (record a3 { board = [] })))) kept (Delivers [] [] (record { server = 0; request = 0; result = Ok (take 2000 m) }) waiting _ refl refl final Caches)
 
     replies : Goes_to w2 0 (Datagram 0 m) w3 (Close 0 ∷ Reply 0 (Ok (take 2000 m)) ∷ [])
-    unfolding read_timeout
+    unfolding read_timeout recv_size max_places max_tries
     replies =
-        Goes t3 _ _ (Server_moves 0 act (below 0 1 refl) (served.TellsDgrams (Puts (Close 0)) e4 act refl (in_time_by 0 (server_in t3) (only (λ k (a : Tryer). StageInTime 0 a.stage) 0 sent0 e3.held refl away3 (below 0 5000000 refl)) (nobody _ nowhere (λ j. refl)))
+        Goes t3 _ _ (Server_moves 0 act (below 0 1 refl) (served.TellsDgrams (Puts (Close 0)) e4 act refl ((in_time_by by_datagrams) 0 (server_in t3) (only (λ k (a : Tryer). (StageInTime by_datagrams) 0 a.stage) 0 sent0 e3.held refl away3 (below 0 5000000 refl)) (nobody _ nowhere (λ j. refl)))
         (dgrams.IsAnswered 0 sent0 0 4660 0 m refl refl refl long answers1) (datagram_foreign 0 m (server_in t3).by_stream) (WithResult 0 ended0 (Ok (take 2000 m)) refl is_ended)))
         (Goes a3 _ _ gives
         (Goes b3 _ _ (Replies [] [] first refl)
         (Rests w3 (done_with_none compose w3 refl refl refl
-        (record { rests = rests_by 0 (server_in w3) (nobody _ (dgrams.forget 0 e4).held none_there) (nobody _ nowhere (λ j. refl)) (nobody _ nowhere (λ j. refl)); frames = refl; ignored = tt; foreign = tick_foreign (server_in w3).by_stream })
+        (record { rests = (rests_by by_datagrams) 0 (server_in w3) (nobody _ (dgrams.forget 0 e4).held none_there) (nobody _ nowhere (λ j. refl)) (nobody _ nowhere (λ j. refl)); frames = refl; ignored = tt; foreign = tick_foreign (server_in w3).by_stream })
         none_tried (λ j. not_held (w3.ups 0) j (none_there j) refl)))))
 
     -- it is asked again
@@ -458,7 +459,7 @@ module _ (compose : Request → Result Octets Error) (o : Octets) (r : Request) 
     stored = entry_of 0 first
 
     abbrev viewed : ℕ → Octets → Leaving
-    viewed k y = record { request = k; asked = r; result = Ok y; is_stored = false; stale = None }
+    viewed k y = record { request = k; asked = r; result = Ok y; given = Ok y; is_stored = false; stale = None }
 
     abbrev t4 : Upper Served
     t4 = begins 30000000 (Ask r) w3
@@ -474,7 +475,7 @@ module _ (compose : Request → Result Octets Error) (o : Octets) (r : Request) 
         Goes t4 _ _ (Answers r (viewed 1 v30) refl (Viewed stored (take 2000 m) v30 x 30000000 (o, composed) (inl refl) refl covers refl valid30 says30))
         (Goes b4 _ _ (Replies [] [] (viewed 1 v30) refl)
         (Rests w4 (done_with_none compose w4 refl refl refl
-        (record { rests = rests_by 30000000 (server_in w4) (nobody _ (dgrams.forget 0 e4).held none_there) (nobody _ nowhere (λ j. refl)) (nobody _ (server_in w4).by_stream.conns (λ j. refl)); frames = refl; ignored = tt; foreign = ask_foreign r (server_in w4).by_stream })
+        (record { rests = (rests_by by_datagrams) 30000000 (server_in w4) (nobody _ (dgrams.forget 0 e4).held none_there) (nobody _ nowhere (λ j. refl)) (nobody _ (server_in w4).by_stream.conns (λ j. refl)); frames = refl; ignored = tt; foreign = ask_foreign r (server_in w4).by_stream })
         none_tried (λ j. not_held (w4.ups 0) j (none_there j) refl))))
 
     -- and once more
@@ -492,7 +493,7 @@ module _ (compose : Request → Result Octets Error) (o : Octets) (r : Request) 
         Goes t5 _ _ (Answers r (viewed 2 v100) refl (Viewed stored (take 2000 m) v100 x 100000000 (o, composed) (inl refl) refl covers refl valid100 says100))
         (Goes b5 _ _ (Replies [] [] (viewed 2 v100) refl)
         (Rests w5 (done_with_none compose w5 refl refl refl
-        (record { rests = rests_by 100000000 (server_in w5) (nobody _ (dgrams.forget 0 e4).held none_there) (nobody _ nowhere (λ j. refl)) (nobody _ (server_in w5).by_stream.conns (λ j. refl)); frames = refl; ignored = tt; foreign = ask_foreign r (server_in w5).by_stream })
+        (record { rests = (rests_by by_datagrams) 100000000 (server_in w5) (nobody _ (dgrams.forget 0 e4).held none_there) (nobody _ nowhere (λ j. refl)) (nobody _ (server_in w5).by_stream.conns (λ j. refl)); frames = refl; ignored = tt; foreign = ask_foreign r (server_in w5).by_stream })
         none_tried (λ j. not_held (w5.ups 0) j (none_there j) refl))))
 
     -- too late: it is tried anew
@@ -524,12 +525,13 @@ module _ (compose : Request → Result Octets Error) (o : Octets) (r : Request) 
     away_tried = away_held 3 _ _ (away_held 3 _ _ (λ j ne. none_tried j))
 
     after_101 : Goes_to w5 101000000 (Ask r) w6 (Start 3 0 Dgram ∷ OpenDgram 1 0 ∷ [])
+    unfolding max_places
     after_101 =
         Goes t6 _ _ (Takes_on r o None refl composed (below 0 1 refl) (λ e q. absurd (cc)))
         (Goes a6 _ _ (Hands_on 0 3 newest _ (below 0 1 refl) refl refl (served.IsHanded ByDatagrams (Puts (Start 3 0 Dgram)) (with_dgrams e5 (server_in a6)) refl (server.ToDgrams refl refl)))
         (Goes b6 _ _ (Server_moves 0 _ (below 0 1 refl) (served.ByDgram (Puts (OpenDgram 1 0)) e6 _ (dgrams.Opens 3 queued refl refl (below 0 100 refl)) (AsItIs (only (λ k (a : Tryer). StageSettled a.stage) 3 (dgrams.staged queued (dgrams.Trying 1)) e6.held refl away6 (trying_settled 1)))))
         (Rests w6 (done_with compose w6 3 (handing 0 newest) refl refl refl
-        (record { rests = rests_by 101000000 (server_in w6) (only (λ k (a : Tryer). StageRests 101000000 1 a.stage) 3 (dgrams.staged queued (dgrams.Trying 1)) e6.held refl away6 tt) (nobody _ nowhere (λ j. refl)) (nobody _ (server_in w6).by_stream.conns (λ j. refl)); frames = refl; ignored = tt; foreign = ask_foreign r (server_in w6).by_stream })
+        (record { rests = (rests_by by_datagrams) 101000000 (server_in w6) (only (λ k (a : Tryer). (StageRests by_datagrams) 101000000 1 a.stage) 3 (dgrams.staged queued (dgrams.Trying 1)) e6.held refl away6 tt) (nobody _ nowhere (λ j. refl)) (nobody _ (server_in w6).by_stream.conns (λ j. refl)); frames = refl; ignored = tt; foreign = ask_foreign r (server_in w6).by_stream })
         refl away_tried refl (λ j ne. not_held (w6.ups 0) j (away6 j ne) refl) (below 101000000 106000000 refl)))))
 
     pub view_run : IsRun by_datagrams first_settings compose P x0
@@ -548,15 +550,15 @@ pub cut_is : (answers plain_request 4660 (cut_answer 18 52) ≡ true) × (trunca
 unfolding name_at walk head_at data_at data_spelling question_at record_at list_at items_at questions_of answer_of authority_of additional_of answer_items authority_items additional_items first_question sole_question reads knows opt_of opt_rcode contents_of is_answer answers truncated is_bad id_in
 cut_is = (refl, refl, refl, refl, refl)
 
-keeps : 20004 < 20004 + told_idle (keepalive_of (answer 0 0 100)) idle_timeout
+keeps : 20004 < 20004 + told_idle (keepalive_of (answer 0 0 100)) (idle_timeout by_datagrams)
 unfolding name_at walk head_at data_at data_spelling question_at record_at list_at items_at questions_of answer_of authority_of additional_of answer_items authority_items additional_items first_question sole_question reads knows opt_of opt_rcode contents_of keepalive_of idle_timeout
 keeps = below 20004 10020004 refl
 
-kept_answer : outcome first_settings 0 plain_request (Ok (answer 0 0 100)) ≡ record { request = 0; asked = plain_request; result = Ok (answer 0 0 100); is_stored = true; stale = None }
+kept_answer : outcome first_settings 0 plain_request (Ok (answer 0 0 100)) ≡ record { request = 0; asked = plain_request; result = Ok (answer 0 0 100); given = Ok (answer 0 0 100); is_stored = true; stale = None }
 unfolding name_at walk head_at data_at data_spelling question_at record_at list_at items_at questions_of answer_of authority_of additional_of answer_items authority_items additional_items first_question sole_question reads knows opt_of opt_rcode contents_of base_is_read truncated question_of key_of is_cacheable read_parts known_parts second validity_of_message
 kept_answer = refl
 
-kept_first : outcome first_settings 0 plain_request (Ok (answer 18 52 100)) ≡ record { request = 0; asked = plain_request; result = Ok (answer 18 52 100); is_stored = true; stale = None }
+kept_first : outcome first_settings 0 plain_request (Ok (answer 18 52 100)) ≡ record { request = 0; asked = plain_request; result = Ok (answer 18 52 100); given = Ok (answer 18 52 100); is_stored = true; stale = None }
 unfolding name_at walk head_at data_at data_spelling question_at record_at list_at items_at questions_of answer_of authority_of additional_of answer_items authority_items additional_items first_question sole_question reads knows opt_of opt_rcode contents_of base_is_read truncated question_of key_of is_cacheable read_parts known_parts second validity_of_message
 kept_first = refl
 

@@ -11,7 +11,7 @@ use Rattle.client_request.specs.declared.fault.Fault.TheVariants.{Refused}
 use Rattle.client_request.specs.declared.event.What.TheVariants.{Ask, Opened, OpenFailed, Datagram, Tick}
 use Rattle.client_request.specs.declared.event.Via.TheVariants.{Dgram}
 use Rattle.right_trace.specs.Trace.{History, Came}
-use Rattle.right_trace.specs.Time.{read_timeout, EarlierRow, OfRow}
+use Rattle.right_trace.specs.Time.{read_timeout, EarlierRow, OfRow, recv_size, max_places, max_tries}
 use Rattle.right_trace.specs.Messages.{CarriesBy, id_in, answers, truncated}
 use Rattle.right_trace.specs.Requests.{handed}
 use Rattle.right_trace.specs.Places.{stand, Alive, is_told}
@@ -28,7 +28,7 @@ use Rattle.proof_right.proofs.client.Promptness.{none_first}
 abbrev last_row : History
 last_row = Came (record { moment = record { 0 = 20000 }; what = OpenFailed 1 Refused }) ∷ so_far 3 failing_server
 
-pub carried : CarriesBy Dgram (as_datagram 0 0) plain_request 0
+pub carried : CarriesBy two_servers Dgram (as_datagram 0 0) plain_request 0
 unfolding name_at walk head_at data_at data_spelling question_at record_at list_at items_at questions_of answer_of authority_of additional_of answer_items authority_items additional_items first_question sole_question reads opt_of opt_rcode contents_of id_in
 carried = (record { contents = _; are = refl; reading = _; read = refl; header = refl; agree = record { questions = (refl, tt); answer = tt; authority = tt; additional = (record { owner = refl; rtype = refl; class = refl; ttl = refl; content = refl }, tt) } }, refl)
 
@@ -41,7 +41,7 @@ unfolding truncated
 whole = refl
 
 came_it : CameFor two_servers 0 failing (so_far 2 failing_server) (Datagram 0 failing) (so_far 3 failing_server)
-unfolding read_timeout
+unfolding read_timeout recv_size max_places max_tries
 came_it = record {
   request = plain_request;
   via = Dgram;
@@ -57,13 +57,13 @@ came_it = record {
 
 -- nothing came before
 none_by_opening : SomeCame two_servers 0 (so_far 1 failing_server) (Opened 0) (so_far 2 failing_server) → ⊥
-none_by_opening z = none_first z.came.via z.came.id z.message z.came.matches.comes.first
+none_by_opening z = none_first two_servers z.came.via z.came.id z.message z.came.matches.comes.first
 
 none_by_asking : SomeCame two_servers 0 [] (Ask plain_request) (so_far 1 failing_server) → ⊥
-none_by_asking z = none_first z.came.via z.came.id z.message z.came.matches.comes.first
+none_by_asking z = none_first two_servers z.came.via z.came.id z.message z.came.matches.comes.first
 
 none_at_first : SomeCame two_servers 0 [] Tick [] → ⊥
-none_at_first z = none_first z.came.via z.came.id z.message z.came.matches.comes.first
+none_at_first z = none_first two_servers z.came.via z.came.id z.message z.came.matches.comes.first
 
 none_before : EarlierRow (OfRow (SomeCame two_servers 0)) (so_far 3 failing_server) → ⊥
 none_before (inl z) = none_by_opening z

@@ -1,11 +1,11 @@
 -- A slot is given on before the request whose answer was cut goes on by stream.
+use Rattle.proof_right.specs.examples.Rows.{by_datagrams}
 use Rattle.std.proofs.Common.{◌≡◌, ℕ, Some, None, refl, take, ap}
 use Rattle.std.specs.Prelude.{Result, if◌then◌else◌}
-use Rattle.right_trace.specs.Time.{read_timeout}
+use Rattle.right_trace.specs.Time.{read_timeout, recv_size, max_places, max_tries}
 use Rattle.client_request.specs.declared.event.Out.TheVariants.{Start, OpenDgram, Close}
 use Rattle.client_request.specs.declared.event.Via.TheVariants.{Stream}
 use Rattle.proof_right.specs.machine.Streams.{Puts, no_connection}
-use Rattle.proof_right.specs.machine.Streams as multi
 use Rattle.proof_right.specs.machine.Dgrams as dgrams
 use Rattle.proof_right.specs.machine.Dgrams.{Tryer, Dgrams}
 use Rattle.proof_right.specs.machine.Server as server
@@ -44,12 +44,12 @@ abbrev u2 : served.Served
 u2 = has_moved (record u1.server { by_dgram = d2 }) u1
 
 pub slot_is_given_on : SlotIsGivenOn
-unfolding read_timeout
+unfolding read_timeout recv_size max_places max_tries
 slot_is_given_on = record {
   closes = does u1 100 (Puts (Close 0));
   opens = does u2 100 (Puts (OpenDgram 100 0));
   falls_back = does (has_moved (server.falls_back 0 20000 cut u2.server) u2) 101 (Puts (Start 0 0 Stream));
-  first = served.TellsDgrams (Puts (Close 0)) d1 _ refl (in_time_by 20000 all_slots_taken.server (both (λ a. StageInTime 20000 a.stage) sent_first queued_behind (below 20000 5000010 refl) tt) (nobody _ no_connection.asks (λ j. refl)))
+  first = served.TellsDgrams (Puts (Close 0)) d1 _ refl ((in_time_by by_datagrams) 20000 all_slots_taken.server (both (λ a. (StageInTime by_datagrams) 20000 a.stage) sent_first queued_behind (below 20000 5000010 refl) tt) (nobody _ no_connection.asks (λ j. refl)))
       (dgrams.IsAnswered 0 sent_first 0 4660 10 (cut_answer 18 52) refl refl refl (at_most 12 29 refl) cut_is.0) (datagram_foreign 0 (cut_answer 18 52) no_connection) (AsItIs (settled 0 cut (cut_settled cut.stage is_cut)));
   second = served.ByDgram (Puts (OpenDgram 100 0)) d2 _ (dgrams.Opens 1 queued_behind refl refl (below 99 100 refl)) (AsItIs (each_at (λ k (a : Tryer). StageSettled a.stage) 1 _ d1.held (λ x e. cc) (λ k a ne e. settled 0 cut (cut_settled cut.stage is_cut) k a e)));
   third = served.FallsBack 0 cut refl is_cut;

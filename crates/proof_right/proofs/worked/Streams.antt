@@ -7,14 +7,14 @@ use Rattle.dns_base.specs.Message.{question_at, record_at, list_at, items_at, qu
 use Rattle.dns_base.specs.OptRecord.{opt_of}
 use Rattle.dns_base.specs.Answering.{is_answer}
 use Rattle.client_request.specs.Carries.{contents_of}
-use Rattle.right_trace.specs.Time.{read_timeout, stream_timeout, idle_timeout, back_off}
+use Rattle.right_trace.specs.Time.{read_timeout, stream_timeout, idle_timeout, back_off, recv_size, max_places, max_tries}
 use Rattle.right_trace.specs.Messages.{answers, truncated, id_in, keepalive_of}
 use Rattle.right_trace.specs.Frames.{is_bad}
 use Rattle.right_trace.specs.Busy.{BackingOff, ConnectionEnded, ByBadFrame, OpeningFailed}
 use Rattle.proof_right.specs.examples.Streams.{WorkedStreams}
 
 pub worked : WorkedStreams
-unfolding name_at walk head_at data_at data_spelling question_at record_at list_at items_at questions_of answer_of authority_of additional_of answer_items authority_items additional_items first_question reads is_answer opt_of contents_of read_timeout stream_timeout idle_timeout back_off answers truncated id_in keepalive_of is_bad
+unfolding name_at walk head_at data_at data_spelling question_at record_at list_at items_at questions_of answer_of authority_of additional_of answer_items authority_items additional_items first_question reads is_answer opt_of contents_of read_timeout recv_size max_places max_tries stream_timeout idle_timeout back_off answers truncated id_in keepalive_of is_bad
 worked = record {
   cut_opens = refl;
   cut_site = refl;

@@ -39,8 +39,8 @@ use Rattle.client_request.specs.declared.error.QueryError.TheVariants as query
 -- A message that nobody got before
 
 not_invented : (c : Conf) (s : Settings) (r : Request) (m : Octets) → OkIsRight c s 0 m [] (Ask r) (Came (record { moment = record { 0 = 0 }; what = Ask r }) ∷ []) → ⊥
-not_invented c s r m (Fresh (InThisRow f) d) = none_first f.via f.id m f.matches.comes.first
-not_invented c s r m (Fresh (Deferred d (inl z)) g) = none_first z.via z.id m z.matches.comes.first
+not_invented c s r m (Fresh (InThisRow f) d) = none_first c f.via f.id m f.matches.comes.first
+not_invented c s r m (Fresh (Deferred d (inl z)) g) = none_first c z.via z.id m z.matches.comes.first
 not_invented c s r m (Fresh (Deferred d (inr z)) g) = z
 not_invented c s r m (View v) = (let lt = v.supplied.earlier.below in omega arith)
 
@@ -59,11 +59,11 @@ module _ (q : Request) (o first : Octets) (c : Conf) (s : Settings) (n : ℕ) (r
 
   -- nothing came for the second request before it was asked
   is_view : OkIsRight c s 1 m (so_far 3 (answered_at_once q o first)) (Ask r) then_asked → IsView c s 1 m then_asked
-  is_view (Fresh (InThisRow f) d) = absurd (none_first f.via f.id m f.matches.comes.first)
+  is_view (Fresh (InThisRow f) d) = absurd (none_first c f.via f.id m f.matches.comes.first)
   is_view (Fresh (Deferred d (inl z)) g) = absurd (let y = z.matches.comes.is_open.stands.asked.1 in cc)
-  is_view (Fresh (Deferred d (inr (inl z))) g) = absurd (none_first z.via z.id m z.matches.comes.first)
-  is_view (Fresh (Deferred d (inr (inr (inl z)))) g) = absurd (none_first z.via z.id m z.matches.comes.first)
-  is_view (Fresh (Deferred d (inr (inr (inr (inl z))))) g) = absurd (none_first z.via z.id m z.matches.comes.first)
+  is_view (Fresh (Deferred d (inr (inl z))) g) = absurd (none_first c z.via z.id m z.matches.comes.first)
+  is_view (Fresh (Deferred d (inr (inr (inl z)))) g) = absurd (none_first c z.via z.id m z.matches.comes.first)
+  is_view (Fresh (Deferred d (inr (inr (inr (inl z))))) g) = absurd (none_first c z.via z.id m z.matches.comes.first)
   is_view (Fresh (Deferred d (inr (inr (inr (inr z))))) g) = absurd z
   is_view (View v) = v
 

@@ -1,5 +1,6 @@
 -- Traces by datagram that are not right.
-use Rattle.std.proofs.Common.{◌≡◌, ℕ, ◌<◌, ◌≤◌, Bool, true, false, not, inl, inr, Option, Some, [], ◌∷◌, length, take, refl, arith, sym, ap, subst, subst₂, ◌∙◌}
+use Rattle.proof_right.proofs.Received.{reads_on, received_one}
+use Rattle.std.proofs.Common.{◌≡◌, ℕ, ◌+◌, ◌<◌, ◌≤◌, ◌&&◌, Bool, true, false, not, inl, inr, Option, Some, [], ◌∷◌, length, take, refl, arith, sym, ap, subst, subst₂, ◌∙◌}
 use Rattle.std.specs.Prelude.{if◌then◌else◌}
 use Rattle.std.proofs.lemmas.Bool.Decides.{nat_tests}
 use Rattle.std.proofs.lemmas.Bool.{cases_eq, le-leb}
@@ -13,11 +14,11 @@ use Rattle.client_request.specs.declared.event.Via.{Via}
 use Rattle.client_request.specs.declared.event.Via.TheVariants.{Dgram, Stream}
 use Rattle.proof_right.proofs.wrong.Marks.{unmarked}
 use Rattle.right_trace.specs.Trace.{History, Conf, Came, Put}
-use Rattle.right_trace.specs.Time.{read_timeout, one_if, EarlierRow, OfRow}
+use Rattle.right_trace.specs.Time.{read_timeout, one_if, EarlierRow, OfRow, recv_size, max_places, max_tries, now}
 use Rattle.right_trace.specs.Messages.{Octets, CarriesBy, answers, truncated, is_valid}
 use Rattle.right_trace.specs.Requests.{Asking, replied}
 use Rattle.right_trace.specs.Places.{Stand, site, stand, Alive, Opening, is_at}
-use Rattle.right_trace.specs.Frames.{came}
+use Rattle.right_trace.specs.Frames.{came, received}
 use Rattle.right_trace.specs.Exchanges.{unanswered, IsAmong, IsOpen, Matches}
 use Rattle.right_trace.specs.Settings.{Settings}
 use Rattle.right_trace.specs.Validity.{is_final}
@@ -30,7 +31,8 @@ use Rattle.right_trace.specs.Busy.{IsBusy, Exchanging, PlaceIsOpening, PlacesAre
 use Rattle.right_trace.specs.Right.{Right, OutRight, IsOverdue, PastDeadline, PastTries, PastStream}
 use Rattle.right_trace.specs.Timely.{Timely}
 use Rattle.proof_right.specs.examples.Wrong.{replied_twice, nothing_sent, taken, taken_when_closed, timed_out_early, passed_over, still_waiting, closed_for_nothing, sent_too_soon, sent_nowhere, sent_at_once}
-use Rattle.proof_right.proofs.client.Promptness.{none_first}
+use Rattle.proof_right.proofs.client.Promptness.{none_first, nothing_given}
+use Rattle.proof_right.proofs.Received.{places_on}
 
 pub twice : (c : Conf) (s : Settings) (r : Request) → Right c s (replied_twice r) → ⊥
 twice c s r h = let f = h.0.outs.1.1.1.0 in let x = f.0.none in absurd (cc)
@@ -44,15 +46,18 @@ opened_history r = Came (record { moment = record { 0 = 0 }; what = Opened 0 }) 
 abbrev pub sent_history : Request → Octets → History
 sent_history r o = Put (Send 0 0 7 o) ∷ opened_history r
 
-at_most_one : (b : Bool) → one_if b ≤ 1
-at_most_one true = omega arith
-at_most_one false = omega arith
+never : (b : Bool) → one_if (b && false) ≡ 0
+never true = refl
+never false = refl
+
+too_few : (n m : ℕ) → 0 < n → n ≤ 0 + m → m ≡ 0 → ⊥
+too_few n m some le none = omega arith
 
 idle_busy : (c : Conf) (r : Request) → IsBusy c 0 (opened_history r) → ⊥
 idle_busy c r (s, Exchanging r' Dgram u p id b x) = absurd x.sent
 idle_busy c r (s, Exchanging r' Stream u p id b x) = absurd x.sent
 idle_busy c r (s, PlaceIsOpening p b a o) = elim (cases_eq 0 p) [ inl e ↦ absurd (grind (arith, nat_tests)) | inr ne ↦ absurd (grind (arith, nat_tests)) ]
-idle_busy c r (s, PlacesAreTaken b l) = let one = at_most_one (is_at Dgram s 0 (opened_history r)) in absurd (grind arith)
+idle_busy c r (s, PlacesAreTaken b l) = too_few (max_places c) (one_if (is_at Dgram s 0 (opened_history r) && false)) (places_on c) l (never (is_at Dgram s 0 (opened_history r)))
 idle_busy c r (s, StreamIsOpening p b a o) = absurd (cc)
 idle_busy c r (s, StreamIsWriting p b a o w) = absurd (cc)
 idle_busy c r (s, BackingOff b e) = absurd (cc)
@@ -70,8 +75,8 @@ one_of_one : (b : Bool) (o x : Octets) → IsAmong x (if b then o ∷ [] else []
 one_of_one true o x i = refl
 one_of_one false o x i = absurd i
 
-only_send : (r r' : Request) (o x : Octets) (p id n : ℕ) → IsAmong x (unanswered r' p 0 id n (sent_history r o)) → (p ≡ 0) × (id ≡ 7) × (n < read_timeout)
-only_send r r' o x p id n i =
+only_send : (c : Conf) → (r r' : Request) (o x : Octets) (p id n : ℕ) → IsAmong x (unanswered c r' p 0 id n (sent_history r o)) → (p ≡ 0) × (id ≡ 7) × (n < read_timeout c)
+only_send c r r' o x p id n i =
     let b = one_of_one _ o x i in
     (grind (arith, nat_tests), grind (arith, nat_tests), grind (arith, nat_tests))
 
@@ -96,18 +101,18 @@ not_timed_out_before c k (Put o ∷ h) e is x = not_timed_out_before c k h e is 
 module _ (c : Conf) (s : Settings) (r : Request) (o m : Octets) where
   -- nothing came before the datagram
   none_before : (k : ℕ) (x : Octets) → EarlierRow (OfRow (CameFor c k x)) (sent_history r o) → ⊥
-  none_before k x (inl z) = none_first z.via z.id x z.matches.comes.first
-  none_before k x (inr (inl z)) = none_first z.via z.id x z.matches.comes.first
+  none_before k x (inl z) = none_first c z.via z.id x z.matches.comes.first
+  none_before k x (inr (inl z)) = none_first c z.via z.id x z.matches.comes.first
   none_before k x (inr (inr z)) = z
 
   none_earlier : (w : What) (n k : ℕ) (x : Octets) → EarlierRow (OfRow (CameFor c k x)) (Put (Close 0) ∷ Came (record { moment = record { 0 = n }; what = w }) ∷ sent_history r o) → ⊥
-  none_earlier w n k x (inl z) = none_first z.via z.id x z.matches.comes.first
+  none_earlier w n k x (inl z) = none_first c z.via z.id x z.matches.comes.first
   none_earlier w n k x (inr z) = none_before k x z
 
   matched : (r' : Request) (v : Via) (s p id : ℕ) (w : What) (h : History) (message : Octets) → Matches c r' v s p 0 id message (sent_history r o) (Datagram 0 m) h → (v ≡ Dgram) × (r' ≡ r) × (id ≡ 7)
   matched r' Dgram s p id w h message x =
       let ask : Path (Option Asking) (Some (record { request = r; moment = 0 })) (Some (record { request = r'; moment = x.comes.is_open.stands.asked.0 })) = x.comes.is_open.stands.asked.1 in
-      let f = only_send r r' o x.comes.is_open.octets p id _ x.comes.is_open.sent in
+      let f = only_send c r r' o x.comes.is_open.octets p id _ x.comes.is_open.sent in
       (refl, sym (same_asked r r' 0 (x.comes.is_open.stands.asked.0) ask), f.1)
   matched r' Stream s p id w h message x = absurd (by_stream (site p (sent_history r o)) refl)
     where
@@ -119,41 +124,41 @@ module _ (c : Conf) (s : Settings) (r : Request) (o m : Octets) where
   answered_history n = Put (Close 0) ∷ Came (record { moment = record { 0 = n }; what = Datagram 0 m }) ∷ sent_history r o
 
   -- what is taken then came in that row
-  is_here : (n : ℕ) → OkIsRight c s 0 (take 2000 m) (sent_history r o) (Datagram 0 m) (answered_history n) → CameFor c 0 (take 2000 m) (sent_history r o) (Datagram 0 m) (answered_history n)
+  is_here : (n : ℕ) → OkIsRight c s 0 (take (recv_size c) m) (sent_history r o) (Datagram 0 m) (answered_history n) → CameFor c 0 (take (recv_size c) m) (sent_history r o) (Datagram 0 m) (answered_history n)
   is_here n (Fresh (InThisRow f) d) = f
-  is_here n (Fresh (Deferred d e) g) = absurd (none_earlier (Datagram 0 m) n 0 (take 2000 m) e)
+  is_here n (Fresh (Deferred d e) g) = absurd (none_earlier (Datagram 0 m) n 0 (take (recv_size c) m) e)
   is_here n (View v) = absurd (let z : false ≡ true = v.asked_here in cc)
 
-  pub not_an_answer : answers r 7 (take 2000 m) ≡ false → Right c s (taken 0 r o m) → ⊥
+  pub not_an_answer : answers r 7 (take (recv_size c) m) ≡ false → Right c s (taken c 0 r o m) → ⊥
   not_an_answer wrong h =
-      let f = is_here 0 (unmarked c s 0 (take 2000 m) _ _ _ refl h.1.1.0.outs.1.0.1) in
-      let e = matched f.request f.via f.server f.place f.id (Datagram 0 m) (answered_history 0) (take 2000 m) f.matches in
-      let a : answers r 7 (take 2000 m) ≡ true = subst₂ (λ r id. answers r id (take 2000 m) ≡ true) e.1 e.2 f.matches.agrees in
+      let f = is_here 0 (unmarked c s 0 (take (recv_size c) m) _ _ _ refl h.1.1.0.outs.1.0.1) in
+      let e = matched f.request f.via f.server f.place f.id (Datagram 0 m) (answered_history 0) (take (recv_size c) m) f.matches in
+      let a : answers r 7 (take (recv_size c) m) ≡ true = subst₂ (λ r id. answers r id (take (recv_size c) m) ≡ true) e.1 e.2 f.matches.agrees in
       absurd (cc)
 
   -- a cut datagram is no reply
-  pub not_cut : truncated (take 2000 m) ≡ true → Right c s (taken 0 r o m) → ⊥
-  not_cut cut h = whole f.via (matched f.request f.via f.server f.place f.id (Datagram 0 m) (answered_history 0) (take 2000 m) f.matches).0 f.matches
+  pub not_cut : truncated (take (recv_size c) m) ≡ true → Right c s (taken c 0 r o m) → ⊥
+  not_cut cut h = whole f.via (matched f.request f.via f.server f.place f.id (Datagram 0 m) (answered_history 0) (take (recv_size c) m) f.matches).0 f.matches
     where
-      f : CameFor c 0 (take 2000 m) (sent_history r o) (Datagram 0 m) (answered_history 0)
-      f = is_here 0 (unmarked c s 0 (take 2000 m) _ _ _ refl h.1.1.0.outs.1.0.1)
+      f : CameFor c 0 (take (recv_size c) m) (sent_history r o) (Datagram 0 m) (answered_history 0)
+      f = is_here 0 (unmarked c s 0 (take (recv_size c) m) _ _ _ refl h.1.1.0.outs.1.0.1)
 
-      whole : (v : Via) → v ≡ Dgram → Matches c f.request v f.server f.place 0 f.id (take 2000 m) (sent_history r o) (Datagram 0 m) (answered_history 0) → ⊥
+      whole : (v : Via) → v ≡ Dgram → Matches c f.request v f.server f.place 0 f.id (take (recv_size c) m) (sent_history r o) (Datagram 0 m) (answered_history 0) → ⊥
       whole Stream e x = absurd (cc)
-      whole Dgram e x = (let y : not (truncated (take 2000 m)) ≡ true = x.whole in let z : not true ≡ true = ap not (sym cut) ∙ y in cc)
+      whole Dgram e x = (let y : not (truncated (take (recv_size c) m)) ≡ true = x.whole in let z : not true ≡ true = ap not (sym cut) ∙ y in cc)
 
   -- 5 s after the send no exchange is open
-  late_match : (r' : Request) (v : Via) (s p id : ℕ) (message : Octets) → v ≡ Dgram → Matches c r' v s p 0 id message (sent_history r o) (Datagram 0 m) (answered_history 5000000) → ⊥
+  late_match : (r' : Request) (v : Via) (s p id : ℕ) (message : Octets) → v ≡ Dgram → Matches c r' v s p 0 id message (sent_history r o) (Datagram 0 m) (answered_history (read_timeout c)) → ⊥
   unfolding read_timeout
   late_match r' Dgram s p id message e x =
-      let f = only_send r r' o x.comes.is_open.octets p id 5000000 x.comes.is_open.sent in
-      absurd (omega (arith, f.2))
+      let f = only_send c r r' o x.comes.is_open.octets p id (now (answered_history (read_timeout c))) x.comes.is_open.sent in
+      absurd (let lt = f.2 in grind (arith))
   late_match r' Stream s p id message e x = absurd (cc)
 
-  pub too_late : Right c s (taken 5000000 r o m) → ⊥
+  pub too_late : Right c s (taken c (read_timeout c) r o m) → ⊥
   too_late h =
-      let f = is_here 5000000 (unmarked c s 0 (take 2000 m) _ _ _ refl h.1.1.0.outs.1.0.1) in
-      late_match f.request f.via f.server f.place f.id (take 2000 m) (matched f.request f.via f.server f.place f.id (Datagram 0 m) (answered_history 5000000) (take 2000 m) f.matches).0 f.matches
+      let f = is_here (read_timeout c) (unmarked c s 0 (take (recv_size c) m) _ _ _ refl h.1.1.0.outs.1.0.1) in
+      late_match f.request f.via f.server f.place f.id (take (recv_size c) m) (matched f.request f.via f.server f.place f.id (Datagram 0 m) (answered_history (read_timeout c)) (take (recv_size c) m) f.matches).0 f.matches
 
   -- place 0 was closed, and the next one opens
   abbrev pub closed_history : History
@@ -162,7 +167,7 @@ module _ (c : Conf) (s : Settings) (r : Request) (o m : Octets) where
   -- no place but 0 was sent anything, and that is closed
   closed_match : (r' : Request) (v : Via) (s p id : ℕ) (h : History) → IsOpen c r' v s p 0 id closed_history h → ⊥
   closed_match r' Dgram s p id h x =
-      let f = only_send r r' o x.octets p id _ x.sent in
+      let f = only_send c r r' o x.octets p id _ x.sent in
       let e : stand 0 closed_history ≡ Alive = subst (λ p. stand p closed_history ≡ Alive) f.0 x.stands.alive in
       absurd (cc)
   closed_match r' Stream s p id h x = (let z = x.stands.at in let y = x.stands.alive in grind (arith, nat_tests))
@@ -170,15 +175,15 @@ module _ (c : Conf) (s : Settings) (r : Request) (o m : Octets) where
   abbrev late_history : History
   late_history = Came (record { moment = record { 0 = 5000001 }; what = Datagram 0 m }) ∷ closed_history
 
-  not_there : OkIsRight c s 0 (take 2000 m) closed_history (Datagram 0 m) late_history → ⊥
+  not_there : OkIsRight c s 0 (take (recv_size c) m) closed_history (Datagram 0 m) late_history → ⊥
   not_there (Fresh (InThisRow f) d) = closed_match f.request f.via f.server f.place f.id late_history f.matches.comes.is_open
-  not_there (Fresh (Deferred d (inl z)) g) = none_first z.via z.id (take 2000 m) z.matches.comes.first
-  not_there (Fresh (Deferred d (inr (inl z))) g) = none_first z.via z.id (take 2000 m) z.matches.comes.first
-  not_there (Fresh (Deferred d (inr (inr z))) g) = none_before 0 (take 2000 m) z
+  not_there (Fresh (Deferred d (inl z)) g) = none_first c z.via z.id (take (recv_size c) m) z.matches.comes.first
+  not_there (Fresh (Deferred d (inr (inl z))) g) = none_first c z.via z.id (take (recv_size c) m) z.matches.comes.first
+  not_there (Fresh (Deferred d (inr (inr z))) g) = none_before 0 (take (recv_size c) m) z
   not_there (View v) = (let z : false ≡ true = v.asked_here in absurd (cc))
 
-  pub not_when_closed : Right c s (taken_when_closed r o m) → ⊥
-  not_when_closed h = not_there (unmarked c s 0 (take 2000 m) _ _ _ refl h.1.1.1.0.outs.0.1)
+  pub not_when_closed : Right c s (taken_when_closed c r o m) → ⊥
+  not_when_closed h = not_there (unmarked c s 0 (take (recv_size c) m) _ _ _ refl h.1.1.1.0.outs.0.1)
 
   hasty : 10 < c.timeout → (e : Error) → e ≡ TimedOut → HasCause c s e 0 (sent_history r o) Tick (Put (Close 0) ∷ Came (record { moment = record { 0 = 10 }; what = Tick }) ∷ sent_history r o) → ⊥
   hasty later _ is (Own (Deadline d) g) =
@@ -201,24 +206,24 @@ module _ (c : Conf) (s : Settings) (r : Request) (o m : Octets) where
       let y : Path Asking (record { request = r; moment = 0 }) a = cc in
       let t : 0 ≡ a.moment = ap (λ (x : Asking). x.moment) y in
       absurd (omega arith)
-  in_time pos (PastTries d x) = (let e : sends 0 x.server (sent_history r o) ≡ 6 = x.six in absurd (grind (arith, nat_tests)))
+  in_time pos (PastTries d x) = (let pos = reads_on c in let late = x.old in absurd (omega (arith, pos, late)))
   in_time pos (PastStream d x) = (let z = x.is_begun in absurd (cc))
 
-  read_timeout_pos : 0 < read_timeout
+  read_timeout_pos : 0 < read_timeout c
   unfolding read_timeout
-  read_timeout_pos = omega arith
+  read_timeout_pos = (let pos = reads_on c in omega (arith, pos))
 
-  not_excused : (h : History) → IsExcused 0 (sent_history r o) (Datagram 0 m) (Came (record { moment = record { 0 = 0 }; what = Datagram 0 m }) ∷ sent_history r o) → ⊥
+  not_excused : (h : History) → IsExcused c 0 (sent_history r o) (Datagram 0 m) (Came (record { moment = record { 0 = 0 }; what = Datagram 0 m }) ∷ sent_history r o) → ⊥
   unfolding IsExcused
   not_excused h x = (let z : false ≡ true = x.0 in cc)
 
-  pub passes_over : 0 < length c.servers → 0 < c.timeout → CarriesBy Dgram o r 7 → 12 ≤ length (take 2000 m) → answers r 7 (take 2000 m) ≡ true → truncated (take 2000 m) ≡ false → is_final s r (take 2000 m) ≡ true → Right c s (passed_over r o m) → ⊥
+  pub passes_over : 0 < length c.servers → 0 < c.timeout → CarriesBy c Dgram o r 7 → 12 ≤ length (take (recv_size c) m) → answers r 7 (take (recv_size c) m) ≡ true → truncated (take (recv_size c) m) ≡ false → is_final s r (take (recv_size c) m) ≡ true → Right c s (passed_over r o m) → ⊥
   passes_over some pos carries long agrees whole final h =
       let pos' = read_timeout_pos in
-      let among : IsAmong o (unanswered r 0 0 7 0 (sent_history r o)) = grind (arith, nat_tests) in
+      let among : IsAmong o (unanswered c r 0 0 7 0 (sent_history r o)) = grind (arith, nat_tests) in
       let open_it : IsOpen c r Dgram 0 0 0 7 (sent_history r o) (Came (record { moment = record { 0 = 0 }; what = Datagram 0 m }) ∷ sent_history r o) = record { stands = record { asked = (0, refl); waiting = refl; alive = refl; at = refl; known = some }; octets = o; sent = among; carries = carries } in
-      let come : came 0 (Datagram 0 m) (sent_history r o) ≡ take 2000 m ∷ [] = rw le-leb refl in
-      h.1.1.0.prompt r Dgram 0 0 0 7 (take 2000 m) (record { comes = record { is_open = open_it; first = rw come refl }; agrees = agrees; whole = rw whole refl }) final (in_time pos) (not_excused (sent_history r o))
+      let come : received (recv_size c) (came 0 (Datagram 0 m) (sent_history r o)) ≡ take (recv_size c) m ∷ [] = received_one (recv_size c) m (le-leb 12 (length (take (recv_size c) m)) long) in
+      nothing_given s 0 (take (recv_size c) m) (h.1.1.0.prompt r Dgram 0 0 0 7 (take (recv_size c) m) (record { comes = record { is_open = open_it; first = rw come refl }; agrees = agrees; whole = rw whole refl }) final (in_time pos) (not_excused (sent_history r o)))
 
   pub late : (n : ℕ) → c.timeout ≤ n → Timely c (still_waiting n r o) → ⊥
   late n old h = let lt = h.1.1.0 0 (record { request = r; moment = 0 }) refl refl in absurd (omega arith)
@@ -227,8 +232,8 @@ module _ (c : Conf) (s : Settings) (r : Request) (o m : Octets) where
   may_not_close : (end : History) → replied 0 end ≡ false → MayCloseDgram c 0 (sent_history r o) Tick (Came (record { moment = record { 0 = 1 }; what = Tick }) ∷ sent_history r o) end → ⊥
   unfolding read_timeout
   may_not_close end none (ItsFault e) = absurd (cc)
-  may_not_close end none (ItsAnswer x is a) = none_first Dgram a.id a.message a.comes.first
-  may_not_close end none (ItsTimeout x is late') = (let z : Path (Option Sending) (Some (record { request = 0; moment = 0 })) (Some x) = is in let y : Path Sending (record { request = 0; moment = 0 }) x = cc in let t : 0 ≡ x.moment = ap (λ (x : Sending). x.moment) y in absurd (omega arith))
+  may_not_close end none (ItsAnswer x is a) = none_first c Dgram a.id a.message a.comes.first
+  may_not_close end none (ItsTimeout x is late') = (let z : Path (Option Sending) (Some (record { request = 0; moment = 0 })) (Some x) = is in let y : Path Sending (record { request = 0; moment = 0 }) x = cc in let t : 0 ≡ x.moment = ap (λ (x : Sending). x.moment) y in let pos = reads_on c in absurd (omega (arith, pos, t, late')))
   may_not_close end none (ItsReply x is a) = (let z : Path (Option Sending) (Some (record { request = 0; moment = 0 })) (Some x) = is in let y : Path Sending (record { request = 0; moment = 0 }) x = cc in let t : 0 ≡ x.request = ap (λ (x : Sending). x.request) y in let u : replied 0 end ≡ true = subst (λ k. replied k end ≡ true) (sym t) a.now in let v : true ≡ false = sym u ∙ none in absurd (cc))
   may_not_close end none (ReplyBeforeItsSend x at unsent k b a) = absurd (cc)
   may_not_close end none (InvalidBeforeItsSend x at unsent k a b d e) = absurd (cc)
@@ -250,5 +255,5 @@ module _ (c : Conf) (s : Settings) (r : Request) (o m : Octets) where
   pub at_once : Right c s (sent_at_once r o) → ⊥
   at_once h = (let z = h.1.0.outs.1.0.2.first in absurd (cc))
 
-pub seventh : (c : Conf) (t : Settings) (past : History) (w : What) (h end : History) (p k id s : ℕ) (o : Octets) → is_at Dgram s p h ≡ true → 6 ≤ sends k s h → OutRight c t past w h end (Send p k id o) → ⊥
+pub seventh : (c : Conf) (t : Settings) (past : History) (w : What) (h end : History) (p k id s : ℕ) (o : Octets) → is_at Dgram s p h ≡ true → max_tries c ≤ sends k s h → OutRight c t past w h end (Send p k id o) → ⊥
 seventh c t past w h end p k id s o at all right = let lt = right.1 s at in absurd (omega arith)

@@ -1,9 +1,8 @@
 -- A reply whose mark does not stand before it is right as one that is not marked.
-use Rattle.std.proofs.Common.{◌≡◌, ℕ, true, false, ◌∷◌, arith, ap, ◌∙◌, ◌==◌}
+use Rattle.std.proofs.Common.{◌≡◌, ℕ, true, false, arith, ap, ◌∙◌, ◌==◌}
 use Rattle.std.proofs.lemmas.Bool.Decides.{nat_tests}
 use Rattle.client_request.specs.declared.event.What.{What}
-use Rattle.client_request.specs.declared.event.Out.TheVariants.{Stale}
-use Rattle.right_trace.specs.Trace.{History, Conf, Put}
+use Rattle.right_trace.specs.Trace.{History, Conf}
 use Rattle.right_trace.specs.Messages.{Octets}
 use Rattle.right_trace.specs.Requests.{is_marked}
 use Rattle.right_trace.specs.Settings.{Settings}

@@ -21,21 +21,21 @@ use Rattle.right_trace.specs.Errors.{ByServer, Here, Earlier, HasCause, Own, Kep
 use Rattle.right_trace.specs.Orderly.{MaySend, MayWrite}
 use Rattle.right_trace.specs.Right.{Right}
 use Rattle.proof_right.specs.examples.Wrong.{sent_elsewhere, blamed_unsent, blamed_when_closed}
-use Rattle.proof_right.proofs.Carried.{two_octets, said_id}
+use Rattle.proof_right.proofs.Carried.{two_octets, said_id, announced_header}
 use Rattle.proof_right.proofs.wrong.Dgrams.{asked_history, opened_history, sent_history}
 
 module _ (past h : History) (p k id : ℕ) (o : Octets) where
-  pub sent_after_reply : replied k past ≡ true → MaySend k p id o past h → ⊥
-  sent_after_reply done may = let w = may.waits in absurd (cc)
+  pub sent_after_reply : (c : Conf) → replied k past ≡ true → MaySend c k p id o past h → ⊥
+  sent_after_reply c done may = let w = may.waits in absurd (cc)
 
-  pub written_after_reply : replied k past ≡ true → MayWrite k p id o past h → ⊥
-  written_after_reply done may = let w = may.waits in absurd (cc)
+  pub written_after_reply : (c : Conf) → replied k past ≡ true → MayWrite c k p id o past h → ⊥
+  written_after_reply c done may = let w = may.waits in absurd (cc)
 
-  pub sent_great_id : 65536 ≤ id → MaySend k p id o past h → ⊥
-  sent_great_id great may = let e = said_id o id may.request.header may.carries.0 refl in let f = may.carries.1 in let small = two_octets id in absurd (omega arith)
+  pub sent_great_id : (c : Conf) → 65536 ≤ id → MaySend c k p id o past h → ⊥
+  sent_great_id c great may = let e = said_id o id may.request.header may.carries.0 (announced_header c.transports.dgram_udp_payload_size id may.request) in let f = may.carries.1 in let small = two_octets id in absurd (omega arith)
 
-  pub written_great_id : 65536 ≤ id → MayWrite k p id o past h → ⊥
-  written_great_id great may =
+  pub written_great_id : (c : Conf) → 65536 ≤ id → MayWrite c k p id o past h → ⊥
+  written_great_id c great may =
       let x = may.carries in
       let named = x.named in
       let small = two_octets id in
@@ -52,11 +52,11 @@ abbrev place_of : What → ℕ
 place_of (RecvFailed p f) = p
 place_of _ = 0
 
-told_place : (past : History) (f : Fault) (x : FailedAt (λ p. RecvFailed p f) 0 past (RecvFailed 0 f)) → 0 ≡ x.place
-told_place past f x = ap place_of x.is_told
+told_place : (c : Conf) → (past : History) (f : Fault) (x : FailedAt c (λ p. RecvFailed p f) 0 past (RecvFailed 0 f)) → 0 ≡ x.place
+told_place c past f x = ap place_of x.is_told
 
 -- only an event that tells of a failed reading is a cause of this error
-failed_there : (c : Conf) (past : History) (w : What) (h : History) (f : Fault) → ServerCause c 0 past w h (errors.Dgram (query.Receive f)) → FailedAt (λ p. RecvFailed p f) 0 past w
+failed_there : (c : Conf) (past : History) (w : What) (h : History) (f : Fault) → ServerCause c 0 past w h (errors.Dgram (query.Receive f)) → FailedAt c (λ p. RecvFailed p f) 0 past w
 failed_there c past w h f (NotReceived _ x) = x
 
 not_told : (c : Conf) (past : History) (w : What) (h : History) (f : Fault) → ((p : ℕ) → w ≡ RecvFailed p f → ⊥) → ServerCause c 0 past w h (errors.Dgram (query.Receive f)) → ⊥
@@ -87,8 +87,8 @@ module _ (c : Conf) (s : Settings) (r : Request) where
   unblamed_opened f (inl z) = not_told c [] (Ask r) (asked_history r) f (λ p e. cc) z
   unblamed_opened f (inr z) = unblamed f z
 
-  not_sent_there : (f : Fault) → FailedAt (λ p. RecvFailed p f) 0 (opened_history r) (RecvFailed 0 f) → ⊥
-  not_sent_there f x = subst (λ p. IsOneOf x.send (named p 0 (opened_history r))) (sym (told_place (opened_history r) f x)) x.named_there
+  not_sent_there : (f : Fault) → FailedAt c (λ p. RecvFailed p f) 0 (opened_history r) (RecvFailed 0 f) → ⊥
+  not_sent_there f x = subst (λ p. IsOneOf x.send (named p 0 (opened_history r))) (sym (told_place c (opened_history r) f x)) x.named_there
 
   abbrev failed_unsent : Fault → History
   failed_unsent f = Put (Close 0) ∷ Came (record { moment = record { 0 = 0 }; what = RecvFailed 0 f }) ∷ opened_history r
@@ -108,8 +108,8 @@ module _ (c : Conf) (s : Settings) (r : Request) where
     abbrev dead_history : History
     dead_history = Put (OpenDgram 1 0) ∷ Put (Close 0) ∷ Came (record { moment = record { 0 = 5000000 }; what = Tick }) ∷ sent_history r o
 
-    not_alive : (f : Fault) → FailedAt (λ p. RecvFailed p f) 0 dead_history (RecvFailed 0 f) → ⊥
-    not_alive f x = let e : stand 0 dead_history ≡ Alive = subst (λ p. stand p dead_history ≡ Alive) (sym (told_place dead_history f x)) x.alive in absurd (cc)
+    not_alive : (f : Fault) → FailedAt c (λ p. RecvFailed p f) 0 dead_history (RecvFailed 0 f) → ⊥
+    not_alive f x = let e : stand 0 dead_history ≡ Alive = subst (λ p. stand p dead_history ≡ Alive) (sym (told_place c dead_history f x)) x.alive in absurd (cc)
 
     abbrev failed_dead : Fault → History
     failed_dead f = Came (record { moment = record { 0 = 5000001 }; what = RecvFailed 0 f }) ∷ dead_history

@@ -1,4 +1,5 @@
 -- Traces by stream that are not right.
+use Rattle.proof_right.proofs.Received.{reads_on, waits_on, answers_on}
 use Rattle.std.proofs.Common.{◌≡◌, ◌≢◌, ℕ, zero, suc, ◌+◌, ◌<◌, ◌≤◌, Bool, true, false, ◌&&◌, inl, inr, Option, Some, None, List, [], ◌∷◌, ◌++◌, length, refl, arith, sym, ap, subst, subst₂, ◌∙◌, ◌==◌}
 use Rattle.std.specs.Prelude.{if◌then◌else◌, nat_lt, take, drop, ◌*◌}
 use Rattle.std.specs.Int.{w16, to_be_bytes, from_be_bytes}
@@ -31,7 +32,7 @@ use Rattle.right_trace.specs.Orderly.{MayCloseStream, StreamFault, BadFrame, Rea
 use Rattle.right_trace.specs.Busy.{IsBusy, BreaksOff, OpeningFailed, OpeningFailedAtOnce, IdsAreUsed, ConnectionEnded, Exchanging, PlaceIsOpening, PlacesAreTaken, StreamIsOpening, StreamIsWriting, BackingOff}
 use Rattle.right_trace.specs.Right.{Right, IsOverdue, PastDeadline, PastTries, PastStream}
 use Rattle.proof_right.specs.examples.Wrong.{written, frame_taken, taken_unwritten, frame_passed_over, nothing_written, stream_closed_for_nothing, wrong_without_frame, second_while_opening, second_while_open}
-use Rattle.proof_right.proofs.client.Promptness.{none_first}
+use Rattle.proof_right.proofs.client.Promptness.{none_first, nothing_given}
 use Rattle.proof_right.proofs.wrong.Dgrams.{same_asked}
 use Rattle.proof_right.proofs.wrong.Marks.{unmarked}
 
@@ -74,29 +75,29 @@ one_write true true x y i = (refl, refl)
 one_write true false x y i = absurd i
 one_write false d x y i = absurd i
 
-in_30 : (n s : ℕ) → is_before (now (Came (record { moment = record { 0 = n }; what = Tick }) ∷ [])) (if 0 == s then Some 0 else None) ≡ true → n < stream_timeout
-in_30 n s e = go (0 == s) e
+in_30 : (c : Conf) → (n s : ℕ) → is_before c (now (Came (record { moment = record { 0 = n }; what = Tick }) ∷ [])) (if 0 == s then Some 0 else None) ≡ true → n < stream_timeout c
+in_30 c n s e = go (0 == s) e
   where
-    go : (b : Bool) → is_before (now (Came (record { moment = record { 0 = n }; what = Tick }) ∷ [])) (if b then Some 0 else None) ≡ true → n < stream_timeout
+    go : (b : Bool) → is_before c (now (Came (record { moment = record { 0 = n }; what = Tick }) ∷ [])) (if b then Some 0 else None) ≡ true → n < stream_timeout c
     go true e = grind (arith, nat_tests)
     go false e = absurd (cc)
 
 module _ (c : Conf) (s : Settings) (r : Request) (o : Octets) where
   none_before : (k : ℕ) (x : Octets) → EarlierRow (OfRow (CameFor c k x)) (written_history r o) → ⊥
-  none_before k x (inl z) = none_first z.via z.id x z.matches.comes.first
-  none_before k x (inr (inl z)) = none_first z.via z.id x z.matches.comes.first
+  none_before k x (inl z) = none_first c z.via z.id x z.matches.comes.first
+  none_before k x (inr (inl z)) = none_first c z.via z.id x z.matches.comes.first
   none_before k x (inr (inr z)) = z
 
   is_here : (n : ℕ) (piece m : Octets) → OkIsRight c s 0 m (written_history r o) (Bytes 0 piece) (framed_history r o n piece) → CameFor c 0 m (written_history r o) (Bytes 0 piece) (framed_history r o n piece)
   is_here n piece m (Fresh (InThisRow f) d) = f
-  is_here n piece m (Fresh (Deferred d (inl z)) g) = absurd (none_first z.via z.id m z.matches.comes.first)
+  is_here n piece m (Fresh (Deferred d (inl z)) g) = absurd (none_first c z.via z.id m z.matches.comes.first)
   is_here n piece m (Fresh (Deferred d (inr z)) g) = absurd (none_before 0 m z)
   is_here n piece m (View v) = absurd (let z : false ≡ true = v.asked_here in cc)
 
   pub record IsTheAnswer (n : ℕ) (piece m : Octets) : Type 0 where
     pub first : first_with 7 (fed Length piece).frames ≡ Some m
     pub answers_it : answers r 7 m ≡ true
-    pub early : n < stream_timeout
+    pub early : n < stream_timeout c
 
   matched : (n : ℕ) (piece m : Octets) (r' : Request) (v : Via) (t p id : ℕ) → Matches c r' v t p 0 id m (written_history r o) (Bytes 0 piece) (framed_history r o n piece) → IsTheAnswer n piece m
   matched n piece m r' Dgram t p id x = absurd x.comes.is_open.sent
@@ -108,7 +109,7 @@ module _ (c : Conf) (s : Settings) (r : Request) (o : Octets) where
       let ask : Path (Option Asking) (Some (record { request = r; moment = 0 })) (Some (record { request = r'; moment = x.comes.is_open.stands.asked.0 })) = x.comes.is_open.stands.asked.1 in
       let same : r ≡ r' = same_asked r r' 0 (x.comes.is_open.stands.asked.0) ask in
       let first' : first_with 7 (came 0 (Bytes 0 piece) (written_history r o)) ≡ Some m = subst₂ (λ id p. first_with id (came p (Bytes 0 piece) (written_history r o)) ≡ Some m) (sym under) (sym at) x.comes.first in
-      record { first = first'; answers_it = subst₂ (λ r id. answers r id m ≡ true) (sym same) (sym under) x.agrees; early = in_30 n t i.0 }
+      record { first = first'; answers_it = subst₂ (λ r id. answers r id m ≡ true) (sym same) (sym under) x.agrees; early = in_30 c n t i.0 }
 
   -- what is taken from octets is the first frame with the id, an answer, in time
   pub is_taken : (n : ℕ) (piece m : Octets) → Right c s (frame_taken n r o piece m) → IsTheAnswer n piece m
@@ -128,9 +129,9 @@ module _ (c : Conf) (s : Settings) (r : Request) (o : Octets) where
   pub not_without_an_answer : (piece m : Octets) → answers r 7 m ≡ false → Right c s (frame_taken 1 r o piece m) → ⊥
   not_without_an_answer piece m wrong h = (let z : true ≡ false = sym (is_taken 1 piece m h).answers_it ∙ wrong in cc)
 
-  pub not_past_30 : (piece m : Octets) → Right c s (frame_taken 30000000 r o piece m) → ⊥
+  pub not_past_30 : (piece m : Octets) → Right c s (frame_taken (stream_timeout c) r o piece m) → ⊥
   unfolding stream_timeout
-  not_past_30 piece m h = (let z = (is_taken 30000000 piece m h).early in omega arith)
+  not_past_30 piece m h = (let z = (is_taken (stream_timeout c) piece m h).early in omega arith)
 
   -- nothing is written
   abbrev unwritten_history : Octets → History
@@ -138,13 +139,13 @@ module _ (c : Conf) (s : Settings) (r : Request) (o : Octets) where
 
   none_written : (piece m : Octets) (r' : Request) (v : Via) (t p id : ℕ) → Matches c r' v t p 0 id m (opened_history r) (Bytes 0 piece) (unwritten_history piece) → ⊥
   none_written piece m r' Dgram t p id x = x.comes.is_open.sent
-  none_written piece m r' Stream t p id x = nothing (is_before (now (unwritten_history piece)) (start 0 t Stream (unwritten_history piece))) x.comes.is_open.octets x.comes.is_open.sent
+  none_written piece m r' Stream t p id x = nothing (is_before c (now (unwritten_history piece)) (start 0 t Stream (unwritten_history piece))) x.comes.is_open.octets x.comes.is_open.sent
 
   unwritten : (piece m : Octets) → OkIsRight c s 0 m (opened_history r) (Bytes 0 piece) (unwritten_history piece) → ⊥
   unwritten piece m (Fresh (InThisRow f) d) = none_written piece m f.request f.via f.server f.place f.id f.matches
-  unwritten piece m (Fresh (Deferred d (inl z)) g) = none_first z.via z.id m z.matches.comes.first
-  unwritten piece m (Fresh (Deferred d (inr (inl z))) g) = none_first z.via z.id m z.matches.comes.first
-  unwritten piece m (Fresh (Deferred d (inr (inr (inl z)))) g) = none_first z.via z.id m z.matches.comes.first
+  unwritten piece m (Fresh (Deferred d (inl z)) g) = none_first c z.via z.id m z.matches.comes.first
+  unwritten piece m (Fresh (Deferred d (inr (inl z))) g) = none_first c z.via z.id m z.matches.comes.first
+  unwritten piece m (Fresh (Deferred d (inr (inr (inl z)))) g) = none_first c z.via z.id m z.matches.comes.first
   unwritten piece m (Fresh (Deferred d (inr (inr (inr z)))) g) = z
   unwritten piece m (View v) = (let z : false ≡ true = v.asked_here in cc)
 
@@ -156,7 +157,7 @@ module _ (c : Conf) (s : Settings) (r : Request) (o : Octets) where
   wrong_length a b rest ne is h = (let x = h.1.0.outs.0.1 in ne (length_told a b rest x.request 7 (subst (λ o. CarriesInFrame o x.request 7) is x.carries)))
 
   -- a frame is passed over
-  not_excused : (n : ℕ) (piece : Octets) → IsExcused 0 (written_history r o) (Bytes 0 piece) (framed_history r o n piece) → ⊥
+  not_excused : (n : ℕ) (piece : Octets) → IsExcused c 0 (written_history r o) (Bytes 0 piece) (framed_history r o n piece) → ⊥
   unfolding IsExcused
   not_excused n piece x = (let z : false ≡ true = x.0 in cc)
 
@@ -167,24 +168,24 @@ module _ (c : Conf) (s : Settings) (r : Request) (o : Octets) where
       let y : Path Asking (record { request = r; moment = 0 }) a = cc in
       let t : 0 ≡ a.moment = ap (λ (x : Asking). x.moment) y in
       absurd (omega arith)
-  in_time pos (PastTries d x) = (let e : 0 ≡ 6 = x.six in omega arith)
+  in_time pos (PastTries d x) = (let late = x.old in let pos = reads_on c in let z = x.is_last in absurd (cc))
   in_time pos (PastStream d x) = begun (0 == x.server) x.begun x.is_begun x.passed
     where
-      begun : (b : Bool) (n : ℕ) → (if b then Some 0 else None) ≡ Some n → n + stream_timeout ≤ 1 → ⊥
-      begun true n e le = (let z : 0 ≡ n = cc in omega arith)
+      begun : (b : Bool) (n : ℕ) → (if b then Some 0 else None) ≡ Some n → n + stream_timeout c ≤ 1 → ⊥
+      begun true n e le = (let z : 0 ≡ n = cc in let pos = waits_on c in omega (arith, pos, z, le))
       begun false n e le = cc
 
-  soon : 1 < 0 + stream_timeout
+  soon : 1 < 0 + stream_timeout c
   unfolding stream_timeout
-  soon = omega arith
+  soon = (let pos = waits_on c in omega (arith, pos))
 
   pub passes_over : (piece m : Octets) → 0 < length c.servers → 1 < c.timeout → CarriesInFrame o r 7 → first_with 7 (fed Length piece).frames ≡ Some m → answers r 7 m ≡ true → is_final s r m ≡ true → Right c s (frame_passed_over r o piece) → ⊥
   passes_over piece m some pos carries first agrees final h =
       let lt = soon in
-      let before : nat_lt 1 (0 + stream_timeout) ≡ true = grind (arith, nat_tests) in
-      let among : IsAmong o (if nat_lt 1 (0 + stream_timeout) then o ∷ [] else []) = rw before (inl refl) in
+      let before : nat_lt 1 (0 + stream_timeout c) ≡ true = grind (arith, nat_tests) in
+      let among : IsAmong o (if nat_lt 1 (0 + stream_timeout c) then o ∷ [] else []) = rw before (inl refl) in
       let open_it : IsOpen c r Stream 0 0 0 7 (written_history r o) (framed_history r o 1 piece) = record { stands = record { asked = (0, refl); waiting = refl; alive = refl; at = refl; known = some }; octets = o; sent = among; carries = carries } in
-      h.1.1.0.prompt r Stream 0 0 0 7 m (record { comes = record { is_open = open_it; first = first }; agrees = agrees; whole = refl }) final (in_time pos) (not_excused 1 piece)
+      nothing_given s 0 m (h.1.1.0.prompt r Stream 0 0 0 7 m (record { comes = record { is_open = open_it; first = first }; agrees = agrees; whole = refl }) final (in_time pos) (not_excused 1 piece))
 
   -- nothing is written, and nothing opens or backs off
   few : id_count ≤ 0 → ⊥
@@ -195,14 +196,14 @@ module _ (c : Conf) (s : Settings) (r : Request) (o : Octets) where
   second_opening h = h.0.outs.1.1.0.2.none_opens 0 refl refl
 
   -- a connection that is written at is not closed
-  not_so_soon : 0 + response_timeout < 1 → ⊥
+  not_so_soon : 0 + response_timeout c < 1 → ⊥
   unfolding response_timeout
-  not_so_soon lt = omega arith
+  not_so_soon lt = (let pos = answers_on c in omega (arith, pos, lt))
 
   pub closes_early : Right c s (stream_closed_for_nothing r o) → ⊥
   closes_early h = go h.1.1.0.outs.0.1
     where
-      may : MayCloseStream 0 (written_history r o) Tick (Came (record { moment = record { 0 = 1 }; what = Tick }) ∷ written_history r o) → ⊥
+      may : MayCloseStream c 0 (written_history r o) Tick (Came (record { moment = record { 0 = 1 }; what = Tick }) ∷ written_history r o) → ⊥
       may (StreamFault e) = cc
       may (BadFrame e) = cc
       may (ReadTimer d) = not_so_soon d.passed
@@ -226,7 +227,7 @@ module _ (c : Conf) (s : Settings) (r : Request) (o : Octets) where
       same (suc n) = (let i = same n in let z : is_any (waiting_with [] p n h) ≡ false = ap is_any (none p n) in let y : one_if (is_any (waiting_with [] p n h)) ≡ 0 = ap one_if z in omega arith)
 
   -- a history that ends with no failed opening and no close makes nobody back off
-  no_break : (t : ℕ) (h : History) → ((p : ℕ) (f : Fault) → newest h ≢ OpenFailed p f) → ((p : ℕ) (before : History) → Path History h (Put (Close p) ∷ before) → ⊥) → ((p id : ℕ) → waiting_with [] p id h ≡ []) → BreaksOff t h → ⊥
+  no_break : (t : ℕ) (h : History) → ((p : ℕ) (f : Fault) → newest h ≢ OpenFailed p f) → ((p : ℕ) (before : History) → Path History h (Put (Close p) ∷ before) → ⊥) → ((p id : ℕ) → waiting_with [] p id h ≡ []) → BreaksOff c t h → ⊥
   no_break t h news close none (OpeningFailed e p f before is what at st) = news p f (ap newest is ∙ what)
   no_break t h news close none (OpeningFailedAtOnce p f before is what st) = news p f (ap newest is ∙ what)
   no_break t h news close none (IdsAreUsed p at st le) = none_held t h none p le
@@ -234,7 +235,7 @@ module _ (c : Conf) (s : Settings) (r : Request) (o : Octets) where
 
   idle_busy : IsBusy c 0 (opened_history r) → ⊥
   idle_busy (t, Exchanging r' Dgram u p id b x) = x.sent
-  idle_busy (t, Exchanging r' Stream u p id b x) = nothing (is_before (now (opened_history r)) (start 0 t Stream (opened_history r))) x.octets x.sent
+  idle_busy (t, Exchanging r' Stream u p id b x) = nothing (is_before c (now (opened_history r)) (start 0 t Stream (opened_history r))) x.octets x.sent
   idle_busy (t, PlaceIsOpening p b a o') = cc
   idle_busy (t, PlacesAreTaken b l) = cc
   idle_busy (t, StreamIsOpening p b a o') = grind (arith, nat_tests)
@@ -256,7 +257,7 @@ module _ (c : Conf) (s : Settings) (r : Request) (o : Octets) where
   no_wrong past w h none _ e (SentShort x) = cc
   no_wrong past w h none _ e (NotReceived f x) = cc
   no_wrong past w h none _ e (NoAnswer x) = cc
-  no_wrong past w h none _ e (WrongReply x) = none_first Stream x.id x.message (subst (λ ms. first_with x.id ms ≡ Some x.message) (none x.place) x.comes.first)
+  no_wrong past w h none _ e (WrongReply x) = none_first c Stream x.id x.message (subst (λ ms. first_with x.id ms ≡ Some x.message) (none x.place) x.comes.first)
   no_wrong past w h none _ e (StreamSilence x) = cc
   no_wrong past w h none _ e (NotRead x) = cc
   no_wrong past w h none _ e (NotComposed x) = cc

@@ -16,7 +16,7 @@ use Rattle.right_trace.specs.Validity.{validity_of_message}
 use Rattle.right_trace.specs.Views.{view_of, view_validity}
 use Rattle.right_trace.specs.Replies.{IsView}
 use Rattle.right_trace.specs.Errors.{HasCause}
-use Rattle.right_trace.specs.Trace.{Conf, Came}
+use Rattle.right_trace.specs.Trace.{Conf, Came, first_transports}
 use Rattle.proof_right.specs.examples.Messages.{plain_request, ad_request, cd_request, do_request, as_datagram, as_frame, answer, signed_answer, unsigned_answer}
 use Rattle.right_trace.specs.Settings.{first_settings}
 use Rattle.proof_right.specs.examples.Rows.{at, so_far, by_datagrams}
@@ -48,13 +48,13 @@ refused_twice =
 
 -- nothing is configured
 abbrev pub no_server : Conf
-no_server = record { servers = []; timeout = 5000000 }
+no_server = record { servers = []; timeout = 5000000; transports = first_transports }
 
 pub record WorkedCache : Type 0 where
   pub cacheable : is_cacheable plain_request ≡ true
   pub valid : is_valid plain_request ≡ true
-  pub carried : CarriesBy Dgram (as_datagram 18 52) plain_request 4660
-  pub carried_in_frame : CarriesBy Stream as_frame plain_request 0
+  pub carried : CarriesBy by_datagrams Dgram (as_datagram 18 52) plain_request 4660
+  pub carried_in_frame : CarriesBy by_datagrams Stream as_frame plain_request 0
   pub is_answer : answers plain_request 4660 (answer 18 52 100) ≡ true
   -- an answer of 100 seconds, and its views
   pub valid_for_100 : validity_of_message first_settings (answer 18 52 100) ≡ Some 100000000

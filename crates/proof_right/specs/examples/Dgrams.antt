@@ -1,4 +1,5 @@
 -- A worked request by datagram, and what the definitions compute of it.
+use Rattle.proof_right.specs.examples.Rows.{by_datagrams}
 use Rattle.std.specs.Prelude.{◌≡◌, ℕ, true, false, Some, [], ◌∷◌}
 use Rattle.client_request.specs.Carries.{IsOfOctets}
 use Rattle.client_request.specs.declared.fault.Fault.{Fault}
@@ -50,8 +51,8 @@ pub record WorkedDatagrams : Type 0 where
   pub one_place : live 0 example_history ≡ 1
   pub one_request : demand 0 example_history ≡ 1
   pub one_send : sends 0 0 example_history ≡ 1
-  pub still_open : unanswered plain_request 0 0 4660 20 example_history ≡ as_datagram 18 52 ∷ []
-  pub closed_later : unanswered plain_request 0 0 4660 5000010 example_history ≡ []
+  pub still_open : unanswered by_datagrams plain_request 0 0 4660 20 example_history ≡ as_datagram 18 52 ∷ []
+  pub closed_later : unanswered by_datagrams plain_request 0 0 4660 5000010 example_history ≡ []
   pub comes : came 0 (Datagram 0 (answer_of 101)) example_history ≡ answer_of 101 ∷ []
   pub comes_nowhere : came 0 (Datagram 1 (answer_of 101)) example_history ≡ []
   pub is_answer : answers plain_request 4660 (answer_of 101) ≡ true
@@ -60,13 +61,13 @@ pub record WorkedDatagrams : Type 0 where
   pub another_question : answers plain_request 4660 (answer_of 102) ≡ false
   pub valid : is_valid plain_request ≡ true
   pub in_octets : IsOfOctets plain_request
-  pub carries : CarriesBy Dgram (as_datagram 18 52) plain_request 4660
-  pub may_send : MaySend 0 0 4660 (as_datagram 18 52) asked_example opened_example
-  pub next_try : MaySend 0 1 4660 (as_datagram 18 52) example_history reopened_example
-  pub not_again : MaySend 0 0 4660 (as_datagram 18 52) asked_example example_history → ⊥
-  pub not_where_it_was : MaySend 0 0 4660 (as_datagram 18 52) example_history reopened_example → ⊥
-  pub blamed : (f : Fault) → FailedAt (λ p. RecvFailed p f) 0 example_history (RecvFailed 0 f)
+  pub carries : CarriesBy by_datagrams Dgram (as_datagram 18 52) plain_request 4660
+  pub may_send : MaySend by_datagrams 0 0 4660 (as_datagram 18 52) asked_example opened_example
+  pub next_try : MaySend by_datagrams 0 1 4660 (as_datagram 18 52) example_history reopened_example
+  pub not_again : MaySend by_datagrams 0 0 4660 (as_datagram 18 52) asked_example example_history → ⊥
+  pub not_where_it_was : MaySend by_datagrams 0 0 4660 (as_datagram 18 52) example_history reopened_example → ⊥
+  pub blamed : (f : Fault) → FailedAt by_datagrams (λ p. RecvFailed p f) 0 example_history (RecvFailed 0 f)
   pub was_live : WasLive 0 (Came (record { moment = record { 0 = 5000000 }; what = OpenFailed 0 Refused }) ∷ asked_example)
-  pub not_blamed_elsewhere : (f : Fault) → FailedAt (λ p. RecvFailed p f) 0 example_history (RecvFailed 1 f) → ⊥
-  pub not_blamed_of_another_server : (f : Fault) → FailedAt (λ p. RecvFailed p f) 0 elsewhere_example (RecvFailed 0 f) → ⊥
-  pub not_yet_blamed : (f : Fault) → FailedAt (λ p. RecvFailed p f) 0 opened_example (RecvFailed 0 f) → ⊥
+  pub not_blamed_elsewhere : (f : Fault) → FailedAt by_datagrams (λ p. RecvFailed p f) 0 example_history (RecvFailed 1 f) → ⊥
+  pub not_blamed_of_another_server : (f : Fault) → FailedAt by_datagrams (λ p. RecvFailed p f) 0 elsewhere_example (RecvFailed 0 f) → ⊥
+  pub not_yet_blamed : (f : Fault) → FailedAt by_datagrams (λ p. RecvFailed p f) 0 opened_example (RecvFailed 0 f) → ⊥

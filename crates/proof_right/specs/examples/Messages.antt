@@ -103,3 +103,11 @@ unsigned_answer f = 0 ∷ 0 ∷ 129 ∷ f ∷ 0 ∷ 1 ∷ 0 ∷ 1 ∷ 0 ∷ 0 �
 -- SERVFAIL under id 0, without a question
 abbrev pub failing : Octets
 failing = 0 ∷ 0 ∷ 129 ∷ 130 ∷ 0 ∷ 0 ∷ 0 ∷ 0 ∷ 0 ∷ 0 ∷ 0 ∷ 0 ∷ []
+
+-- SERVFAIL under id 0, with an answer record announced that is not there
+abbrev pub failing_cut_short : Octets
+failing_cut_short = 0 ∷ 0 ∷ 129 ∷ 130 ∷ 0 ∷ 0 ∷ 0 ∷ 1 ∷ 0 ∷ 0 ∷ 0 ∷ 0 ∷ []
+
+-- the name is not there, under id 0
+abbrev pub absent : Octets
+absent = 0 ∷ 0 ∷ 129 ∷ 131 ∷ 0 ∷ 1 ∷ 0 ∷ 0 ∷ 0 ∷ 0 ∷ 0 ∷ 0 ∷ question 1

@@ -1,4 +1,5 @@
 -- A worked row of one server by datagrams whose slots are all taken.
+use Rattle.proof_right.specs.examples.Rows.{by_datagrams}
 use Rattle.std.specs.Prelude.{◌≡◌, false, Some, None, [], ◌∷◌, ◌++◌}
 use Rattle.client_request.specs.declared.event.What.TheVariants.{Datagram}
 use Rattle.client_request.specs.declared.event.Out.TheVariants.{Start, OpenDgram, Close}
@@ -36,7 +37,7 @@ pub record SlotIsGivenOn : Type 0 where
   pub closes : Act Served
   pub opens : Act Served
   pub falls_back : Act Served
-  pub first : Acts 0 100 all_slots_taken closes
-  pub second : Acts 0 closes.place closes.state opens
-  pub third : Acts 0 opens.place opens.state falls_back
+  pub first : Acts by_datagrams 0 100 all_slots_taken closes
+  pub second : Acts by_datagrams 0 closes.place closes.state opens
+  pub third : Acts by_datagrams 0 opens.place opens.state falls_back
   pub outs : closes.outs ++ opens.outs ++ falls_back.outs ≡ Close 0 ∷ OpenDgram 100 0 ∷ Start 0 0 Stream ∷ []

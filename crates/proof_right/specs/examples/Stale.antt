@@ -1,20 +1,21 @@
 -- Worked traces with an expired message: it serves where the server fails, and where it must not or must.
-use Rattle.std.specs.Prelude.{ℕ, ◌++◌, List, [], ◌∷◌, take, Ok, Err}
-use Rattle.client_request.specs.declared.error.Error.{Error}
+use Rattle.std.specs.Prelude.{◌++◌, List, [], ◌∷◌, take, Ok, Err, ◌≡◌, false}
 use Rattle.client_request.specs.declared.error.Error.TheVariants as errors
 use Rattle.client_request.specs.declared.error.QueryError.TheVariants as query
 use Rattle.client_request.specs.declared.fault.Fault.TheVariants.{Refused}
-use Rattle.client_request.specs.declared.event.What.TheVariants.{Ask, OpenFailed}
+use Rattle.client_request.specs.declared.event.What.TheVariants.{Ask, Opened, OpenFailed, Datagram}
 use Rattle.client_request.specs.declared.event.Out.{Out}
-use Rattle.client_request.specs.declared.event.Out.TheVariants.{Start, OpenDgram, Stale, Reply}
+use Rattle.client_request.specs.declared.event.Out.TheVariants.{Start, OpenDgram, Send, Close, Stale, Reply}
 use Rattle.client_request.specs.declared.event.Row.{Row}
 use Rattle.client_request.specs.declared.event.Via.TheVariants.{Dgram}
 use Rattle.right_trace.specs.Messages.{Octets}
 use Rattle.right_trace.specs.Settings.{Settings, first_settings}
-use Rattle.right_trace.specs.Trace.{History, Came, Put}
+use Rattle.right_trace.specs.Trace.{Came, Put, History}
+use Rattle.right_trace.specs.Views.{is_failing_message}
 use Rattle.right_trace.specs.Stale.{IsStale}
-use Rattle.proof_right.specs.examples.Messages.{plain_request, answer}
-use Rattle.proof_right.specs.examples.Rows.{at, so_far, by_datagrams}
+use Rattle.right_trace.specs.Right.{IsGivenSo}
+use Rattle.proof_right.specs.examples.Messages.{plain_request, as_datagram, answer, failing, failing_cut_short, absent}
+use Rattle.proof_right.specs.examples.Rows.{at, so_far, by_datagrams, deferring}
 use Rattle.proof_right.specs.examples.Cache.{asked_again}
 
 -- what has expired serves for an hour
@@ -48,6 +49,48 @@ unmarked_stale message = expired_then (Reply 1 (Ok message) ∷ [])
 -- a mark stands before no reply
 abbrev pub marked_alone : List Row
 marked_alone = expired_then (Stale 1 ∷ Reply 1 (Err (errors.Dgram (query.Connect Refused))) ∷ [])
+
+-- the same, where SERVFAIL and errors are deferred
+abbrev pub deferring_stale : Settings
+deferring_stale = record deferring { stale_for = 3600000000 }
+
+-- the answer of 100 seconds has expired; the request is asked again, sent, and this message comes for it
+abbrev pub heard_then : (message : Octets) → List Out → List Row
+heard_then message outs =
+    take 3 asked_again
+    ++ at 200000000 (Ask plain_request) (Start 1 0 Dgram ∷ OpenDgram 1 0 ∷ [])
+    ∷ at 200000100 (Opened 1) (Send 1 1 0 (as_datagram 0 0) ∷ [])
+    ∷ at 200000200 (Datagram 1 message) outs
+    ∷ []
+
+abbrev pub expired_given : List Out
+expired_given = Close 1 ∷ Stale 1 ∷ Reply 1 (Ok (answer 18 52 30)) ∷ []
+
+-- it is SERVFAIL, and the expired message is given in its place
+abbrev pub stale_for_failing : List Row
+stale_for_failing = heard_then failing expired_given
+
+-- it says that the name is not there, which is no failure
+abbrev pub stale_for_absent : List Row
+stale_for_absent = heard_then absent expired_given
+
+-- it is SERVFAIL, and given itself
+abbrev pub failing_given : List Row
+failing_given = heard_then failing (Close 1 ∷ Reply 1 (Ok failing) ∷ [])
+
+-- it is SERVFAIL without a validity, and that is told
+abbrev pub unread_given : List Row
+unread_given = heard_then failing_cut_short (Close 1 ∷ Reply 1 (Err errors.MessageParseError) ∷ [])
+
+-- what happened when the expired message is given
+abbrev pub heard_up_to_mark : (message : Octets) → History
+heard_up_to_mark message = Put (Stale 1) ∷ Put (Close 1) ∷ Came (record { moment = record { 0 = 200000200 }; what = Datagram 1 message }) ∷ so_far 5 (heard_then message expired_given)
+
+pub record IsServedForFailing : Type 0 where
+  pub stale : IsStale by_datagrams serving_stale 1 (answer 18 52 30) (so_far 5 stale_for_failing) (Datagram 1 failing) (heard_up_to_mark failing)
+  pub given : IsGivenSo serving_stale 1 failing expired_given
+  pub given_itself : IsGivenSo serving_stale 1 failing (Close 1 ∷ Reply 1 (Ok failing) ∷ [])
+  pub not_absent : is_failing_message absent ≡ false
 
 abbrev pub IsServedStale : Type 0
 IsServedStale = IsStale by_datagrams serving_stale 1 (answer 18 52 30) (so_far 4 served_stale) (OpenFailed 1 Refused) (Put (Stale 1) ∷ Came (record { moment = record { 0 = 200000100 }; what = OpenFailed 1 Refused }) ∷ so_far 4 served_stale)

@@ -16,7 +16,7 @@ use Rattle.right_trace.specs.Timers.{quiet, idle, idle_with, ends_loose}
 use Rattle.right_trace.specs.Exchanges.{waited_for}
 use Rattle.right_trace.specs.Busy.{IsBusyAt}
 use Rattle.proof_right.specs.examples.Messages.{plain_request, aaaa_request, as_datagram, frame, as_frame, as_second_frame, last_eleven, answer, cut_answer, empty_answer, second_answer, other_answer, closing_answer, no_header}
-use Rattle.proof_right.specs.examples.Rows.{at, so_far, by_streams}
+use Rattle.proof_right.specs.examples.Rows.{at, so_far, by_streams, by_datagrams}
 
 -- an answer by datagram is cut, so the request goes on by stream; a later datagram for the closed place is nothing
 abbrev pub cut_goes_on : List Row
@@ -84,13 +84,13 @@ pub record WorkedStreams : Type 0 where
   pub waits_for_a_frame : waiting 1 0 (so_far 5 cut_goes_on) ≡ record { request = 0; octets = as_frame; moment = 20002 } ∷ []
   pub unwritten : is_unwritten 1 (so_far 5 cut_goes_on) ≡ true
   pub all_written : is_unwritten 1 (so_far 6 cut_goes_on) ≡ false
-  pub open_for_30_s : waited_for Stream plain_request 0 1 0 0 30019999 [] (so_far 6 cut_goes_on) (so_far 6 cut_goes_on) ≡ as_frame ∷ []
-  pub no_longer : waited_for Stream plain_request 0 1 0 0 30020000 [] (so_far 6 cut_goes_on) (so_far 6 cut_goes_on) ≡ []
+  pub open_for_30_s : waited_for by_datagrams Stream plain_request 0 1 0 0 30019999 [] (so_far 6 cut_goes_on) (so_far 6 cut_goes_on) ≡ as_frame ∷ []
+  pub no_longer : waited_for by_datagrams Stream plain_request 0 1 0 0 30020000 [] (so_far 6 cut_goes_on) (so_far 6 cut_goes_on) ≡ []
   pub frame_comes : came 1 (Bytes 1 (frame (answer 0 0 100))) (so_far 6 cut_goes_on) ≡ answer 0 0 100 ∷ []
   pub frame_answers : answers plain_request 0 (answer 0 0 100) ≡ true
   pub id_is_free : waiting 1 0 (so_far 7 cut_goes_on) ≡ []
   pub quiet_since : quiet 1 (so_far 7 cut_goes_on) ≡ 20004
-  pub first_idle_time : idle 1 (so_far 7 cut_goes_on) ≡ idle_timeout
+  pub first_idle_time : idle by_datagrams 1 (so_far 7 cut_goes_on) ≡ idle_timeout by_datagrams
   pub no_loose_end : ends_loose 1 (so_far 7 cut_goes_on) ≡ false
   -- two on one connection
   pub second_write : writing 0 (so_far 4 two_on_one) ≡ record { wanted = 31; taken = 0; was_free = false; takes = 46; again = true }
@@ -113,6 +113,6 @@ pub record WorkedStreams : Type 0 where
   pub backs_off_too : IsBusyAt by_streams 0 0 (so_far 2 opening_refused)
   -- frames behind an end
   pub says_zero : keepalive_of closing_answer ≡ Some 0
-  pub idle_is_zero : idle_with (closing_answer ∷ []) 0 (so_far 4 frame_behind_the_end) ≡ 0
+  pub idle_is_zero : idle_with by_datagrams (closing_answer ∷ []) 0 (so_far 4 frame_behind_the_end) ≡ 0
   pub nothing_is_held : waiting_with (closing_answer ∷ []) 0 0 (so_far 4 frame_behind_the_end) ≡ []
   pub two_came : came 0 (Bytes 0 (frame closing_answer ++ frame empty_answer)) (so_far 3 frame_behind_the_end) ≡ closing_answer ∷ empty_answer ∷ []

@@ -1,4 +1,5 @@
 -- Traces that no right client makes: of a request that is sent once, at place 0, under id 7; then by stream; then with the cache and with two servers.
+use Rattle.right_trace.specs.Time.{recv_size}
 use Rattle.std.specs.Prelude.{◌≡◌, ℕ, ◌<◌, ◌≤◌, true, false, Some, List, [], ◌∷◌, ◌++◌, length, take, Ok, Err}
 use Rattle.client_request.specs.Request.{Request}
 use Rattle.client_request.specs.declared.error.Error.TheVariants as errors
@@ -38,13 +39,13 @@ abbrev pub nothing_sent : Request → List Row
 nothing_sent r = asked r (at 0 (Opened 0) [] ∷ [])
 
 -- a datagram that comes at this moment is taken for the answer
-abbrev pub taken : ℕ → Request → (octets message : Octets) → List Row
-taken moment r octets message = sent r octets (at moment (Datagram 0 message) (Close 0 ∷ Reply 0 (Ok (take 2000 message)) ∷ []) ∷ [])
+abbrev pub taken : (c : Conf) → ℕ → Request → (octets message : Octets) → List Row
+taken c moment r octets message = sent r octets (at moment (Datagram 0 message) (Close 0 ∷ Reply 0 (Ok (take (recv_size c) message)) ∷ []) ∷ [])
 
 -- the place was closed after 5 s, and a datagram that comes there then is taken for the answer
-abbrev pub taken_when_closed : Request → (octets message : Octets) → List Row
-taken_when_closed r octets message =
-    sent r octets (at 5000000 Tick (Close 0 ∷ OpenDgram 1 0 ∷ []) ∷ at 5000001 (Datagram 0 message) (Reply 0 (Ok (take 2000 message)) ∷ Close 1 ∷ []) ∷ [])
+abbrev pub taken_when_closed : (c : Conf) → Request → (octets message : Octets) → List Row
+taken_when_closed c r octets message =
+    sent r octets (at 5000000 Tick (Close 0 ∷ OpenDgram 1 0 ∷ []) ∷ at 5000001 (Datagram 0 message) (Reply 0 (Ok (take (recv_size c) message)) ∷ Close 1 ∷ []) ∷ [])
 
 -- the request times out after 10 microseconds
 abbrev pub timed_out_early : Request → Octets → List Row
@@ -58,11 +59,11 @@ passed_over r octets message = sent r octets (at 0 (Datagram 0 message) [] ∷ [
 pub record IsItsAnswer (c : Conf) (s : Settings) (r : Request) (octets message : Octets) : Type 0 where
   pub has_server : 0 < length c.servers
   pub has_time : 0 < c.timeout
-  pub carries : CarriesBy Dgram octets r 7
-  pub long : 12 ≤ length (take 2000 message)
-  pub answers_it : answers r 7 (take 2000 message) ≡ true
-  pub whole : truncated (take 2000 message) ≡ false
-  pub final : is_final s r (take 2000 message) ≡ true
+  pub carries : CarriesBy c Dgram octets r 7
+  pub long : 12 ≤ length (take (recv_size c) message)
+  pub answers_it : answers r 7 (take (recv_size c) message) ≡ true
+  pub whole : truncated (take (recv_size c) message) ≡ false
+  pub final : is_final s r (take (recv_size c) message) ≡ true
 
 -- at this moment the request has no reply yet
 abbrev pub still_waiting : ℕ → Request → Octets → List Row

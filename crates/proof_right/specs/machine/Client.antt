@@ -1,5 +1,5 @@
 -- The client above its servers, as small moves on functions: who is handed on, which result is taken, what is stored. It goes any way where nothing that is promised depends on it: which server is next and when, in which order results are taken, what the cache lets go.
-use Rattle.std.specs.Prelude.{◌≡◌, ℕ, suc, ◌+◌, ◌<◌, ◌≤◌, ◌⊎◌, max, ◌==◌, ◌||◌, nat_lt, Bool, true, false, if◌then◌else◌, is_some, Option, Some, None, List, [], ◌∷◌, ◌++◌, length, map, Result, Ok, Err}
+use Rattle.std.specs.Prelude.{◌≡◌, ℕ, suc, ◌+◌, ◌<◌, ◌≤◌, max, ◌==◌, ◌||◌, nat_lt, Bool, true, false, if◌then◌else◌, is_some, Option, Some, None, List, [], ◌∷◌, ◌++◌, length, map, Result, Ok, Err}
 use Rattle.dns_base.specs.Data.{Data}
 use Rattle.client_request.specs.Request.{Request}
 use Rattle.client_request.specs.declared.error.Error.{Error}
@@ -13,11 +13,11 @@ use Rattle.right_trace.specs.Trace.{Conf}
 use Rattle.right_trace.specs.Messages.{Octets}
 use Rattle.right_trace.specs.Requests.{is_ask}
 use Rattle.right_trace.specs.Settings.{Settings}
-use Rattle.right_trace.specs.Keys.{Key, KeysCover, KeyCovers, key_of, is_cacheable, is_do}
-use Rattle.right_trace.specs.Parts.{IsIn, Parts, read_parts, known_parts, Says}
+use Rattle.right_trace.specs.Keys.{Key, KeysCover, KeyCovers, key_of, is_cacheable}
+use Rattle.right_trace.specs.Parts.{IsIn, Parts, known_parts, Says}
 use Rattle.right_trace.specs.Validity.{validity_of_message, waits_for_others}
 use Rattle.right_trace.specs.Views.{tells_of_name, view_of, stale_of, view_validity, IsValidView}
-use Rattle.right_trace.specs.Errors.{is_failure}
+use Rattle.right_trace.specs.Errors.{is_failure, is_failing}
 use Rattle.proof_right.specs.machine.Part.{Post, Act, ServerPart}
 use Rattle.client_request.specs.declared.error.Error.TheVariants as errors
 
@@ -39,11 +39,12 @@ pub record Waiting : Type 0 where
   pub tried : ℕ → Bool
   pub kept_back : List Given
 
--- a result that is to be put out as a reply, and whether it is then stored; or what is put in its place, marked as stale
+-- a result that is to be put out as a reply, what was given before its validity was read, and whether it is then stored; or what is put in its place, marked as stale
 pub record Leaving : Type 0 where
   pub request : ℕ
   pub asked : Request
   pub result : Result Octets Error
+  pub given : Result Octets Error
   pub is_stored : Bool
   pub stale : Option Octets
 
@@ -121,17 +122,17 @@ validity_of s (Err e) = Some s.transport_failure_duration
 
 -- what the cache makes of a result: a message without a validity is no result for a request that it keeps
 abbrev pub outcome_of : (cacheable : Bool) → Option ℕ → (k : ℕ) → Request → Result Octets Error → Leaving
-outcome_of false v k r x = record { request = k; asked = r; result = x; is_stored = false; stale = None }
-outcome_of true (Some n) k r x = record { request = k; asked = r; result = x; is_stored = nat_lt 0 n; stale = None }
-outcome_of true None k r x = record { request = k; asked = r; result = Err errors.MessageParseError; is_stored = false; stale = None }
+outcome_of false v k r x = record { request = k; asked = r; result = x; given = x; is_stored = false; stale = None }
+outcome_of true (Some n) k r x = record { request = k; asked = r; result = x; given = x; is_stored = nat_lt 0 n; stale = None }
+outcome_of true None k r x = record { request = k; asked = r; result = Err errors.MessageParseError; given = x; is_stored = false; stale = None }
 
 abbrev pub outcome : Settings → (k : ℕ) → Request → Result Octets Error → Leaving
 outcome s k r x = outcome_of (is_cacheable r) (validity_of s x) k r x
 
--- What a result becomes: what the cache makes of it; or, where a message has no validity and no cache looks at it, itself.
+-- What a result becomes: what the cache makes of it; or, where a message has no validity, itself: no cache looks at it, or it fails, which is asked before its validity is.
 pub data IsOutcome (s : Settings) (k : ℕ) (r : Request) (x : Result Octets Error) : Leaving → Type 0 where
   Caches : IsOutcome s k r x (outcome s k r x)
-  Passes : (m : Octets) → x ≡ Ok m → validity_of_message s m ≡ None → IsOutcome s k r x (record { request = k; asked = r; result = x; is_stored = false; stale = None })
+  Passes : (m : Octets) → x ≡ Ok m → validity_of_message s m ≡ None → IsOutcome s k r x (record { request = k; asked = r; result = x; given = x; is_stored = false; stale = None })
 
 -- a request leaves with this result
 abbrev pub leave : {U : Type 0} → Leaving → Upper U → Upper U
@@ -147,10 +148,10 @@ store n x es = if x.is_stored then entry_of n x ∷ es else es
 abbrev pub answer : {U : Type 0} → Leaving → Upper U → Upper U
 answer x u = record u { asked = suc u.asked; pending = Tick; leaving = u.leaving ++ x ∷ [] }
 
--- it is failing: an error of a server or of the deadline
-abbrev pub is_failing : Result Octets Error → Bool
-is_failing (Ok m) = false
-is_failing (Err e) = is_failure e
+-- an error of a server or of the deadline
+abbrev pub is_failure_of : Result Octets Error → Bool
+is_failure_of (Ok m) = false
+is_failure_of (Err e) = is_failure e
 
 -- Octets are what an expired entry says for request r at this moment.
 pub record Revived (s : Settings) (now : ℕ) (e : Entry) (r : Request) (y : Octets) : Type 0 where
@@ -167,7 +168,7 @@ pub record Revived (s : Settings) (now : ℕ) (e : Entry) (r : Request) (y : Oct
 
 -- it is put in the place of the result, and nothing is stored
 abbrev pub revive : Octets → Leaving → Leaving
-revive m y = record { request = y.request; asked = y.asked; result = y.result; is_stored = false; stale = Some m }
+revive m y = record { request = y.request; asked = y.asked; result = y.result; given = y.given; is_stored = false; stale = Some m }
 
 -- what is put of a result that leaves
 abbrev pub told_of : (k : ℕ) → Result Octets Error → Option Octets → List Out
@@ -187,10 +188,10 @@ unmade x = record { state = x; outs = [] }
 module _ (c : Conf) (s : Settings) (compose : Request → Result Octets Error) where
   -- How a request may be answered at once: it can't be composed; what is stored serves it; or there is no server.
   pub data AtOnce (now k : ℕ) (stored : List Entry) (r : Request) : Leaving → Type 0 where
-    Refused : (e : Error) → compose r ≡ Err e → AtOnce now k stored r (record { request = k; asked = r; result = Err e; is_stored = false; stale = None })
+    Refused : (e : Error) → compose r ≡ Err e → AtOnce now k stored r (record { request = k; asked = r; result = Err e; given = Err e; is_stored = false; stale = None })
     Viewed : (e : Entry) (m y : Octets) (x : Parts Data) (age : ℕ) → (o : Octets) × (compose r ≡ Ok o) → IsIn e stored → e.result ≡ Ok m → KeyCovers e.under r → e.moment + age ≡ now → IsValidView s e.first r m x age → Says y (view_of e.first r age x)
-        → AtOnce now k stored r (record { request = k; asked = r; result = Ok y; is_stored = false; stale = None })
-    Repeated : (e : Entry) (x : Error) → (o : Octets) × (compose r ≡ Ok o) → IsIn e stored → e.result ≡ Err x → KeyCovers e.under r → now ≤ e.moment + s.transport_failure_duration → AtOnce now k stored r (record { request = k; asked = r; result = Err x; is_stored = false; stale = None })
+        → AtOnce now k stored r (record { request = k; asked = r; result = Ok y; given = Ok y; is_stored = false; stale = None })
+    Repeated : (e : Entry) (x : Error) → (o : Octets) × (compose r ≡ Ok o) → IsIn e stored → e.result ≡ Err x → KeyCovers e.under r → now ≤ e.moment + s.transport_failure_duration → AtOnce now k stored r (record { request = k; asked = r; result = Err x; given = Err x; is_stored = false; stale = None })
     Nowhere : (o : Octets) × (compose r ≡ Ok o) → length c.servers ≡ 0 → AtOnce now k stored r (outcome s k r (Err errors.NoTransportAvailable))
 
   module _ (P : ServerPart c) where
@@ -209,8 +210,8 @@ module _ (c : Conf) (s : Settings) (compose : Request → Result Octets Error) w
           → Move x (unmade (leave z (record x { board = before ++ after })))
       Concludes : (k : ℕ) (a : Waiting) (y : Result Octets Error) (z : Leaving) → x.held k ≡ Some a → ((i : ℕ) → i < length c.servers → a.tried i ≡ true) → ((i : ℕ) → i < length c.servers → P.holds (x.ups i) k ≡ false) → NoneOf k x.board → best a.kept_back ≡ Some y → IsOutcome s k a.request y z
           → Move x (unmade (leave z x))
-      Times_out : (k : ℕ) (a : Waiting) → x.held k ≡ Some a → a.moment + c.timeout ≤ x.now → Move x (unmade (leave (record { request = k; asked = a.request; result = Err errors.TimedOut; is_stored = false; stale = None }) x))
-      Revives : (before after : List Leaving) (y : Leaving) (e : Entry) (m : Octets) → x.leaving ≡ before ++ y ∷ after → is_failing y.result ≡ true → x.expired y.request ≡ Some e → Revived s x.now e y.asked m → Move x (unmade (record x { leaving = before ++ revive m y ∷ after }))
+      Times_out : (k : ℕ) (a : Waiting) → x.held k ≡ Some a → a.moment + c.timeout ≤ x.now → Move x (unmade (leave (record { request = k; asked = a.request; result = Err errors.TimedOut; given = Err errors.TimedOut; is_stored = false; stale = None }) x))
+      Revives : (before after : List Leaving) (y : Leaving) (e : Entry) (m : Octets) → x.leaving ≡ before ++ y ∷ after → is_failing y.given ≡ true → x.expired y.request ≡ Some e → Revived s x.now e y.asked m → Move x (unmade (record x { leaving = before ++ revive m y ∷ after }))
       Replies : (before after : List Leaving) (y : Leaving) → x.leaving ≡ before ++ y ∷ after → Move x (record { state = record x { leaving = before ++ after; stored = store x.now y x.stored }; outs = told_of y.request y.result y.stale })
       Forgets : (before after : List Entry) (e : Entry) → x.stored ≡ before ++ e ∷ after → Move x (unmade (record x { stored = before ++ after }))
       Derives : (e : Entry) (k : Key) → IsIn e x.stored → KeysCover e.under k → Move x (unmade (record x { stored = record e { under = k } ∷ x.stored }))

@@ -7,7 +7,8 @@ use Rattle.client_request.specs.declared.event.What.{What}
 use Rattle.client_request.specs.declared.event.What.TheVariants.{Opened, OpenFailed, SendFailed, ShortSend, Datagram, RecvFailed}
 use Rattle.client_request.specs.declared.event.Out.TheVariants.{OpenDgram, Send, Close}
 use Rattle.client_request.specs.declared.event.Via.TheVariants.{Dgram}
-use Rattle.right_trace.specs.Time.{read_timeout}
+use Rattle.right_trace.specs.Trace.{Conf}
+use Rattle.right_trace.specs.Time.{read_timeout, recv_size, max_places, max_tries}
 use Rattle.right_trace.specs.Messages.{Octets, CarriesBy, answers, truncated, IsComposingFault}
 use Rattle.proof_right.specs.machine.Streams.{Act, Puts, Gives, Nothing}
 use Rattle.right_trace.specs.Updates.{with_at}
@@ -61,21 +62,21 @@ abbrev pub stage_of : Octets → Stage
 stage_of m = if truncated m then Cut else Ending (Ok m)
 
 -- Moves at any time: of server s, at moment n, `next` being the next place.
-pub data Tries (s n next : ℕ) (d : Dgrams) : Act → Dgrams → Type 0 where
-  Opens : (k : ℕ) (a : Tryer) → d.held k ≡ Some a → a.stage ≡ Queued → d.used < 100 → Tries s n next d (Puts (OpenDgram next s)) (try_at next k a d)
-  Retries : (k : ℕ) (a : Tryer) (p id t : ℕ) → d.held k ≡ Some a → a.stage ≡ Sent p id t → t + read_timeout ≤ n → a.tries < 6 → Tries s n next d (Puts (Close p)) (leave p k a Queued d)
-  StopsTrying : (k : ℕ) (a : Tryer) (p id t : ℕ) → d.held k ≡ Some a → a.stage ≡ Sent p id t → t + read_timeout ≤ n → 6 ≤ a.tries → Tries s n next d (Puts (Close p)) (leave p k a (Ending (Err (errors.Dgram query.Timeout))) d)
-  Ends : (k : ℕ) (a : Tryer) (x : Result Octets Error) → d.held k ≡ Some a → a.stage ≡ Ending x → Tries s n next d (Gives k x) (forget k d)
+pub data Tries (c : Conf) (s n next : ℕ) (d : Dgrams) : Act → Dgrams → Type 0 where
+  Opens : (k : ℕ) (a : Tryer) → d.held k ≡ Some a → a.stage ≡ Queued → d.used < max_places c → Tries c s n next d (Puts (OpenDgram next s)) (try_at next k a d)
+  Retries : (k : ℕ) (a : Tryer) (p id t : ℕ) → d.held k ≡ Some a → a.stage ≡ Sent p id t → t + read_timeout c ≤ n → a.tries < max_tries c → Tries c s n next d (Puts (Close p)) (leave p k a Queued d)
+  StopsTrying : (k : ℕ) (a : Tryer) (p id t : ℕ) → d.held k ≡ Some a → a.stage ≡ Sent p id t → t + read_timeout c ≤ n → max_tries c ≤ a.tries → Tries c s n next d (Puts (Close p)) (leave p k a (Ending (Err (errors.Dgram query.Timeout))) d)
+  Ends : (k : ℕ) (a : Tryer) (x : Result Octets Error) → d.held k ≡ Some a → a.stage ≡ Ending x → Tries c s n next d (Gives k x) (forget k d)
 
 -- What an event does at moment n.
-pub data Meets (n : ℕ) (d : Dgrams) : What → Act → Dgrams → Type 0 where
-  IsSent : (k : ℕ) (a : Tryer) (p id : ℕ) (o : Octets) → d.at p ≡ Some k → d.held k ≡ Some a → a.stage ≡ Trying p → CarriesBy Dgram o a.request id → Meets n d (Opened p) (Puts (Send p k id o)) (send_at p id n k a d)
-  CannotBeSent : (k : ℕ) (a : Tryer) (p : ℕ) (e : Error) → d.at p ≡ Some k → d.held k ≡ Some a → a.stage ≡ Trying p → IsComposingFault a.request e → Meets n d (Opened p) (Puts (Close p)) (leave p k a (Ending (Err e)) d)
-  DoesNotOpen : (k : ℕ) (a : Tryer) (p : ℕ) (f : Fault) → d.at p ≡ Some k → d.held k ≡ Some a → a.stage ≡ Trying p → Meets n d (OpenFailed p f) Nothing (leave p k a (Ending (Err (errors.Dgram (query.Connect f)))) d)
-  NotSent : (k : ℕ) (a : Tryer) (p id t : ℕ) (f : Fault) → d.at p ≡ Some k → d.held k ≡ Some a → a.stage ≡ Sent p id t → Meets n d (SendFailed p f) (Puts (Close p)) (leave p k a (Ending (Err (errors.Dgram (query.Send f)))) d)
-  SentShort : (k : ℕ) (a : Tryer) (p id t : ℕ) → d.at p ≡ Some k → d.held k ≡ Some a → a.stage ≡ Sent p id t → Meets n d (ShortSend p) (Puts (Close p)) (leave p k a (Ending (Err (errors.Dgram (query.Send fault.ShortSend)))) d)
-  NotReceived : (k : ℕ) (a : Tryer) (p id t : ℕ) (f : Fault) → d.at p ≡ Some k → d.held k ≡ Some a → a.stage ≡ Sent p id t → Meets n d (RecvFailed p f) (Puts (Close p)) (leave p k a (Ending (Err (errors.Dgram (query.Receive f)))) d)
-  IsAnswered : (k : ℕ) (a : Tryer) (p id t : ℕ) (o : Octets) → d.at p ≡ Some k → d.held k ≡ Some a → a.stage ≡ Sent p id t → 12 ≤ length (take 2000 o) → answers a.request id (take 2000 o) ≡ true → Meets n d (Datagram p o) (Puts (Close p)) (leave p k a (stage_of (take 2000 o)) d)
+pub data Meets (c : Conf) (n : ℕ) (d : Dgrams) : What → Act → Dgrams → Type 0 where
+  IsSent : (k : ℕ) (a : Tryer) (p id : ℕ) (o : Octets) → d.at p ≡ Some k → d.held k ≡ Some a → a.stage ≡ Trying p → CarriesBy c Dgram o a.request id → Meets c n d (Opened p) (Puts (Send p k id o)) (send_at p id n k a d)
+  CannotBeSent : (k : ℕ) (a : Tryer) (p : ℕ) (e : Error) → d.at p ≡ Some k → d.held k ≡ Some a → a.stage ≡ Trying p → IsComposingFault a.request e → Meets c n d (Opened p) (Puts (Close p)) (leave p k a (Ending (Err e)) d)
+  DoesNotOpen : (k : ℕ) (a : Tryer) (p : ℕ) (f : Fault) → d.at p ≡ Some k → d.held k ≡ Some a → a.stage ≡ Trying p → Meets c n d (OpenFailed p f) Nothing (leave p k a (Ending (Err (errors.Dgram (query.Connect f)))) d)
+  NotSent : (k : ℕ) (a : Tryer) (p id t : ℕ) (f : Fault) → d.at p ≡ Some k → d.held k ≡ Some a → a.stage ≡ Sent p id t → Meets c n d (SendFailed p f) (Puts (Close p)) (leave p k a (Ending (Err (errors.Dgram (query.Send f)))) d)
+  SentShort : (k : ℕ) (a : Tryer) (p id t : ℕ) → d.at p ≡ Some k → d.held k ≡ Some a → a.stage ≡ Sent p id t → Meets c n d (ShortSend p) (Puts (Close p)) (leave p k a (Ending (Err (errors.Dgram (query.Send fault.ShortSend)))) d)
+  NotReceived : (k : ℕ) (a : Tryer) (p id t : ℕ) (f : Fault) → d.at p ≡ Some k → d.held k ≡ Some a → a.stage ≡ Sent p id t → Meets c n d (RecvFailed p f) (Puts (Close p)) (leave p k a (Ending (Err (errors.Dgram (query.Receive f)))) d)
+  IsAnswered : (k : ℕ) (a : Tryer) (p id t : ℕ) (o : Octets) → d.at p ≡ Some k → d.held k ≡ Some a → a.stage ≡ Sent p id t → 12 ≤ length (take (recv_size c) o) → answers a.request id (take (recv_size c) o) ≡ true → Meets c n d (Datagram p o) (Puts (Close p)) (leave p k a (stage_of (take (recv_size c) o)) d)
 
 -- the place opens for nobody who is to be sent
 abbrev pub TriesAt : (p : ℕ) → Dgrams → Type 0
@@ -86,11 +87,11 @@ abbrev pub SentAt : (p : ℕ) → Dgrams → Type 0
 SentAt p d = (k : ℕ) × (a : Tryer) × (id : ℕ) × (t : ℕ) × (d.at p ≡ Some k) × (d.held k ≡ Some a) × (a.stage ≡ Sent p id t)
 
 -- the event is about nothing that this server has
-abbrev pub IsIgnored : What → Dgrams → Type 0
-IsIgnored (Opened p) d = TriesAt p d → ⊥
-IsIgnored (OpenFailed p f) d = TriesAt p d → ⊥
-IsIgnored (SendFailed p f) d = SentAt p d → ⊥
-IsIgnored (ShortSend p) d = SentAt p d → ⊥
-IsIgnored (RecvFailed p f) d = SentAt p d → ⊥
-IsIgnored (Datagram p o) d = (k : ℕ) (a : Tryer) (id t : ℕ) → d.at p ≡ Some k → d.held k ≡ Some a → a.stage ≡ Sent p id t → 12 ≤ length (take 2000 o) → answers a.request id (take 2000 o) ≡ false
-IsIgnored _ d = Unit {0}
+abbrev pub IsIgnored : Conf → What → Dgrams → Type 0
+IsIgnored c (Opened p) d = TriesAt p d → ⊥
+IsIgnored c (OpenFailed p f) d = TriesAt p d → ⊥
+IsIgnored c (SendFailed p f) d = SentAt p d → ⊥
+IsIgnored c (ShortSend p) d = SentAt p d → ⊥
+IsIgnored c (RecvFailed p f) d = SentAt p d → ⊥
+IsIgnored c (Datagram p o) d = (k : ℕ) (a : Tryer) (id t : ℕ) → d.at p ≡ Some k → d.held k ≡ Some a → a.stage ≡ Sent p id t → 12 ≤ length (take (recv_size c) o) → answers a.request id (take (recv_size c) o) ≡ false
+IsIgnored c _ d = Unit {0}

@@ -1,5 +1,5 @@
 -- The cache exactly as it is kept beside the moves: which entry is used and stored, and when an asking must be answered from one.
-use Rattle.std.specs.Prelude.{◌≡◌, ℕ, ◌+◌, ◌<◌, ◌≤◌, Bool, true, false, if◌then◌else◌, Option, Some, None, List, Result, Ok, Err}
+use Rattle.std.specs.Prelude.{◌≡◌, ℕ, ◌+◌, ◌<◌, ◌≤◌, Bool, true, false, if◌then◌else◌, Option, Some, None, List, Result, Ok}
 use Rattle.std.specs.Map.{lookup}
 use Rattle.lru.specs.LruCache.{lru_cache, put_entries}
 use Rattle.dns_base.specs.Data.{Data}
@@ -9,13 +9,13 @@ use Rattle.client_request.specs.declared.event.Row.{Row}
 use Rattle.right_trace.specs.Trace.{Conf}
 use Rattle.right_trace.specs.Messages.{Octets}
 use Rattle.right_trace.specs.Settings.{Settings}
+use Rattle.right_trace.specs.Errors.{is_failing}
 use Rattle.right_trace.specs.Keys.{Key, key_of, is_cacheable}
 use Rattle.right_trace.specs.Parts.{Parts, read_parts, known_parts, Says}
 use Rattle.right_trace.specs.Views.{tells_of_name, view_of, view_validity}
 use Rattle.proof_right.specs.machine.Part.{ServerPart}
-use Rattle.proof_right.specs.machine.Client.{Leaving, Entry, Upper, Made, is_failing, Move, Server_moves, Hands_on, Gives_up, Drops, Keeps_back, Delivers, Concludes, Times_out, Revives, Replies, Forgets, Derives, Answers, Takes_on, Moves, Rests, Goes, IsRun, Ends, Goes_on, row_begins}
+use Rattle.proof_right.specs.machine.Client.{Leaving, Entry, Upper, Made, is_failure_of, Move, Server_moves, Hands_on, Gives_up, Drops, Keeps_back, Delivers, Concludes, Times_out, Revives, Replies, Forgets, Derives, Answers, Takes_on, Moves, Rests, Goes, IsRun, Ends, Goes_on, row_begins}
 use Rattle.proof_right.specs.machine.Cache.{Op, AskDoes, after_ops}
-use Rattle.client_request.specs.declared.error.Error.TheVariants as errors
 
 -- what is kept under a key: the first reply, whose it was, and when
 pub record Value : Type 0 where
@@ -86,10 +86,10 @@ module _ (c : Conf) (s : Settings) (compose : Request → Result Octets Error) (
   Cached x _ (Concludes k a y z held tried free none is out) es fs = fs ≡ es
   Cached x _ (Times_out k a held late) es fs = fs ≡ es
   Cached x _ (Revives before after y e m is fails old revived) es fs = fs ≡ es
-  Cached x _ (Replies before after y is) es fs = (fs ≡ (if y.is_stored then put_entries eq (lru_cache es cap) (key_of y.asked) (value_of x.now y) else es)) × (y.stale ≡ None → is_failing y.result ≡ true → MayRevive s x.now y.asked (x.expired y.request) → ⊥)
+  Cached x _ (Replies before after y is) es fs = (fs ≡ (if y.is_stored then put_entries eq (lru_cache es cap) (key_of y.asked) (value_of x.now y) else es)) × (y.stale ≡ None → is_failing y.given ≡ true → MayRevive s x.now y.asked (x.expired y.request) → ⊥)
   Cached x _ (Forgets before after e is) es fs = fs ≡ es
   Cached x _ (Derives e k j covers) es fs = fs ≡ es
-  Cached x _ (Answers r y pend at) es fs = Looks r es fs × ((o : Octets) → compose r ≡ Ok o → OwnServes r x.now es (λ v. ServedBy v r x.now y.result)) × OwnMessage r es (λ v. is_failing y.result ≡ false)
+  Cached x _ (Answers r y pend at) es fs = Looks r es fs × ((o : Octets) → compose r ≡ Ok o → OwnServes r x.now es (λ v. ServedBy v r x.now y.result)) × OwnMessage r es (λ v. is_failure_of y.result ≡ false)
   Cached x _ (Takes_on r o old pend composed lt there) es fs = Looks r es fs × OwnServes r x.now es (λ v. ⊥) × OwnMessage r es (λ v. old ≡ Some (entry_under (key_of r) v))
 
   abbrev pub AllCached : (x : Upper P.State) (d : Made P.State) → Moves c s compose P x d → (es fs : List (Key × Value)) → Type 0

@@ -14,7 +14,6 @@ use Rattle.right_trace.specs.Trace.{Use, Conf}
 use Rattle.right_trace.specs.Frames.{fed}
 use Rattle.right_trace.specs.Orderly.{use_at}
 use Rattle.proof_right.specs.machine.Streams.{Puts, Gives, Nothing, Asker, Conn, Multi, end_at, begin_row, fed_by, set_conn, IsForeign, TakesFrame}
-use Rattle.right_trace.specs.Updates.{with_at}
 use Rattle.proof_right.specs.machine.Dgrams.{Tryer, Dgrams, IsIgnored, forget}
 use Rattle.proof_right.specs.machine.Server.{Server, no_request}
 use Rattle.proof_right.specs.machine.Part.{Post, Act, ServerPart}
@@ -88,24 +87,24 @@ pub data Settles (s n next : ℕ) (u : Served) (x : multi.Act) : Act Served → 
   WithResult : (k : ℕ) (a : Tryer) (y : Result Octets Error) → u.server.by_dgram.held k ≡ Some a → a.stage ≡ dgrams.Ending y → Settles s n next u x (record { state = has_moved (record u.server { by_dgram = forget k u.server.by_dgram }) u; place = place_after x next; outs = outs_of x; posts = record { request = k; result = y } ∷ [] })
 
 -- no request is at one of its timeouts
-pub record IsInTime (n : ℕ) (v : Server) : Type 0 where
-  pub sent : (k : ℕ) (a : Tryer) (p id t : ℕ) → v.by_dgram.held k ≡ Some a → a.stage ≡ dgrams.Sent p id t → n < t + read_timeout
-  pub asked : (k : ℕ) (a : Asker) → v.by_stream.asks k ≡ Some a → n < a.since + stream_timeout
+pub record IsInTime (c : Conf) (n : ℕ) (v : Server) : Type 0 where
+  pub sent : (k : ℕ) (a : Tryer) (p id t : ℕ) → v.by_dgram.held k ≡ Some a → a.stage ≡ dgrams.Sent p id t → n < t + read_timeout c
+  pub asked : (k : ℕ) (a : Asker) → v.by_stream.asks k ≡ Some a → n < a.since + stream_timeout c
 
 -- A move of its own: a timer or what is owed; the event, once no request is at its timeout; a frame.
-pub data Acts (s next : ℕ) (u : Served) : Act Served → Type 0 where
-  ByDgram : (x : multi.Act) (d : Dgrams) (a : Act Served) → dgrams.Tries s u.clock next u.server.by_dgram x d → Settles s u.clock next (has_moved (record u.server { by_dgram = d }) u) x a → Acts s next u a
-  ByStream : (x : multi.Act) (m : Multi) → multi.Moves s u.clock next u.server.by_stream x m → Acts s next u (does (has_moved (record u.server { by_stream = m }) u) next x)
+pub data Acts (c : Conf) (s next : ℕ) (u : Served) : Act Served → Type 0 where
+  ByDgram : (x : multi.Act) (d : Dgrams) (a : Act Served) → dgrams.Tries c s u.clock next u.server.by_dgram x d → Settles s u.clock next (has_moved (record u.server { by_dgram = d }) u) x a → Acts c s next u a
+  ByStream : (x : multi.Act) (m : Multi) → multi.Moves c s u.clock next u.server.by_stream x m → Acts c s next u (does (has_moved (record u.server { by_stream = m }) u) next x)
   -- a request whose answer was cut goes on by stream, before the row ends
-  FallsBack : (k : ℕ) (a : Tryer) → u.server.by_dgram.held k ≡ Some a → a.stage ≡ dgrams.Cut → Acts s next u (does (has_moved (server.falls_back k u.clock a u.server) u) next (Puts (Start k s Stream)))
-  TellsDgrams : (x : multi.Act) (d : Dgrams) (a : Act Served) → u.taken ≡ false → IsInTime u.clock u.server → dgrams.Meets u.clock u.server.by_dgram u.pending x d → IsForeign u.pending u.server.by_stream → Settles s u.clock next (has_taken_it (record u.server { by_dgram = d }) u) x a → Acts s next u a
-  TellsStreams : (x : multi.Act) (m : Multi) → u.taken ≡ false → ((p : ℕ) (o : Octets) → u.pending ≢ Bytes p o) → multi.Takes u.clock u.server.by_stream u.pending x m → IsIgnored u.pending u.server.by_dgram → Acts s next u (does (has_taken_it (record u.server { by_stream = m }) u) next x)
-  Reads : (p : ℕ) (o : Octets) (x : Conn) → u.taken ≡ false → u.pending ≡ Bytes p o → u.server.by_stream.conns p ≡ Some x → Acts s next u (does (reads_at p (fed x.got o).frames (set_conn p (fed_by o x) u.server.by_stream) u) next Nothing)
-  TakesOne : (f : Octets) (fs : List Octets) (x : multi.Act) (m : Multi) → u.frames ≡ f ∷ fs → IsInTime u.clock u.server → TakesFrame u.clock u.place f u.server.by_stream x m → Acts s next u (does (frames_left fs m u) next x)
+  FallsBack : (k : ℕ) (a : Tryer) → u.server.by_dgram.held k ≡ Some a → a.stage ≡ dgrams.Cut → Acts c s next u (does (has_moved (server.falls_back k u.clock a u.server) u) next (Puts (Start k s Stream)))
+  TellsDgrams : (x : multi.Act) (d : Dgrams) (a : Act Served) → u.taken ≡ false → IsInTime c u.clock u.server → dgrams.Meets c u.clock u.server.by_dgram u.pending x d → IsForeign u.pending u.server.by_stream → Settles s u.clock next (has_taken_it (record u.server { by_dgram = d }) u) x a → Acts c s next u a
+  TellsStreams : (x : multi.Act) (m : Multi) → u.taken ≡ false → ((p : ℕ) (o : Octets) → u.pending ≢ Bytes p o) → multi.Takes c u.clock u.server.by_stream u.pending x m → IsIgnored c u.pending u.server.by_dgram → Acts c s next u (does (has_taken_it (record u.server { by_stream = m }) u) next x)
+  Reads : (p : ℕ) (o : Octets) (x : Conn) → u.taken ≡ false → u.pending ≡ Bytes p o → u.server.by_stream.conns p ≡ Some x → Acts c s next u (does (reads_at p (fed x.got o).frames (set_conn p (fed_by o x) u.server.by_stream) u) next Nothing)
+  TakesOne : (f : Octets) (fs : List Octets) (x : multi.Act) (m : Multi) → u.frames ≡ f ∷ fs → IsInTime c u.clock u.server → TakesFrame u.clock u.place f u.server.by_stream x m → Acts c s next u (does (frames_left fs m u) next x)
   -- an answer that says an idle time of 0: the place is closed first, and the frames behind it are dropped
-  ClosesFirst : (f : Octets) (fs : List Octets) (k : ℕ) (y : Result Octets Error) (m : Multi) (x : Conn) (since : ℕ) → u.frames ≡ f ∷ fs → IsInTime u.clock u.server → TakesFrame u.clock u.place f u.server.by_stream (Gives k y) m → m.conns u.place ≡ Some x → x.mode ≡ multi.Idle since → since + x.idle ≤ u.clock
+  ClosesFirst : (f : Octets) (fs : List Octets) (k : ℕ) (y : Result Octets Error) (m : Multi) (x : Conn) (since : ℕ) → u.frames ≡ f ∷ fs → IsInTime c u.clock u.server → TakesFrame u.clock u.place f u.server.by_stream (Gives k y) m → m.conns u.place ≡ Some x → x.mode ≡ multi.Idle since → since + x.idle ≤ u.clock
       → ((j : ℕ) (a : Asker) → m.asks j ≡ Some a → a.phase ≡ multi.Lined u.place → 0 < x.left)
-      → Acts s next u (record { state = frames_left [] (end_at u.place m) u; place = next; outs = Close u.place ∷ []; posts = record { request = k; result = y } ∷ [] })
+      → Acts c s next u (record { state = frames_left [] (end_at u.place m) u; place = next; outs = Close u.place ∷ []; posts = record { request = k; result = y } ∷ [] })
 
 -- a request is handed to it
 pub data Starts (c : Conf) (s next k : ℕ) (r : Request) (u : Served) : Act Served → Type 0 where
@@ -116,12 +115,12 @@ pub data Cancels (s next k : ℕ) (u : Served) : Act Served → Type 0 where
   IsGivenUp : (x : multi.Act) (v : Server) → server.IsGivenUp s u.clock k u.server x v → Cancels s next k u (does (has_moved v u) next x)
 
 -- Nothing is due, nothing is owed, all frames are taken, and the event is taken or names no place of its own.
-pub record RestsNow (u : Served) : Type 0 where
-  pub rests : server.Rests u.clock u.server
+pub record RestsNow (c : Conf) (u : Served) : Type 0 where
+  pub rests : server.Rests c u.clock u.server
   pub frames : u.frames ≡ []
-  pub ignored : IsIgnored u.pending u.server.by_dgram
+  pub ignored : IsIgnored c u.pending u.server.by_dgram
   pub foreign : IsForeign u.pending u.server.by_stream
 
 -- One server by datagrams and streams, as a part of a client.
 abbrev pub served : (c : Conf) → ServerPart c
-served c = record { State = Served; fresh = unserved; holds = holds; begin = row_begun; Acts = Acts; Starts = Starts c; Cancels = Cancels; Rests = RestsNow }
+served c = record { State = Served; fresh = unserved; holds = holds; begin = row_begun; Acts = Acts c; Starts = Starts c; Cancels = Cancels; Rests = RestsNow c }

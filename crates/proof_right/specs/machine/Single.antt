@@ -11,7 +11,8 @@ use Rattle.client_request.specs.declared.event.Out.{Out}
 use Rattle.client_request.specs.declared.event.Out.TheVariants.{Start, OpenDgram, Send, Close, Reply}
 use Rattle.client_request.specs.declared.event.Row.{Row}
 use Rattle.client_request.specs.declared.event.Via.TheVariants.{Dgram}
-use Rattle.right_trace.specs.Time.{read_timeout}
+use Rattle.right_trace.specs.Trace.{Conf}
+use Rattle.right_trace.specs.Time.{read_timeout, recv_size, max_places, max_tries}
 use Rattle.right_trace.specs.Messages.{Octets, answers, under}
 use Rattle.right_trace.specs.Updates.{with_at}
 
@@ -110,19 +111,19 @@ pub record Pick : Type 0 where
   pub place : Option ℕ
 
 -- its request is held so, and it is due
-pub record IsDue (timeout : ℕ) (s : State) (x : Pick) : Type 0 where
+pub record IsDue (c : Conf) (s : State) (x : Pick) : Type 0 where
   pub held : s.held x.request ≡ Some x.held
-  pub deadline : x.place ≡ None → x.held.moment + timeout ≤ s.now
-  pub reading : (p : ℕ) → x.place ≡ Some p → (id : ℕ) × (t : ℕ) × (x.held.stage ≡ Sent p id t) × (t + read_timeout ≤ s.now)
+  pub deadline : x.place ≡ None → x.held.moment + c.timeout ≤ s.now
+  pub reading : (p : ℕ) → x.place ≡ Some p → (id : ℕ) × (t : ℕ) × (x.held.stage ≡ Sent p id t) × (t + read_timeout c ≤ s.now)
 
 -- no timer of a request is due
-pub record DueLater (timeout : ℕ) (now : ℕ) (a : Held) : Type 0 where
-  pub deadline : now < a.moment + timeout
-  pub reading : (p id t : ℕ) → a.stage ≡ Sent p id t → now < t + read_timeout
+pub record DueLater (c : Conf) (now : ℕ) (a : Held) : Type 0 where
+  pub deadline : now < a.moment + c.timeout
+  pub reading : (p id t : ℕ) → a.stage ≡ Sent p id t → now < t + read_timeout c
 
 -- no timer is due
-abbrev pub Quiet : (timeout : ℕ) → State → Type 0
-Quiet timeout s = (k : ℕ) (a : Held) → s.held k ≡ Some a → DueLater timeout s.now a
+abbrev pub Quiet : (c : Conf) → State → Type 0
+Quiet c s = (k : ℕ) (a : Held) → s.held k ≡ Some a → DueLater c s.now a
 
 abbrev pub remove : ℕ → List ℕ → List ℕ
 remove k [] = []
@@ -135,18 +136,18 @@ expire k Loose s = record { state = forget k s; outs = Reply k (Err errors.Timed
 expire k (Trying p) s = then_do (record { state = lose p k s; outs = Reply k (Err errors.TimedOut) ∷ Close p ∷ [] }) give
 expire k (Sent p id t) s = then_do (record { state = lose p k s; outs = Reply k (Err errors.TimedOut) ∷ Close p ∷ [] }) give
 
--- the read timer of request k at p: the next try, or after six its reply
-abbrev pub act_at : Option ℕ → (k : ℕ) → Held → State → Done
-act_at None k a s = expire k a.stage s
-act_at (Some p) k a s = if nat_lt a.tries 6 then retry p k a s else finish p k a (Err (errors.Dgram query.Timeout)) s
+-- the read timer of request k at p: the next try, or after the last its reply
+abbrev pub act_at : Conf → Option ℕ → (k : ℕ) → Held → State → Done
+act_at c None k a s = expire k a.stage s
+act_at c (Some p) k a s = if nat_lt a.tries (max_tries c) then retry p k a s else finish p k a (Err (errors.Dgram query.Timeout)) s
 
-abbrev pub act : Pick → State → Done
-act x s = act_at x.place x.request x.held s
+abbrev pub act : Conf → Pick → State → Done
+act c x s = act_at c x.place x.request x.held s
 
 -- timers that are due fire one after another, until none is
-pub data Fires (timeout : ℕ) : State → Done → Type 0 where
-  Rests : (s : State) → Quiet timeout s → Fires timeout s (nothing s)
-  Fires_one : (s : State) (x : Pick) (d : Done) → IsDue timeout s x → Fires timeout (act x s).state d → Fires timeout s (record { state = d.state; outs = (act x s).outs ++ d.outs })
+pub data Fires (c : Conf) : State → Done → Type 0 where
+  Rests : (s : State) → Quiet c s → Fires c s (nothing s)
+  Fires_one : (s : State) (x : Pick) (d : Done) → IsDue c s x → Fires c (act c x s).state d → Fires c s (record { state = d.state; outs = (act c x s).outs ++ d.outs })
 
 -- What an event does
 
@@ -194,11 +195,11 @@ admit r s = record s { asked = suc s.asked; held = with_at s.asked (Some (newcom
 abbrev pub line_up : (k : ℕ) → Held → State → State
 line_up k a s = record s { held = with_at k (Some (staged a Queued)) s.held; queue = s.queue ++ k ∷ [] }
 
-abbrev pub settle_in : (k : ℕ) → Held → State → Done
-settle_in k a s = if nat_lt s.used 100 then record { state = try k a s; outs = OpenDgram s.opened 0 ∷ [] } else record { state = line_up k a s; outs = [] }
+abbrev pub settle_in : Conf → (k : ℕ) → Held → State → Done
+settle_in c k a s = if nat_lt s.used (max_places c) then record { state = try k a s; outs = OpenDgram s.opened 0 ∷ [] } else record { state = line_up k a s; outs = [] }
 
-abbrev pub enter : Request → State → Done
-enter r s = then_do (record { state = admit r s; outs = Start s.asked 0 Dgram ∷ [] }) (settle_in s.asked (newcomer r s))
+abbrev pub enter : Conf → Request → State → Done
+enter c r s = then_do (record { state = admit r s; outs = Start s.asked 0 Dgram ∷ [] }) (settle_in c s.asked (newcomer r s))
 
 -- a request that is not handed on has its reply at once
 abbrev pub refuse : Error → State → Done
@@ -210,21 +211,21 @@ refusal_of has_server (Err e) = Some e
 refusal_of true (Ok octets) = None
 refusal_of false (Ok octets) = Some errors.NoTransportAvailable
 
-abbrev pub enter_or_refuse : Request → State → Option Error → Done
-enter_or_refuse r s None = enter r s
-enter_or_refuse r s (Some e) = refuse e s
+abbrev pub enter_or_refuse : Conf → Request → State → Option Error → Done
+enter_or_refuse c r s None = enter c r s
+enter_or_refuse c r s (Some e) = refuse e s
 
-module _ (compose : Request → Result Octets Error) (has_server : Bool) where
+module _ (c : Conf) (compose : Request → Result Octets Error) (has_server : Bool) where
   abbrev pub opened_at : (p id : ℕ) → Stage → ℕ → Held → State → Done
-  opened_at p id (Trying q) k a s = send_composed p id k a s (compose (under id a.request))
+  opened_at p id (Trying q) k a s = send_composed p id k a s (compose (under c id a.request))
   opened_at p id _ k a s = nothing s
 
   -- an event's content; a request that is sent gets this id
   abbrev pub content : What → (id : ℕ) → State → Done
-  content (Ask r) id s = enter_or_refuse r s (refusal_of has_server (compose r))
+  content (Ask r) id s = enter_or_refuse c r s (refusal_of has_server (compose r))
   content (Opened p) id s = with_owner (λ k a. opened_at p id a.stage k a) (s.at p) s
   content (OpenFailed p f) id s = with_owner (λ k a. failed_at p (errors.Dgram (query.Connect f)) a.stage k a) (s.at p) s
-  content (Datagram p o) id s = with_owner (λ k a. message_at p (take 2000 o) a.stage k a) (s.at p) s
+  content (Datagram p o) id s = with_owner (λ k a. message_at p (take (recv_size c) o) a.stage k a) (s.at p) s
   content (SendFailed p f) id s = with_owner (λ k a. broken_at p (errors.Dgram (query.Send f)) a.stage k a) (s.at p) s
   content (ShortSend p) id s = with_owner (λ k a. broken_at p (errors.Dgram (query.Send fault.ShortSend)) a.stage k a) (s.at p) s
   content (RecvFailed p f) id s = with_owner (λ k a. broken_at p (errors.Dgram (query.Receive f)) a.stage k a) (s.at p) s
@@ -233,19 +234,18 @@ module _ (compose : Request → Result Octets Error) (has_server : Bool) where
   abbrev pub clock : ℕ → State → State
   clock moment s = record s { now = max moment s.now }
 
-  module _ (timeout : ℕ) where
-    -- A row: timers fire, the event happens, and timers fire again. An id has 16 bits (RFC 1035 4.1.1).
-    pub record IsStep (s : State) (row : Row) (s' : State) : Type 0 where
-      pub id : ℕ
-      pub small : id < 65536
-      pub first : Done
-      pub fires : Fires timeout (clock row.event.moment.0 s) first
-      pub last : Done
-      pub fires_again : Fires timeout (content row.event.what id first.state).state last
-      pub outs : row.outs ≡ first.outs ++ (content row.event.what id first.state).outs ++ last.outs
-      pub leaves : s' ≡ last.state
+  -- A row: timers fire, the event happens, and timers fire again. An id has 16 bits (RFC 1035 4.1.1).
+  pub record IsStep (s : State) (row : Row) (s' : State) : Type 0 where
+    pub id : ℕ
+    pub small : id < 65536
+    pub first : Done
+    pub fires : Fires c (clock row.event.moment.0 s) first
+    pub last : Done
+    pub fires_again : Fires c (content row.event.what id first.state).state last
+    pub outs : row.outs ≡ first.outs ++ (content row.event.what id first.state).outs ++ last.outs
+    pub leaves : s' ≡ last.state
 
-    -- rows, one after another
-    pub data IsRun : State → List Row → Type 0 where
-      Ends : (s : State) → IsRun s []
-      Goes_on : (s : State) (row : Row) (s' : State) (rows : List Row) → IsStep s row s' → IsRun s' rows → IsRun s (row ∷ rows)
+  -- rows, one after another
+  pub data IsRun : State → List Row → Type 0 where
+    Ends : (s : State) → IsRun s []
+    Goes_on : (s : State) (row : Row) (s' : State) (rows : List Row) → IsStep s row s' → IsRun s' rows → IsRun s (row ∷ rows)

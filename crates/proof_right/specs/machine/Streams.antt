@@ -7,6 +7,7 @@ use Rattle.client_request.specs.declared.event.What.{What}
 use Rattle.client_request.specs.declared.event.What.TheVariants.{Opened, OpenFailed, SendFailed, ShortSend, RecvFailed, Wrote, Bytes}
 use Rattle.client_request.specs.declared.event.Out.{Out}
 use Rattle.client_request.specs.declared.event.Out.TheVariants.{OpenStream, Write, Resume, Close}
+use Rattle.right_trace.specs.Trace.{Conf}
 use Rattle.right_trace.specs.Time.{response_timeout, idle_timeout, stream_timeout, back_off, id_count, all_ids, count_below}
 use Rattle.right_trace.specs.Messages.{Octets, CarriesInFrame, answers, is_valid, id_in, keepalive_of}
 use Rattle.right_trace.specs.Places.{is_told}
@@ -56,8 +57,8 @@ pub record Multi : Type 0 where
 abbrev pub no_connection : Multi
 no_connection = record { asks = λ k. None; conns = λ p. None; opening = None; calm = 0 }
 
-abbrev pub new_conn : Conn
-new_conn = record { ids = λ id. None; left = 0; idle = idle_timeout; mode = New; got = Length; heard = false }
+abbrev pub new_conn : Conf → Conn
+new_conn c = record { ids = λ id. None; left = 0; idle = idle_timeout c; mode = New; got = Length; heard = false }
 
 -- what a move does: it puts something out, gives a request its result, or neither
 pub data Act : Type 0 where
@@ -97,8 +98,8 @@ abbrev pub expected : Phase → Phase → Phase
 expected to Expecting = to
 expected to x = x
 
-abbrev pub open_at : (p : ℕ) → Multi → Multi
-open_at p m = record { asks = λ k. every (expected Free) (m.asks k); conns = with_at p (Some new_conn) m.conns; opening = None; calm = m.calm }
+abbrev pub open_at : (c : Conf) (p : ℕ) → Multi → Multi
+open_at c p m = record { asks = λ k. every (expected Free) (m.asks k); conns = with_at p (Some (new_conn c)) m.conns; opening = None; calm = m.calm }
 
 abbrev pub not_opened : (calm : ℕ) → Multi → Multi
 not_opened calm m = record { asks = λ k. every (expected Broken) (m.asks k); conns = m.conns; opening = None; calm = calm }
@@ -147,33 +148,33 @@ pub data LeavesMode (m : Multi) (p : ℕ) (x : Conn) (n : ℕ) : Mode → Type 0
   Rests : ((id : ℕ) → x.ids id ≡ None) → LeavesMode m p x n (Idle n)
 
 -- Moves at any time: of server s, at moment n, `next` being the next place.
-pub data Moves (s n next : ℕ) (m : Multi) : Act → Multi → Type 0 where
+pub data Moves (c : Conf) (s n next : ℕ) (m : Multi) : Act → Multi → Type 0 where
   -- a request is handed on
-  Joins : (k : ℕ) (a : Asker) (p : ℕ) (x : Conn) → m.asks k ≡ Some a → a.phase ≡ Free → m.conns p ≡ Some x → Moves s n next m Nothing (move k a (Lined p) m)
-  Expects : (k : ℕ) (a : Asker) (p : ℕ) → m.asks k ≡ Some a → a.phase ≡ Free → m.opening ≡ Some p → Moves s n next m Nothing (move k a Expecting m)
-  Opens : (k : ℕ) (a : Asker) → m.asks k ≡ Some a → a.phase ≡ Free → m.opening ≡ None → ((p : ℕ) (x : Conn) → m.conns p ≡ Some x → IsFull x) → Moves s n next m (Puts (OpenStream next s)) (record (move k a Expecting m) { opening = Some next })
-  Meets : (k : ℕ) (a : Asker) (until : ℕ) → m.asks k ≡ Some a → a.phase ≡ Free → n < m.calm → n < until → until < n + back_off → Moves s n next m Nothing (move k a (BackingOff until) m)
-  BacksOff : (k : ℕ) (a : Asker) (until : ℕ) → m.asks k ≡ Some a → a.phase ≡ Broken → n < until → until < n + back_off → Moves s n next m Nothing (move k a (BackingOff until) m)
+  Joins : (k : ℕ) (a : Asker) (p : ℕ) (x : Conn) → m.asks k ≡ Some a → a.phase ≡ Free → m.conns p ≡ Some x → Moves c s n next m Nothing (move k a (Lined p) m)
+  Expects : (k : ℕ) (a : Asker) (p : ℕ) → m.asks k ≡ Some a → a.phase ≡ Free → m.opening ≡ Some p → Moves c s n next m Nothing (move k a Expecting m)
+  Opens : (k : ℕ) (a : Asker) → m.asks k ≡ Some a → a.phase ≡ Free → m.opening ≡ None → ((p : ℕ) (x : Conn) → m.conns p ≡ Some x → IsFull x) → Moves c s n next m (Puts (OpenStream next s)) (record (move k a Expecting m) { opening = Some next })
+  Meets : (k : ℕ) (a : Asker) (until : ℕ) → m.asks k ≡ Some a → a.phase ≡ Free → n < m.calm → n < until → until < n + back_off → Moves c s n next m Nothing (move k a (BackingOff until) m)
+  BacksOff : (k : ℕ) (a : Asker) (until : ℕ) → m.asks k ≡ Some a → a.phase ≡ Broken → n < until → until < n + back_off → Moves c s n next m Nothing (move k a (BackingOff until) m)
   -- a connection takes a request
   Writes : (k : ℕ) (a : Asker) (p : ℕ) (x : Conn) (id : ℕ) (o : Octets) → m.asks k ≡ Some a → a.phase ≡ Lined p → m.conns p ≡ Some x → x.left ≡ 0 → x.heard ≡ false → x.ids id ≡ None → CarriesInFrame o a.request id → 0 < length o
-      → Moves s n next m (Puts (Write p k id o)) (set_conn p (written_on id k n o x) (move k a (Holding p id) m))
-  CannotWrite : (k : ℕ) (a : Asker) (p : ℕ) (x : Conn) → m.asks k ≡ Some a → a.phase ≡ Lined p → m.conns p ≡ Some x → x.left ≡ 0 → is_valid a.request ≡ false → Moves s n next m Nothing (set_conn p (taken_on n x) (move k a Broken m))
-  FindsNoId : (k : ℕ) (a : Asker) (p : ℕ) (x : Conn) → m.asks k ≡ Some a → a.phase ≡ Lined p → m.conns p ≡ Some x → x.left ≡ 0 → IsFull x → Moves s n next m Nothing (move k a Broken m)
+      → Moves c s n next m (Puts (Write p k id o)) (set_conn p (written_on id k n o x) (move k a (Holding p id) m))
+  CannotWrite : (k : ℕ) (a : Asker) (p : ℕ) (x : Conn) → m.asks k ≡ Some a → a.phase ≡ Lined p → m.conns p ≡ Some x → x.left ≡ 0 → is_valid a.request ≡ false → Moves c s n next m Nothing (set_conn p (taken_on n x) (move k a Broken m))
+  FindsNoId : (k : ℕ) (a : Asker) (p : ℕ) (x : Conn) → m.asks k ≡ Some a → a.phase ≡ Lined p → m.conns p ≡ Some x → x.left ≡ 0 → IsFull x → Moves c s n next m Nothing (move k a Broken m)
   -- timers
-  GoesOn : (k : ℕ) (a : Asker) (until : ℕ) → m.asks k ≡ Some a → a.phase ≡ BackingOff until → until ≤ n → Moves s n next m Nothing (move k a Free m)
-  TimesOut : (k : ℕ) (a : Asker) → m.asks k ≡ Some a → a.since + stream_timeout ≤ n → Moves s n next m (Gives k (Err errors.StreamReadTimeout)) (drop k m)
-  ReadsNothing : (p : ℕ) (x : Conn) (since : ℕ) → m.conns p ≡ Some x → x.mode ≡ Active since → since + response_timeout < n → Moves s n next m (Puts (Close p)) (end_at p m)
-  RestsTooLong : (p : ℕ) (x : Conn) (since : ℕ) → m.conns p ≡ Some x → x.mode ≡ Idle since → since + x.idle ≤ n → ((k : ℕ) (a : Asker) → m.asks k ≡ Some a → a.phase ≡ Lined p → 0 < x.left) → Moves s n next m (Puts (Close p)) (end_at p m)
+  GoesOn : (k : ℕ) (a : Asker) (until : ℕ) → m.asks k ≡ Some a → a.phase ≡ BackingOff until → until ≤ n → Moves c s n next m Nothing (move k a Free m)
+  TimesOut : (k : ℕ) (a : Asker) → m.asks k ≡ Some a → a.since + stream_timeout c ≤ n → Moves c s n next m (Gives k (Err errors.StreamReadTimeout)) (drop k m)
+  ReadsNothing : (p : ℕ) (x : Conn) (since : ℕ) → m.conns p ≡ Some x → x.mode ≡ Active since → since + response_timeout c < n → Moves c s n next m (Puts (Close p)) (end_at p m)
+  RestsTooLong : (p : ℕ) (x : Conn) (since : ℕ) → m.conns p ≡ Some x → x.mode ≡ Idle since → since + x.idle ≤ n → ((k : ℕ) (a : Asker) → m.asks k ≡ Some a → a.phase ≡ Lined p → 0 < x.left) → Moves c s n next m (Puts (Close p)) (end_at p m)
 
 -- What an event does at moment n, but for frames.
-pub data Takes (n : ℕ) (m : Multi) : What → Act → Multi → Type 0 where
-  ItOpens : (p : ℕ) → m.opening ≡ Some p → Takes n m (Opened p) Nothing (open_at p m)
-  ItDoesNotOpen : (p : ℕ) (f : Fault) (calm : ℕ) → m.opening ≡ Some p → calm < n + back_off → Takes n m (OpenFailed p f) Nothing (not_opened calm m)
-  ItFails : (w : What) (p : ℕ) (x : Conn) → m.conns p ≡ Some x → is_told p w ≡ true → Takes n m w (Puts (Close p)) (end_at p m)
-  SomeWritten : (p c : ℕ) (x : Conn) (o : Octets) → m.conns p ≡ Some x → c < x.left → Takes n m (Wrote p c) (Puts (Resume p o)) (set_conn p (wrote_on c x) m)
-  AllWritten : (p c : ℕ) (x : Conn) → m.conns p ≡ Some x → 0 < x.left → x.left ≤ c → Takes n m (Wrote p c) Nothing (set_conn p (wrote_on c x) m)
-  NothingToWrite : (p c : ℕ) (x : Conn) → m.conns p ≡ Some x → x.left ≡ 0 → Takes n m (Wrote p c) Nothing (set_conn p (heard_on x) m)
-  OctetsCome : (p : ℕ) (o : Octets) (x : Conn) → m.conns p ≡ Some x → Takes n m (Bytes p o) Nothing (set_conn p (fed_by o x) m)
+pub data Takes (c : Conf) (n : ℕ) (m : Multi) : What → Act → Multi → Type 0 where
+  ItOpens : (p : ℕ) → m.opening ≡ Some p → Takes c n m (Opened p) Nothing (open_at c p m)
+  ItDoesNotOpen : (p : ℕ) (f : Fault) (calm : ℕ) → m.opening ≡ Some p → calm < n + back_off → Takes c n m (OpenFailed p f) Nothing (not_opened calm m)
+  ItFails : (w : What) (p : ℕ) (x : Conn) → m.conns p ≡ Some x → is_told p w ≡ true → Takes c n m w (Puts (Close p)) (end_at p m)
+  SomeWritten : (p b : ℕ) (x : Conn) (o : Octets) → m.conns p ≡ Some x → b < x.left → Takes c n m (Wrote p b) (Puts (Resume p o)) (set_conn p (wrote_on b x) m)
+  AllWritten : (p b : ℕ) (x : Conn) → m.conns p ≡ Some x → 0 < x.left → x.left ≤ b → Takes c n m (Wrote p b) Nothing (set_conn p (wrote_on b x) m)
+  NothingToWrite : (p b : ℕ) (x : Conn) → m.conns p ≡ Some x → x.left ≡ 0 → Takes c n m (Wrote p b) Nothing (set_conn p (heard_on x) m)
+  OctetsCome : (p : ℕ) (o : Octets) (x : Conn) → m.conns p ≡ Some x → Takes c n m (Bytes p o) Nothing (set_conn p (fed_by o x) m)
 
 -- the event is about nothing that this server has
 abbrev pub IsForeign : What → Multi → Type 0

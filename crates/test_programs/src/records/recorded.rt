@@ -40,6 +40,7 @@ fn recorded(alloc: Global, script: Script, sink: &mut MemSink) -> Result<Option<
         conf,
         redundant,
         cache,
+        transports: _,
         words,
         lanes,
     } = script;

@@ -169,6 +169,7 @@ fn replayed(alloc: Global, sink: &MemSink) -> Result<Vec<u8>, Fail> {
         conf,
         redundant,
         cache,
+        transports: _,
         words,
         lanes,
     } = read_script(alloc, sink.as_slice(), false)?;

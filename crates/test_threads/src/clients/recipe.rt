@@ -64,6 +64,7 @@ fn shared<R: Threads + Wait + Sync>(rt: &R, alloc: Global) -> Option<(usize, usi
         conf,
         redundant,
         cache,
+        transports: _,
         words,
         lanes,
     } = script(alloc)?;

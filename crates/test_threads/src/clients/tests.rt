@@ -106,6 +106,7 @@ fn plays<R: Threads + Wait + Sync>(rt: &R, alloc: Global, scene: Scene) -> Optio
         conf,
         redundant,
         cache,
+        transports: _,
         words,
         lanes,
     } = script(alloc)?;

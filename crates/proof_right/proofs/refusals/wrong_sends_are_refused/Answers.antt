@@ -6,8 +6,8 @@ use Rattle.proof_right.proofs.refusals.wrong_sends_are_refused.Goals as goal
 pub returns : goal.returns
 returns c = record {
   seventh = seventh;
-  replied = sends.sent_after_reply;
-  great_id = sends.sent_great_id;
-  written_when_replied = sends.written_after_reply;
-  written_under_great_id = sends.written_great_id;
+  replied = λ c past h p k id o e. sends.sent_after_reply past h p k id o c e;
+  great_id = λ c past h p k id o e. sends.sent_great_id past h p k id o c e;
+  written_when_replied = λ c past h p k id o e. sends.written_after_reply past h p k id o c e;
+  written_under_great_id = λ c past h p k id o e. sends.written_great_id past h p k id o c e;
 }

@@ -8,6 +8,6 @@ returns c =
     let script = c.args.script.now in
     let rows = c.args.trace.now.rows in
     record {
-      first = if_ok c.first_untimely.result (λ o f. told script.conf.options.timeout (conf_of script.conf) rows c.as_slice.result.now o refl c.as_slice.ensures f) c.first_untimely.ensures;
-      timely = if_ok c.first_untimely.result (λ o f. none_is_timely (conf_of script.conf) rows o (told script.conf.options.timeout (conf_of script.conf) rows c.as_slice.result.now o refl c.as_slice.ensures f)) c.first_untimely.ensures;
+      first = if_ok c.first_untimely.result (λ o f. told script.conf.options.timeout (conf_of script.conf script.transports) rows c.as_slice.result.now o refl c.as_slice.ensures f) c.first_untimely.ensures;
+      timely = if_ok c.first_untimely.result (λ o f. none_is_timely (conf_of script.conf script.transports) rows o (told script.conf.options.timeout (conf_of script.conf script.transports) rows c.as_slice.result.now o refl c.as_slice.ensures f)) c.first_untimely.ensures;
     }

@@ -7,4 +7,4 @@ if_ok (Ok a) f h = f a h
 if_ok (Err x) f h = tt
 
 pub returns-clause-told : goal.returns-clause-told
-returns-clause-told c = let a = c.args in if_ok c.find_failure.result (λ o e. tells_failure a.past.now a.request a.what.now o e) c.find_failure.ensures
+returns-clause-told c = let a = c.args in if_ok c.find_failure.result (λ o e. tells_failure a.conf.now a.past.now a.request a.what.now o e) c.find_failure.ensures

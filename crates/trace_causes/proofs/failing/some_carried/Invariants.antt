@@ -7,5 +7,5 @@ abbrev pub invariant-loop-sent : goal.invariant-loop-sent
 invariant-loop-sent l = record {
   can_next : (goal.iterator-loop-sent).can_next l.sent-iterator;
   is_finite : (goal.iterator-loop-sent).is_finite l.sent-iterator;
-  same : some_carried l.asked l.request l.sent-iterator ≡ some_carried l.asked l.request l.sends;
+  same : some_carried l.conf l.asked l.request l.sent-iterator ≡ some_carried l.conf l.asked l.request l.sends;
 }

@@ -7,5 +7,5 @@ abbrev pub invariant-loop-id : goal.invariant-loop-id
 invariant-loop-id l = record {
   can_next : (goal.iterator-loop-id).can_next l.id-iterator;
   is_finite : (goal.iterator-loop-id).is_finite l.id-iterator;
-  same : has_late l.moment l.frames l.at l.id-iterator ≡ has_late l.moment l.frames l.at l.at;
+  same : has_late l.conf l.moment l.frames l.at l.id-iterator ≡ has_late l.conf l.moment l.frames l.at l.at;
 }

@@ -7,5 +7,5 @@ abbrev pub invariant-loop-written : goal.invariant-loop-written
 invariant-loop-written l = record {
   can_next : (goal.iterator-loop-written).can_next l.written-iterator;
   is_finite : (goal.iterator-loop-written).is_finite l.written-iterator;
-  same : has_old l.moment l.written-iterator ≡ has_old l.moment l.writes;
+  same : has_old l.conf l.moment l.written-iterator ≡ has_old l.conf l.moment l.writes;
 }

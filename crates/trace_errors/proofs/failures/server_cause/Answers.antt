@@ -5,4 +5,4 @@ use Rattle.trace_errors.proofs.failures.server_cause.Goals as goal
 pub returns : goal.returns
 returns c =
     let a = c.args in
-    if_ok c.find.result (λ b t. tells_server a.past.now a.heard.now a.here.now a.what.now a.comings.now a.request a.error b t) c.find.ensures
+    if_ok c.find.result (λ b t. tells_server a.conf.now a.past.now a.heard.now a.here.now a.what.now a.comings.now a.request a.error b t) c.find.ensures

@@ -8,5 +8,5 @@ abbrev pub invariant-loop-sent : goal.invariant-loop-sent
 invariant-loop-sent l = record {
   can_next : (goal.iterator-loop-sent).can_next l.sent-iterator;
   is_finite : (goal.iterator-loop-sent).is_finite l.sent-iterator;
-  same : note_all (λ x. x.request) (λ x. failure l.past x.request l.what) l.sent-iterator l.noted ≡ note_all (λ x. x.request) (λ x. failure l.past x.request l.what) l.sends l.fn.noted;
+  same : note_all (λ x. x.request) (λ x. failure l.conf l.past x.request l.what) l.sent-iterator l.noted ≡ note_all (λ x. x.request) (λ x. failure l.conf l.past x.request l.what) l.sends l.fn.noted;
 }

@@ -9,4 +9,4 @@ if_ok (Err x) f h = tt
 pub returns : goal.returns
 returns c =
     let a = c.args in
-    if_ok c.find.result (λ xs e. tells_coming a.conf.now a.wanted a.past.now a.sent.now a.here.now xs e) c.find.ensures
+    if_ok c.all_coming.result (λ xs e. tells_coming a.conf.now a.wanted a.past.now a.sent.now a.here.now xs e) c.all_coming.ensures

@@ -5,4 +5,4 @@ use Rattle.trace_hits.proofs.Stepping.{Amid}
 use Rattle.trace_hits.proofs.stale.first_missed_stale.Given as goal
 
 abbrev pub invariant-loop-i : goal.invariant-loop-i
-invariant-loop-i l = Amid (Serve l.cache) (KnowFailures l.failures) l.cache l.rows (drop l.i l.rows) l.i l.course
+invariant-loop-i l = Amid (Serve l.cache) (KnowFailures l.cache l.failures) l.cache l.rows (drop l.i l.rows) l.i l.course

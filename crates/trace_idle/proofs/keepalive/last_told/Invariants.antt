@@ -4,4 +4,4 @@ use Rattle.trace_idle.specs.Keepalive.{last_told}
 use Rattle.trace_idle.proofs.keepalive.last_told.Given as goal
 
 abbrev pub invariant-loop-frame : goal.invariant-loop-frame
-invariant-loop-frame l = last_told (drop l.frame-index l.frames) l.last ≡ last_told l.frames l.before
+invariant-loop-frame l = last_told (drop l.frame-index l.frames) l.last ≡ last_told l.frames l.fn.before

@@ -8,7 +8,7 @@ pub returns : goal.returns
 returns c =
     let rules = c.in_ok-rules.rules in
     let script = c.args.script.now in
-    let conf = conf_of script.conf in
+    let conf = conf_of script.conf script.transports in
     let settings = settings_of script.redundant script.cache in
     let es = first_lane script.lanes in
     let rows = c.args.trace.now.rows in

@@ -4,4 +4,4 @@ use Rattle.trace_owed.specs.Owed.{some_sent}
 use Rattle.trace_owed.proofs.owed.some_sent.Given as goal
 
 abbrev pub invariant-loop-sent : goal.invariant-loop-sent
-invariant-loop-sent l = some_sent l.asked l.request l.id l.now (drop l.sent-index l.sends) ≡ some_sent l.asked l.request l.id l.now l.sends
+invariant-loop-sent l = some_sent l.conf l.asked l.request l.id l.now (drop l.sent-index l.sends) ≡ some_sent l.conf l.asked l.request l.id l.now l.sends

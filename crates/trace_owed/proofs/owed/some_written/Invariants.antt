@@ -7,5 +7,5 @@ abbrev pub invariant-loop-written : goal.invariant-loop-written
 invariant-loop-written l = record {
   can_next : (goal.iterator-loop-written).can_next l.written-iterator;
   is_finite : (goal.iterator-loop-written).is_finite l.written-iterator;
-  same : some_written l.asked l.request l.id l.written-iterator ≡ some_written l.asked l.request l.id l.writes;
+  same : some_written l.conf l.asked l.request l.id l.written-iterator ≡ some_written l.conf l.asked l.request l.id l.writes;
 }

@@ -7,5 +7,5 @@ abbrev pub invariant-loop-tried : goal.invariant-loop-tried
 invariant-loop-tried l = record {
   can_next : (goal.iterator-loop-tried).can_next l.tried-iterator;
   is_finite : (goal.iterator-loop-tried).is_finite l.tried-iterator;
-  same : are_up_among l.moment l.past l.tries l.tried-iterator ≡ are_up_among l.moment l.past l.tries l.tries;
+  same : are_up_among l.conf l.moment l.past l.tries l.tried-iterator ≡ are_up_among l.conf l.moment l.past l.tries l.tries;
 }

@@ -7,5 +7,5 @@ abbrev pub invariant-loop-start : goal.invariant-loop-start
 invariant-loop-start l = record {
   can_next : (goal.iterator-loop-start).can_next l.start-iterator;
   is_finite : (goal.iterator-loop-start).is_finite l.start-iterator;
-  same : is_silent_among l.request l.moment l.requests l.heard l.start-iterator ≡ is_silent_among l.request l.moment l.requests l.heard l.starts;
+  same : is_silent_among l.conf l.request l.moment l.requests l.heard l.start-iterator ≡ is_silent_among l.conf l.request l.moment l.requests l.heard l.starts;
 }

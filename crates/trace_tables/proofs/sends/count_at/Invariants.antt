@@ -7,6 +7,6 @@ abbrev pub invariant-loop-tried : goal.invariant-loop-tried
 invariant-loop-tried l = record {
   can_next : (goal.iterator-loop-tried).can_next l.tried-iterator;
   is_finite : (goal.iterator-loop-tried).is_finite l.tried-iterator;
-  few : l.count ≤ 7;
-  same : min 7 (l.count + count_at l.server l.tried-iterator) ≡ min 7 (count_at l.server l.tries);
+  few : l.count ≤ l.most;
+  same : min l.most (l.count + count_at l.server l.tried-iterator) ≡ min l.most (count_at l.server l.tries);
 }

@@ -7,5 +7,5 @@ abbrev pub invariant-loop-request : goal.invariant-loop-request
 invariant-loop-request l = record {
   can_next : (goal.iterator-loop-request).can_next l.request-iterator;
   is_finite : (goal.iterator-loop-request).is_finite l.request-iterator;
-  same : all_busy l.self l.request-iterator ≡ all_busy l.self l.requests;
+  same : all_busy l.self.conf.now l.self l.request-iterator ≡ all_busy l.self.conf.now l.self l.requests;
 }

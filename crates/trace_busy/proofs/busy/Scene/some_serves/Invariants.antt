@@ -7,5 +7,5 @@ abbrev pub invariant-loop-start : goal.invariant-loop-start
 invariant-loop-start l = record {
   can_next : (goal.iterator-loop-start).can_next l.start-iterator;
   is_finite : (goal.iterator-loop-start).is_finite l.start-iterator;
-  same : some_serves l.start-iterator l.self ≡ some_serves l.starts l.self;
+  same : some_serves l.self.conf.now l.request l.start-iterator l.self ≡ some_serves l.self.conf.now l.request l.starts l.self;
 }

@@ -4,5 +4,5 @@ use Rattle.trace_exchanges.specs.Coming.{in_frames}
 use Rattle.trace_exchanges.proofs.coming.Arrival.in_frames.Given as goal
 
 abbrev pub invariant-loop-frame : goal.invariant-loop-frame
-invariant-loop-frame l = l.found ++ in_frames l.self.wanted l.self.past.now l.self.here.now l.self.place l.self.number l.seen (drop l.frame-index l.frames)
-    ≡ l.fn.found ++ in_frames l.self.wanted l.self.past.now l.self.here.now l.self.place l.self.number [] l.frames
+invariant-loop-frame l = l.found ++ in_frames l.self.conf.now l.self.wanted l.self.past.now l.self.here.now l.self.place l.self.number l.seen (drop l.frame-index l.frames)
+    ≡ l.fn.found ++ in_frames l.self.conf.now l.self.wanted l.self.past.now l.self.here.now l.self.place l.self.number [] l.frames

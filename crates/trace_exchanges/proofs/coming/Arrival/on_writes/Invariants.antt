@@ -7,6 +7,6 @@ abbrev pub invariant-loop-written : goal.invariant-loop-written
 invariant-loop-written l = record {
   can_next : (goal.iterator-loop-written).can_next l.written-iterator;
   is_finite : (goal.iterator-loop-written).is_finite l.written-iterator;
-  same : l.found ++ found_in (on_write l.self.wanted l.self.past.now l.self.here.now.books l.self.place l.self.number l.id l.message) l.written-iterator
-      ≡ l.fn.found ++ found_in (on_write l.self.wanted l.self.past.now l.self.here.now.books l.self.place l.self.number l.id l.message) l.writes;
+  same : l.found ++ found_in (on_write l.self.conf.now l.self.wanted l.self.past.now l.self.here.now.books l.self.place l.self.number l.id l.message) l.written-iterator
+      ≡ l.fn.found ++ found_in (on_write l.self.conf.now l.self.wanted l.self.past.now l.self.here.now.books l.self.place l.self.number l.id l.message) l.writes;
 }

@@ -4,4 +4,4 @@ use Rattle.trace_hits.specs.Failures.{have_put}
 use Rattle.trace_hits.proofs.failures.Failures.put_all.Given as goal
 
 abbrev pub invariant-loop-out : goal.invariant-loop-out
-invariant-loop-out l = have_put (drop l.out-index l.outs) l.self ≡ have_put l.outs l.fn.self
+invariant-loop-out l = have_put l.conf l.settings l.what (drop l.out-index l.outs) l.self ≡ have_put l.conf l.settings l.what l.outs l.fn.self

@@ -7,5 +7,5 @@ abbrev pub invariant-loop-start : goal.invariant-loop-start
 invariant-loop-start l = record {
   can_next : (goal.iterator-loop-start).can_next l.start-iterator;
   is_finite : (goal.iterator-loop-start).is_finite l.start-iterator;
-  same : goes_from_all l.request l.start-iterator l.self ≡ goes_from_all l.request l.starts l.fn.self;
+  same : goes_from_all l.conf l.request l.start-iterator l.self ≡ goes_from_all l.conf l.request l.starts l.fn.self;
 }
