@@ -9,7 +9,7 @@ use Rattle.client_settings.specs.declared.settings.Transports.{Transports}
 use Rattle.resolv_conf.specs.declared.server.ServerConf.{ServerConf}
 use Rattle.dns_script.specs.declared.script.Script.{Script}
 use Rattle.script_printing.specs.CanBeTold.{AreAddresses, AreSizesInRange, AreWordsInRange, CanBeTold, IsInRange, are_told_dgrams, are_told_limits, are_told_settings, are_told_streams, are_told_times, are_told_transports, is_told_time, is_told_wait}
-use Rattle.script_printing.specs.Texts.{cache_lines, choice_lines, conf_lines, count_lines, dgram_lines, entries_line, head_lines, kept_lines, option_lines, server_line, setting_lines, shown, size_line, stream_lines, switch_line, time_line, time_lines, transport_lines, wait_line, word_lines}
+use Rattle.script_printing.specs.Texts.{cache_lines, choice_lines, conf_lines, count_lines, dgram_lines, entries_line, head_lines, kept_lines, number_line, option_lines, server_line, setting_lines, shown, size_line, stream_lines, switch_line, time_line, time_lines, transport_lines, wait_line, word_lines}
 use Rattle.script_printing.proofs.Confs.{address_is_word}
 use Rattle.script_printing.proofs.Plain.{IsPlain, IsWord, decimal_word, joined_plain, plain_append, plain_text, word_plain, word_text}
 use Rattle.script_printing.proofs.SettingLines.{decimals_are_words, time_fits}
@@ -64,6 +64,9 @@ cache_plain c told =
 wait_plain : (name : List ℕ) (def v : ℕ) → IsWord name → v / 1000 < 2 ^ 64 → ArePlain (wait_line name def v)
 wait_plain name def v n h = setting_plain _ name (decimal (v / 1000)) n (decimal_word (v / 1000) h)
 
+number_plain : (name : List ℕ) (def n : ℕ) → IsWord name → n < 2 ^ 64 → ArePlain (number_line name def n)
+number_plain name def n word small = setting_plain _ name (decimal n) word (decimal_word n small)
+
 size_plain : (size : Option ℕ) → dgram.IsSize size → ArePlain (size_line size)
 size_plain None h = setting_plain true (codes "dgram-udp-payload-size") (codes "none") (word_text (codes "dgram-udp-payload-size") refl) (word_text (codes "none") refl)
 size_plain (Some n) h = setting_plain _ (codes "dgram-udp-payload-size") (decimal n) (word_text (codes "dgram-udp-payload-size") refl) (decimal_word n (omega (arith, h)))
@@ -75,9 +78,11 @@ dgrams_plain d told fit =
     let few : d.max_parallel < 2 ^ 64 = (let high = leb-true d.max_parallel 1000 (and_parts (nat_le 1 d.max_parallel) (nat_le d.max_parallel 1000) a.0).1 in omega arith) in
     let tries : d.max_retries < 2 ^ 64 = (let high = leb-true d.max_retries 100 b.0 in omega arith) in
     joined (count_lines d) _
-    (joined _ _ (setting_plain _ (codes "dgram-max-parallel") (decimal d.max_parallel) (word_text (codes "dgram-max-parallel") refl) (decimal_word d.max_parallel few))
-    (joined _ _ (setting_plain _ (codes "dgram-max-retries") (decimal d.max_retries) (word_text (codes "dgram-max-retries") refl) (decimal_word d.max_retries tries))
-    (setting_plain _ (codes "dgram-recv-size") (decimal d.recv_size) (word_text (codes "dgram-recv-size") refl) (decimal_word d.recv_size fit.0))))
+    (joined (number_line (codes "dgram-max-parallel") 100 d.max_parallel) (number_line (codes "dgram-max-retries") 5 d.max_retries ++ number_line (codes "dgram-recv-size") 2000 d.recv_size)
+    (number_plain (codes "dgram-max-parallel") 100 d.max_parallel (word_text (codes "dgram-max-parallel") refl) few)
+    (joined (number_line (codes "dgram-max-retries") 5 d.max_retries) (number_line (codes "dgram-recv-size") 2000 d.recv_size)
+    (number_plain (codes "dgram-max-retries") 5 d.max_retries (word_text (codes "dgram-max-retries") refl) tries)
+    (number_plain (codes "dgram-recv-size") 2000 d.recv_size (word_text (codes "dgram-recv-size") refl) fit.0)))
     (joined (size_line d.udp_payload_size) _ (size_plain d.udp_payload_size fit.1) (wait_plain (codes "dgram-read-timeout") 5000 d.read_timeout (word_text (codes "dgram-read-timeout") refl) (wait_fits 1000 60000000 d.read_timeout (omega arith) b.1)))
 
 streams_plain : (m : multi_stream.Settings) → are_told_streams m ≡ true → ArePlain (stream_lines m)

@@ -3,9 +3,11 @@ use Rattle.std.proofs.Common.{◌≡◌, ◌<◌, ◌+◌, ◌==◌, ℕ, Bool, 
 use Rattle.std.specs.List.{flat_map, join_with_byte}
 use Rattle.std.proofs.lemmas.Grind.{flat_map-append}
 use Rattle.std.proofs.lemmas.List.{take_more}
+use Rattle.client_settings.specs.Dgram as dgram
+use Rattle.client_settings.specs.MultiStream as multi_stream
 use Rattle.client_settings.specs.Settings.{CacheSettings, RedundantSettings}
 use Rattle.resolv_conf.specs.declared.server.ServerConf.{ServerConf}
-use Rattle.script_printing.specs.Texts.{cache_lines, choice_lines, ended, entries_line, limit_lines, server_line, switch_line, time_line, time_lines, word_lines}
+use Rattle.script_printing.specs.Texts.{cache_lines, choice_lines, count_lines, ended, entries_line, limit_lines, number_line, server_line, stream_lines, switch_line, time_line, time_lines, wait_line, word_lines}
 use Rattle.script_printing.proofs.Lines.{words_joined}
 
 servers_text : (servers : List ServerConf) → flat_map ended (map server_line servers) ≡ flat_map (λ server. ended (server_line server)) servers
@@ -27,6 +29,10 @@ one_server_more servers i server start before after within is so_far longer =
 pub two_texts : (s a b : List ℕ) (xs ys : List (List ℕ)) → a ≡ s ++ flat_map ended xs → b ≡ a ++ flat_map ended ys → b ≡ s ++ flat_map ended (xs ++ ys)
 two_texts s a b xs ys h k =
     k ∙ ap (λ t. t ++ flat_map ended ys) h ∙ append_assoc s (flat_map ended xs) (flat_map ended ys) ∙ ap (λ t. s ++ t) (sym (flat_map-append ended xs ys))
+
+-- three pieces, one behind another
+pub three_texts : (s a b c : List ℕ) (xs ys zs : List (List ℕ)) → a ≡ s ++ flat_map ended xs → b ≡ a ++ flat_map ended ys → c ≡ b ++ flat_map ended zs → c ≡ s ++ flat_map ended (xs ++ (ys ++ zs))
+three_texts s a b c xs ys zs h k l = two_texts s a c xs (ys ++ zs) h (two_texts a b c ys zs k l)
 
 -- four pieces, one behind another
 pub four_texts : (s a b c d : List ℕ) (ws xs ys zs : List (List ℕ)) → a ≡ s ++ flat_map ended ws → b ≡ a ++ flat_map ended xs → c ≡ b ++ flat_map ended ys → d ≡ c ++ flat_map ended zs
@@ -83,3 +89,27 @@ times_text c s p q t u v w x is_v is_w is_x h k l m =
     (time_line (codes "misc-error-duration") 30 c.misc_error_duration) (limit_lines c)
     (time_text (codes "max-validity") s p 604800 v c.max_validity is_v h) (time_text (codes "transport-failure-duration") p q 30 w c.transport_failure_duration is_w k)
     (time_text (codes "misc-error-duration") q t 30 x c.misc_error_duration is_x l) m
+
+-- the line of a number that is this one, and of a time of transports
+number_text : (name p q : List ℕ) (default v w : ℕ) → v ≡ w → q ≡ p ++ flat_map ended (number_line name default v) → q ≡ p ++ flat_map ended (number_line name default w)
+number_text name p q default v w is h = h ∙ ap (λ x. p ++ flat_map ended (number_line name default x)) is
+
+wait_text : (name p q : List ℕ) (default v w : ℕ) → v ≡ w → q ≡ p ++ flat_map ended (wait_line name default v) → q ≡ p ++ flat_map ended (wait_line name default w)
+wait_text name p q default v w is h = h ∙ ap (λ x. p ++ flat_map ended (wait_line name default x)) is
+
+-- the lines of the counts of datagrams
+pub counts_text : (d : dgram.Settings) (s p q t : List ℕ) (v w x : ℕ) → v ≡ d.max_parallel → w ≡ d.max_retries → x ≡ d.recv_size
+    → p ≡ s ++ flat_map ended (number_line (codes "dgram-max-parallel") 100 v) → q ≡ p ++ flat_map ended (number_line (codes "dgram-max-retries") 5 w)
+    → t ≡ q ++ flat_map ended (number_line (codes "dgram-recv-size") 2000 x) → t ≡ s ++ flat_map ended (count_lines d)
+counts_text d s p q t v w x is_v is_w is_x h k l =
+    three_texts s p q t (number_line (codes "dgram-max-parallel") 100 d.max_parallel) (number_line (codes "dgram-max-retries") 5 d.max_retries) (number_line (codes "dgram-recv-size") 2000 d.recv_size)
+    (number_text (codes "dgram-max-parallel") s p 100 v d.max_parallel is_v h) (number_text (codes "dgram-max-retries") p q 5 w d.max_retries is_w k) (number_text (codes "dgram-recv-size") q t 2000 x d.recv_size is_x l)
+
+-- and those of streams
+pub streams_text : (m : multi_stream.Settings) (s p q t : List ℕ) (v w x : ℕ) → v ≡ m.stream.response_timeout → w ≡ m.stream.idle_timeout → x ≡ m.response_timeout
+    → p ≡ s ++ flat_map ended (wait_line (codes "stream-response-timeout") 19000 v) → q ≡ p ++ flat_map ended (wait_line (codes "stream-idle-timeout") 10000 w)
+    → t ≡ q ++ flat_map ended (wait_line (codes "multi-stream-response-timeout") 30000 x) → t ≡ s ++ flat_map ended (stream_lines m)
+streams_text m s p q t v w x is_v is_w is_x h k l =
+    three_texts s p q t (wait_line (codes "stream-response-timeout") 19000 m.stream.response_timeout) (wait_line (codes "stream-idle-timeout") 10000 m.stream.idle_timeout) (wait_line (codes "multi-stream-response-timeout") 30000 m.response_timeout)
+    (wait_text (codes "stream-response-timeout") s p 19000 v m.stream.response_timeout is_v h) (wait_text (codes "stream-idle-timeout") p q 10000 w m.stream.idle_timeout is_w k)
+    (wait_text (codes "multi-stream-response-timeout") q t 30000 x m.response_timeout is_x l)

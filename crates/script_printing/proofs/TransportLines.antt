@@ -12,6 +12,7 @@ use Rattle.client_settings.specs.MultiStream as multi_stream
 use Rattle.client_settings.specs.Settings.{CacheSettings, RedundantSettings}
 use Rattle.client_settings.specs.declared.settings.Transports.{Transports}
 use Rattle.resolv_conf.specs.declared.conf.ResolvConf.{ResolvConf}
+use Rattle.dns_values.specs.Decimal.{decimal_number}
 use Rattle.dns_script.specs.Reading.{number_of}
 use Rattle.dns_script.specs.ScriptReading.{TakesLines}
 use Rattle.dns_script.specs.Settings.{milliseconds, sets, size_of}
@@ -40,13 +41,14 @@ wait_fits l g v small told =
 number_back : (g n : ℕ) → g < 2 ^ 64 → n ≤ g → number_of g (decimal n) ≡ Some n
 number_back g n wide fits = decimal_is_number g n wide fits
 
+no_number : number_of 65535 (codes "none") ≡ None
+unfolding number_of decimal_number
+no_number = refl
+
 -- a number is not the word that says that there is none
 not_none : (n : ℕ) → n < 65536 → bytes_eq (decimal n) (codes "none") ≡ false
 not_none n small = go (bytes_eq (decimal n) (codes "none")) refl
   where
-    no_number : number_of 65535 (codes "none") ≡ None
-    no_number = refl
-
     go : (b : Bool) → bytes_eq (decimal n) (codes "none") ≡ b → b ≡ false
     go false e = refl
     go true e = absurd (let z : Some n ≡ None = sym (number_back 65535 n (omega arith) (omega arith)) ∙ (ap (number_of 65535) ((bytes_eq-Decides (decimal n) (codes "none")).0 e) ∙ no_number) in cc)
