@@ -17,7 +17,6 @@ use Rattle.trace_exchanges.specs.declared.coming.Coming.{Coming}
 use Rattle.trace_exchanges.specs.Coming.{AllComing}
 use Rattle.trace_promptness.specs.Prompt.{is_uncut, matches}
 use Rattle.trace_questions.specs.Outs.{Tells}
-use Rattle.trace_firsts.specs.declared.firsts.Arrived.{Arrived}
 use Rattle.trace_firsts.specs.Firsts.{Firsts, counted, FirstRow, Known}
 use Rattle.trace_firsts.specs.Failing.{MessageFails, fails_for, fails_now, failed_first, message_fails, TellsMessageFails}
 use Rattle.trace_firsts.proofs.Arriving.{coming_came, uncut_is}

@@ -24,7 +24,7 @@ use Rattle.trace_hits.specs.Point.{is_number}
 use Rattle.trace_hits.specs.Failing.{fails_by}
 use Rattle.trace_hits.specs.Failures.{nothing, clock_of, failing, after_rows, fails_in, first_failure}
 use Rattle.trace_hits.specs.Serving.{KnowFailures}
-use Rattle.trace_hits.proofs.Behind.{reply_first, behind_nothing, behind_row}
+use Rattle.trace_hits.proofs.Behind.{reply_first, behind_row}
 use Rattle.trace_hits.proofs.Failed.{some_fails, none_fails}
 use Rattle.trace_hits.proofs.Tabling.{from_nothing}
 
