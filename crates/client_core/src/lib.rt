@@ -10,8 +10,7 @@
 //!   transport). Behind it no timer is due (`none_due`): the plain client fires timers until none is.
 //! - `Client::new`: the plain client as it begins (`started`): a choice among the servers of the configuration, numbered in
 //!   their order, with the settings of the choice that were handed in, under a cache with its settings. More than 2^32
-//!   servers count as want of memory. `with_seed` is the same with a seed for the hashes of the cache, and `with_settings`
-//!   with settings of transports too (`started_with`), which hold for every server alike.
+//!   servers count as want of memory. `with_seed` is the same with a seed for the hashes of the cache.
 //! - `Client::layers`: the cache over the choice over the servers is that of the plain client (`layer` of `Whole`).
 //! - `Client::replay`, a method of the trait `Replay` of `client_replay`, where code and mathematics meet: its rows are
 //!   `plain_trace` of the settings, the configuration, the words and the events; its events are those handed in; and the
@@ -19,7 +18,7 @@
 //!   is given (`hits`, `Hit.antt`), what has expired serves where servers fail (`stale`, `StaleServed.antt`), and its
 //!   events may be cut (`cut`, `MayBeCut` in `crates/proof_cutting/specs/Cuts.antt`). `NumbersUsed` only where the plain
 //!   trace is none; else `NoMemory` alone. `Client::replay_into` says the same (`IsReplay`) of rows that a `TakeRow` takes
-//!   as they are made. `replay_with` and `replay_into_with` say so with settings of transports (`IsReplayWith`).
+//!   as they are made.
 //! - `Client::next_due` is the least due moment of the timers that are set, so that whoever holds the client knows how long
 //!   it may sleep; `Client::would_serve` tells whether the cache would serve a request at a moment, as it stands, and uses
 //!   nothing; `Client::may_wait` is the time until then from the moment of the client's last event on (`wait_of`), the
