@@ -87,7 +87,7 @@ pub begins : (conf : ResolvConf) (redundant : RedundantSettings) (cache : CacheS
     → GoesOn (opening conf redundant cache transports words held) [] after left size (started_with transports redundant cache conf)
 begins conf redundant cache transports words list left held after text size start is all addresses sizes small fit said count short written =
     let one : GoesOn (opening conf redundant cache transports list held) [] after list (length text) (started_with transports redundant cache conf) =
-    begun conf redundant cache transports list held after text start.alike start.whole start.settings start.transports addresses sizes small fit said short written in
+    begun conf redundant cache transports list held after text start.alike start.whole start.settings start.told_transports addresses sizes small fit said short written in
     let two : GoesOn (opening conf redundant cache transports words held) [] after list (length text) (started_with transports redundant cache conf) =
     subst (λ (ws : List ℕ). GoesOn (opening conf redundant cache transports ws held) [] after list (length text) (started_with transports redundant cache conf)) is one in
     let three : GoesOn (opening conf redundant cache transports words held) [] after left (length text) (started_with transports redundant cache conf) =

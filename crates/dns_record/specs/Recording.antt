@@ -49,7 +49,7 @@ pub record IsToldStart (conf : ResolvConf) (cache : CacheSettings) (transports :
   pub alike : are_asked_alike conf ≡ true
   pub whole : is_whole conf.options.timeout ≡ true
   pub settings : are_told_settings cache ≡ true
-  pub transports : are_told_transports transports ≡ true
+  pub told_transports : are_told_transports transports ≡ true
 
 -- the script of these rows
 abbrev pub script_of_rows : Opening → List Row → Script
