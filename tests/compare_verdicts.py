@@ -68,6 +68,8 @@ def main():
     with multiprocessing.Pool(options.processes, begin, (options.reference, os.path.abspath(options.program))) as pool:
         for job, wanted, found, script, trace in pool.imap_unordered(work, jobs, 8):
             counts["right" if wanted == "right" else wanted.split()[1]] += 1
+            if sum(counts.values()) % 500 == 0:
+                print("%d traces so far, %d differ" % (sum(counts.values()), differ), flush=True)
             if wanted == found:
                 continue
             differ += 1

@@ -1,5 +1,6 @@
 -- What is found of errors in rows that are done is what the definitions say, and it goes on over rows.
-use Rattle.std.proofs.Common.{◌≡◌, ℕ, ◌+◌, ◌≤◌, ◌⊎◌, inl, inr, Bool, true, false, [], ◌∷◌, Some, None, refl, sym, ◌∙◌, subst, arith}
+use Rattle.std.proofs.Common.{◌≡◌, ℕ, ◌+◌, ◌<◌, ◌≤◌, ◌⊎◌, inl, inr, Bool, true, false, [], ◌∷◌, Some, None, refl, sym, ◌∙◌, subst, arith}
+use Rattle.std.proofs.lemmas.Bool.{ltb-true}
 use Rattle.client_request.specs.declared.error.Error.{Error}
 use Rattle.client_request.specs.declared.error.Error.TheVariants as errors
 use Rattle.client_request.specs.declared.error.QueryError.TheVariants as query
@@ -59,29 +60,37 @@ tells_never a e f = ((λ u. (let z : true ≡ false = sym u ∙ e in cc)), (λ p
 unheard_first : (c : Conf) (k s : ℕ) → Heard c k s [] → ⊥
 unheard_first c k s h = (let e : None ≡ Some h.message = h.comes.first in cc)
 
+-- answers are waited for some time
+reads_on : (c : Conf) → 999 < read_timeout c
+unfolding read_timeout
+reads_on c = ltb-true 999 c.transports.dgram_read_timeout c.transports.reads
+
+waits_on : (c : Conf) → 999 < stream_timeout c
+unfolding stream_timeout
+waits_on c = ltb-true 999 c.transports.multi_stream_response_timeout c.transports.waits
+
+is_before : (moment time n : ℕ) → 999 < time → moment + time ≤ n → moment < n
+is_before moment time n lt le = omega arith
+
 module _ (c : Conf) (s : Settings) (b : Books) (heard : Heards) (t : Earlier) (k : ℕ) (x : History) (kb : books.Known x b) (kd : heards.Known c x heard) (kt : Known c s x t) where
   caused : (e : Error) → CauseOf c k (row_before x) (newest x) x e → WasCaused c k e x
   caused e d = inl (of_cause c k (row_before x) (newest x) x e d)
 
   tries_so : tries_are_up c k b.requests.clock b.places b ≡ true → WasCaused c k (errors.Dgram query.Timeout) x
-  unfolding read_timeout
   tries_so e =
       let d : TriesAreUp c k (now x) x x = subst (λ n. TriesAreUp c k n x x) kb.requests.time ((tells_tries c k b.requests.clock b b (tries_are_up c k b.requests.clock b.places b) refl x x kb kb).0 e) in
-      let o : d.last.moment + read_timeout c ≤ now x = d.old in
-      caused (errors.Dgram query.Timeout) (record { server = d.server; all = d.all; last = d.last; is_last = d.is_last; old = d.old; lived = lived k d.server d.last x d.is_last (omega arith) d.lived })
+      caused (errors.Dgram query.Timeout) (record { server = d.server; all = d.all; last = d.last; is_last = d.is_last; old = d.old; lived = lived k d.server d.last x d.is_last (is_before d.last.moment (read_timeout c) (now x) (reads_on c) d.old) d.lived })
 
   so_tries : TriesAreUp c k (now x) x x → tries_are_up c k b.requests.clock b.places b ≡ true
   so_tries d = (tells_tries c k b.requests.clock b b (tries_are_up c k b.requests.clock b.places b) refl x x kb kb).1 (subst (λ n. TriesAreUp c k n x x) (sym kb.requests.time) d)
 
   silence_so : stream_is_silent c k b.requests.clock b.requests heard ≡ true → WasCaused c k errors.StreamReadTimeout x
-  unfolding stream_timeout
   silence_so e =
       let d : StreamIsSilent c k (now x) x = subst (λ n. StreamIsSilent c k n x) kb.requests.time ((tells_silence c k b.requests.clock b heard (stream_is_silent c k b.requests.clock b.requests heard) refl x kb kd).0 e) in
-      let o : d.begun + stream_timeout c ≤ now x = d.passed in
       caused errors.StreamReadTimeout (record {
         server = d.server;
         begun = d.begun;
-        is_begun = begun_before k d.server d.begun Stream x d.is_begun (omega arith);
+        is_begun = begun_before k d.server d.begun Stream x d.is_begun (is_before d.begun (stream_timeout c) (now x) (waits_on c) d.passed);
         passed = d.passed;
         silent = λ w. d.silent (inr (so_earlier (Heard c k d.server) (unheard_first c k d.server) x w));
       })
