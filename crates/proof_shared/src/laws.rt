@@ -6,7 +6,6 @@ use proof_client::traces_with_settings;
 
 /// The rows of a legal history are the plain trace of its events, in their order; where these were handed in, they are right
 /// and timely, give what is kept, and serve what has expired. It does nothing.
-#[tactic(auto, using(crate::proofs::Rows::legal_histories))]
 pub fn legal_histories()
     ensures { LegalHistories }
 {
