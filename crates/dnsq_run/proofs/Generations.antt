@@ -8,7 +8,7 @@ use Rattle.std.specs.String.{string_bytes}
 use Rattle.std.specs.declared.alloc.Global.{Global}
 use Rattle.dns_values.specs.Sink.{with_octets}
 use Rattle.dns_values.specs.declared.numbers.Status.{Status}
-use Rattle.dns_script.specs.Generated.{generated}
+use Rattle.dns_script.specs.Generated.{generated, generated_conf}
 use Rattle.dnsq_run.specs.Generating.{IsSummary, SummarizesSo, count_in, count_of, is_summary, stops}
 use Rattle.command_parts.specs.Ends.{IsBegun}
 use Rattle.dns_script.specs.Summary.{summary_text_of}
