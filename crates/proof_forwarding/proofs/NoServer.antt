@@ -79,6 +79,7 @@ happens_so words = (refl, refl, refl)
 abbrev new : (ℕ → ℕ) → Whole
 new words = record {
   use_vc = first.use_vc;
+  transports = first.transports;
   count = first.count;
   layer = (done words).layer;
   asked = (done words).asked;
