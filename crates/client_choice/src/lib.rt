@@ -78,17 +78,21 @@
 mod candidates;
 mod choice;
 mod entries;
+mod holders;
 mod job;
 pub mod load_balancer;
 pub mod redundant;
 mod servers;
 mod servfail;
+mod sharing;
 mod stats;
 mod steps;
 
 pub use candidates::Candidate;
 pub use choice::Choice;
+pub use holders::Holders;
 pub use job::{ChoiceJob, ListedServer, Started};
-pub use servers::{Reply, Server};
+pub use servers::{Reply, Server, Servers};
 pub use servfail::serve_fail;
+pub use sharing::SharesPlaces;
 pub use stats::{Stats, stats_law};

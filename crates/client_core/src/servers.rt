@@ -63,7 +63,7 @@ pub(crate) fn add_server(
     }
     let by_streams = by_streams_alone(use_vc, server);
     let upstream = upstream_at(alloc, transports, number as u32, by_streams)?;
-    match servers.add(upstream) {
+    match servers.add_unused(upstream) {
         Ok(()) => Ok(()),
         Err(_) => Err(NoMemory),
     }

@@ -46,7 +46,9 @@ fn choice(alloc: Global, words: &str) -> Option<Transport> {
     let (count, put_off) = first_word(words);
     let mut choice = redundant::Connection::with_config(alloc, choice_config(put_off));
     for server in 0..count.parse::<u32>().ok()? {
-        choice.add(Server::new(alloc, server).ok()?).ok()?;
+        choice
+            .add_unused(Server::new(alloc, server).ok()?)
+            .ok()?;
     }
     Some(Transport::Choice(choice))
 }
