@@ -4,7 +4,7 @@ use Rattle.std.specs.Prelude.{nat_lt, ◌||◌}
 use Rattle.std.proofs.lemmas.Bool.Decides.{nat_tests}
 use Rattle.std.specs.Ordering.{match_ordering}
 use Rattle.client_request.specs.Numbered.{puts, entry_at}
-use Rattle.client_choice.specs.Places.{may_hold, is_number, Learns}
+use Rattle.client_choice.specs.Places.{may_hold, is_number, Keeps, Learns}
 use Rattle.client_choice.specs.declared.holders.Holders.{Holders}
 
 module _ {A : Type 0} where
@@ -115,32 +115,68 @@ popped low later first t le lt p i is = by (is_old_or_own p low (is_number i (en
 
 -- ---- what a call learns
 
-pub learns_none : (h : Holders) (server first next : ℕ) → next ≤ first → Learns h h server first next
-learns_none h server first next le = record { kept = λ p i e. e; drawn = λ p from to. absurd (omega arith) }
+alike : (h k : Holders) (low : ℕ) (t : List (ℕ × ℕ)) → k.table ≡ t → k.low ≡ low → (p i : ℕ) → (nat_lt p low || is_number i (entry_at p t)) ≡ true → may_hold k p i ≡ true
+alike h k low t e f p i is = ap (λ (t : List (ℕ × ℕ)). nat_lt p k.low || is_number i (entry_at p t)) e ∙ ap (λ low. nat_lt p low || is_number i (entry_at p t)) f ∙ is
 
--- one place more is learned
-pub learns_next : (h k l : Holders) (server first place : ℕ) → Learns h k server first place → Learns k l server place (place + 1) → Learns h l server first (place + 1)
-learns_next h k l server first place a b = record {
-  kept = λ p i e. b.kept p i (a.kept p i e);
-  drawn = λ p from to. by p from (before p to);
+learned : (h k : Holders) (place server low : ℕ) → h.low ≤ low → (entry_at place h.table ≡ None) ⊎ (place < low) → k.table ≡ puts place server h.table → k.low ≡ low → Learns h k server place (place + 1)
+learned h k place server low le new e f = record {
+  kept = λ p i is. alike h k low (puts place server h.table) e f p i (put_kept h.low low place server h.table le new p i is);
+  drawn = λ p from to. (let same : place ≡ p = omega arith in subst (λ p. may_hold k p server ≡ true) same (alike h k low (puts place server h.table) e f place server (put_there low place server h.table)));
+}
+
+pub learned_new : (h k : Holders) (place server : ℕ) → entry_at place h.table ≡ None → k.table ≡ puts place server h.table → k.low ≡ h.low → Learns h k server place (place + 1)
+learned_new h k place server none e f = learned h k place server h.low (omega arith) (inl none) e f
+
+above_left : (a b : ℕ) → a ≤ max a b
+above_left a b = omega arith
+
+above_right : (a b : ℕ) → b ≤ max a b
+above_right a b = omega arith
+
+pub learned_again : (h k : Holders) (place server : ℕ) → k.table ≡ puts place server h.table → k.low ≡ max h.low (place + 1) → Learns h k server place (place + 1)
+learned_again h k place server e f =
+    let right = above_right h.low (place + 1) in
+    learned h k place server (max h.low (place + 1)) (above_left h.low (place + 1)) (inr (omega (arith, right))) e f
+
+pub keeps_all : (h : Holders) → Keeps h h
+keeps_all h = record { kept = λ p i e. e }
+
+pub keeps_others : (h k : Holders) (first : ℕ × ℕ) → h.table ≡ first ∷ k.table → k.low ≡ max h.low (first.0 + 1) → Keeps h k
+keeps_others h k first e f =
+    let right = above_right h.low (first.0 + 1) in
+    let low : ℕ = max h.low (first.0 + 1) in
+    record {
+      kept = λ p i is.
+          alike h k low k.table refl f p i
+          (popped h.low low first k.table (above_left h.low (first.0 + 1)) (omega (arith, right)) p i (sym (ap (λ (t : List (ℕ × ℕ)). nat_lt p h.low || is_number i (entry_at p t)) e) ∙ is));
+    }
+
+pub learns_none : (h : Holders) (server first : ℕ) → Learns h h server first first
+learns_none h server first = record { kept = λ p i e. e; drawn = λ p from to. absurd (omega arith) }
+
+pub learns_less : (h k : Holders) (server first place next : ℕ) → Learns h k server first place → next ≤ place → Learns h k server first next
+learns_less h k server first place next l le = record { kept = l.kept; drawn = λ p from to. l.drawn p from (omega arith) }
+
+lower_or_not : (p place : ℕ) → (p < place) ⊎ (place ≤ p)
+lower_or_not p place = by (nat_lt p place) refl
+  where
+    lt : nat_lt p place ≡ true → p < place
+    lt e = grind (arith, nat_tests)
+
+    ge : nat_lt p place ≡ false → place ≤ p
+    ge e = grind (arith, nat_tests)
+
+    by : (b : Bool) → nat_lt p place ≡ b → (p < place) ⊎ (place ≤ p)
+    by true e = inl (lt e)
+    by false e = inr (ge e)
+
+-- one place more is learned, and what is too old forgotten
+pub learns_next : (h k l m : Holders) (server first place : ℕ) → Learns h k server first place → Learns k l server place (place + 1) → Keeps l m → Learns h m server first (place + 1)
+learns_next h k l m server first place a b c = record {
+  kept = λ p i e. c.kept p i (b.kept p i (a.kept p i e));
+  drawn = λ p from to. by p from to (lower_or_not p place);
 }
   where
-    before : (p : ℕ) → p < place + 1 → (p < place) ⊎ (place ≤ p)
-    before p to = split p
-      where
-        lt : (p : ℕ) → nat_lt p place ≡ true → p < place
-        lt p e = grind (arith, nat_tests)
-
-        ge : (p : ℕ) → nat_lt p place ≡ false → place ≤ p
-        ge p e = grind (arith, nat_tests)
-
-        split : (p : ℕ) → (p < place) ⊎ (place ≤ p)
-        split p = go (nat_lt p place) refl
-          where
-            go : (b : Bool) → nat_lt p place ≡ b → (p < place) ⊎ (place ≤ p)
-            go true e = inl (lt p e)
-            go false e = inr (ge p e)
-
-    by : (p : ℕ) → first ≤ p → (p < place) ⊎ (place ≤ p) → may_hold l p server ≡ true
-    by p from (inl lt) = b.kept p server (a.drawn p from lt)
-    by p from (inr ge) = b.drawn p ge (omega arith)
+    by : (p : ℕ) → first ≤ p → p < place + 1 → (p < place) ⊎ (place ≤ p) → may_hold m p server ≡ true
+    by p from to (inl lt) = c.kept p server (b.kept p server (a.drawn p from lt))
+    by p from to (inr ge) = c.kept p server (b.drawn p ge to)

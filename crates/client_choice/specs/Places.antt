@@ -42,6 +42,10 @@ is_number n (Some own) = n == own
 abbrev pub may_hold : Holders → (place server : ℕ) → Bool
 may_hold h place server = nat_lt place h.low || is_number server (entry_at place h.table)
 
+-- What was known stays so.
+pub record Keeps (old new : Holders) : Type 0 where
+  pub kept : (p i : ℕ) → may_hold old p i ≡ true → may_hold new p i ≡ true
+
 -- What was known stays so, and places from one on and below another are a server's.
 pub record Learns (old new : Holders) (server first next : ℕ) : Type 0 where
   pub kept : (p i : ℕ) → may_hold old p i ≡ true → may_hold new p i ≡ true
@@ -55,3 +59,7 @@ pub record AreKnown {U : Type 0} (has : U → ℕ → Bool) (h : Holders) (serve
 -- It has no place.
 abbrev pub IsUnused : {U : Type 0} → (has : U → ℕ → Bool) → U → Type 0
 IsUnused has u = (p : ℕ) → has u p ≡ false
+
+-- Nothing stands on the board of a server.
+abbrev pub IsQuiet : {U : Type 0} → ℕ → List (Server U) → Type 0
+IsQuiet {U = U} i servers = (s : Server U) → slice_get servers i ≡ Some s → s.posted ≡ []

@@ -9,7 +9,7 @@ ghost use Rattle.client_choice.specs.Places.{IsUnused};
 ghost use Rattle.client_choice.specs.Servers as of_servers;
 
 use crate::job::{ChoiceJob, Started};
-use crate::servers::{Servers, give_up_at, judge_at, take_owner};
+use crate::server_list::{Servers, give_up_at, judge_at, take_owner};
 use crate::sharing::SharesPlaces;
 use client_request::{Board, ComposeRequest, Cx, Error, Part, TimerId, Words};
 use client_settings::redundant::Config;

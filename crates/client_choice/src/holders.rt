@@ -1,7 +1,7 @@
 //! Which server a place may be of.
 
 ghost use Rattle.std.specs.Prelude.{◌≡◌, ℕ, ◌<◌, ◌≤◌, ◌+◌, false, OnOk, max};
-ghost use Rattle.client_choice.specs.Places.{Learns, may_hold};
+ghost use Rattle.client_choice.specs.Places.{Keeps, Learns, may_hold};
 
 use dns_base::NoMemory;
 use number_table::NumberTable;
@@ -36,28 +36,42 @@ impl Holders {
         self.low = self.low.max(u128::from(place) + 1);
     }
 
-    /// A place was drawn by a server.
+    /// A place was drawn by a server. One that was drawn before is not known any more.
+    #[tactic(auto, using(crate::proofs::Holding::learned_new, crate::proofs::Holding::learned_again))]
     fn put(&mut self, place: u64, server: usize) -> Result<(), NoMemory>
         ensures { OnOk result (Learns self.old self.new server place (place + 1)) }
     {
-        if self.table.insert(place, server)?.is_some() {
-            self.forget(place);
-        }
-        if self.table.len() > MOST {
-            if let Some((oldest, _)) = self.table.pop_first() {
-                self.forget(oldest);
+        match self.table.insert(place, server)? {
+            None => Ok(()),
+            Some(_) => {
+                self.forget(place);
+                Ok(())
             }
         }
-        Ok(())
+    }
+
+    /// Where too many are known, the oldest is not known any more.
+    #[tactic(auto, using(crate::proofs::Holding::keeps_all, crate::proofs::Holding::keeps_others))]
+    fn drop_oldest(&mut self)
+        ensures { Keeps self.old self.new }
+    {
+        if self.table.len() <= MOST {
+            return;
+        }
+        if let Some((oldest, _)) = self.table.pop_first() {
+            self.forget(oldest);
+        }
     }
 
     /// The places from one on and below another were drawn by a server.
+    #[tactic(auto, using(crate::proofs::Holding::learns_none, crate::proofs::Holding::learns_next, crate::proofs::Holding::learns_less))]
     pub(crate) fn learn(&mut self, server: usize, first: u64, next: u64) -> Result<(), NoMemory>
         ensures { OnOk result (Learns self.old self.new server first next) }
     {
         let mut place = first;
         while place < next {
             self.put(place, server)?;
+            self.drop_oldest();
             place += 1;
         }
         Ok(())

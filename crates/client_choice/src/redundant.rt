@@ -24,7 +24,7 @@ ghost use Rattle.client_choice.specs.Servers as of_servers;
 use crate::choice::Choice;
 use crate::entries::{probe, promote};
 use crate::job::ListedServer;
-use crate::servers::{listed, send_at};
+use crate::server_list::{listed, send_at};
 use crate::sharing::SharesPlaces;
 use crate::steps::{give_up, hear, start_job};
 pub use client_request::Pending as Request;

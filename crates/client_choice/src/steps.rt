@@ -8,7 +8,7 @@ ghost use Rattle.client_choice.specs.Servers as of_servers;
 
 use crate::choice::{Choice, arm, disarm, disown, give_up_all, is_deferred, judge_all};
 use crate::job::{ChoiceJob, ListedServer, parted};
-use crate::servers::{hear_at, start_at};
+use crate::server_list::{hear_at, start_at};
 use crate::sharing::SharesPlaces;
 use client_request::{Board, ComposeRequest, Cx, Error, Part, Posted, Signal, TimerId, Words};
 use client_settings::redundant::Config;
