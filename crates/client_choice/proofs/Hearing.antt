@@ -60,3 +60,13 @@ module _ {R U P : Type 0} (below : Transport R U P) (settings : RedundantSetting
   hears_past k j le each =
       let e : k + (j - k) ≡ j = omega arith in
       subst (λ m. hears_some below settings m (n - m) h c v ≡ hears_some below settings k (n - k) h c v) e (past_some (j - k) k (λ i from to. each i from (omega arith)))
+
+  -- those before the first that it concerns are passed over
+  pub hears_first : (j : ℕ) → ((i : ℕ) → 0 ≤ i → i < j → IsNothing i) → hears_some below settings j (n - j) h c v ≡ hears_some below settings 0 n h c v
+  hears_first j each =
+      let e : n - 0 ≡ n = omega arith in
+      hears_past 0 j (omega arith) each ∙ ap (λ m. hears_some below settings 0 m h c v) e
+
+  -- where none is left
+  pub hears_over : (j : ℕ) → n ≤ j → hears_some below settings j (n - j) h c v ≡ Some (c, v)
+  hears_over j le = (let e : n - j ≡ 0 = omega arith in rw e refl)

@@ -1,6 +1,7 @@
 -- Which server a place may be of, as places are drawn and forgotten.
-use Rattle.std.proofs.Common.{◌≡◌, ℕ, ◌+◌, ◌<◌, ◌≤◌, ◌⊎◌, inl, inr, Bool, true, false, cond, ◌==◌, List, [], ◌∷◌, Option, Some, None, Ordering, Less, Equal, Greater, nat_cmp, is_eq, refl, sym, ap, subst, ◌∙◌, arith, max}
-use Rattle.std.specs.Prelude.{nat_lt, ◌||◌}
+use Rattle.std.proofs.Common.{◌≡◌, ℕ, ◌+◌, ◌<◌, ◌≤◌, ◌⊎◌, inl, inr, Bool, true, false, cond, ◌==◌, List, [], ◌∷◌, Option, Some, None, Ordering, Less, Equal, Greater, nat_cmp, is_eq, refl, sym, ap, subst, ◌∙◌, arith, le_refl}
+use Rattle.std.specs.Prelude.{nat_lt, ◌||◌, max}
+use Rattle.std.proofs.Math.Nat.{le-max_left, le-max_right}
 use Rattle.std.proofs.lemmas.Bool.Decides.{nat_tests}
 use Rattle.std.specs.Ordering.{match_ordering}
 use Rattle.client_request.specs.Numbered.{puts, entry_at}
@@ -125,30 +126,24 @@ learned h k place server low le new e f = record {
 }
 
 pub learned_new : (h k : Holders) (place server : ℕ) → entry_at place h.table ≡ None → k.table ≡ puts place server h.table → k.low ≡ h.low → Learns h k server place (place + 1)
-learned_new h k place server none e f = learned h k place server h.low (omega arith) (inl none) e f
-
-above_left : (a b : ℕ) → a ≤ max a b
-above_left a b = omega arith
-
-above_right : (a b : ℕ) → b ≤ max a b
-above_right a b = omega arith
+learned_new h k place server none e f = learned h k place server h.low (le_refl h.low) (inl none) e f
 
 pub learned_again : (h k : Holders) (place server : ℕ) → k.table ≡ puts place server h.table → k.low ≡ max h.low (place + 1) → Learns h k server place (place + 1)
 learned_again h k place server e f =
-    let right = above_right h.low (place + 1) in
-    learned h k place server (max h.low (place + 1)) (above_left h.low (place + 1)) (inr (omega (arith, right))) e f
+    let right = le-max_right h.low (place + 1) in
+    learned h k place server (max h.low (place + 1)) (le-max_left h.low (place + 1)) (inr (omega (arith, right))) e f
 
 pub keeps_all : (h : Holders) → Keeps h h
 keeps_all h = record { kept = λ p i e. e }
 
 pub keeps_others : (h k : Holders) (first : ℕ × ℕ) → h.table ≡ first ∷ k.table → k.low ≡ max h.low (first.0 + 1) → Keeps h k
 keeps_others h k first e f =
-    let right = above_right h.low (first.0 + 1) in
+    let right = le-max_right h.low (first.0 + 1) in
     let low : ℕ = max h.low (first.0 + 1) in
     record {
       kept = λ p i is.
           alike h k low k.table refl f p i
-          (popped h.low low first k.table (above_left h.low (first.0 + 1)) (omega (arith, right)) p i (sym (ap (λ (t : List (ℕ × ℕ)). nat_lt p h.low || is_number i (entry_at p t)) e) ∙ is));
+          (popped h.low low first k.table (le-max_left h.low (first.0 + 1)) (omega (arith, right)) p i (sym (ap (λ (t : List (ℕ × ℕ)). nat_lt p h.low || is_number i (entry_at p t)) e) ∙ is));
     }
 
 pub learns_none : (h : Holders) (server first : ℕ) → Learns h h server first first

@@ -96,8 +96,8 @@ module _ {R U P : Type 0} (has : U → ℕ → Bool) (below : Transport R U P) w
   abbrev Ignores : Type 0
   Ignores = (h : Heard) (p : ℕ) (u : U) (v : View) → place_of h ≡ Some p → has u p ≡ false → below.step h u v ≡ Some (u, v)
 
-  nothing_heard : (s : Server U) (v : View) (o : Option (U × View)) → o ≡ Some (s.upstream, onto s.posted v) → s.posted ≡ [] → option_map (heard s v) o ≡ Some (([], s), v)
-  nothing_heard s v o step quiet = ap (option_map (heard s v)) step ∙ ap (λ (b : List Posted). Some ((b, record s { posted = [] }), v)) quiet ∙ ap (λ (b : List Posted). Some (([], record s { posted = b }), v)) (sym quiet)
+  nothing_heard : (s : Server U) (v : View) (o : Option (U × View)) → o ≡ Some (s.upstream, onto s.posted v) → s.posted ≡ [] → option_map (heard below s v) o ≡ Some (([], s), v)
+  nothing_heard s v o step quiet = ap (option_map (heard below s v)) step ∙ ap (λ (b : List Posted). Some ((b, record s { posted = [] }), v)) quiet ∙ ap (λ (b : List Posted). Some (([], record s { posted = b }), v)) (sym quiet)
 
   -- A server that may not have the place hears nothing.
   pub passed_over : (k : Holders) (servers : List (Server U)) (h : Heard) (p : ℕ) → Ignores → AreKnown has k servers → place_of h ≡ Some p
@@ -124,9 +124,9 @@ module _ {R U P : Type 0} (has : U → ℕ → Bool) (below : Transport R U P) w
       → hears below h s v ≡ Some ((b, t), w) → Called s v t w
   was_heard h s t v w b law e = by (below.step h s.upstream (onto s.posted v)) refl e
     where
-      by : (o : Option (U × View)) → below.step h s.upstream (onto s.posted v) ≡ o → option_map (heard s v) o ≡ Some ((b, t), w) → Called s v t w
+      by : (o : Option (U × View)) → below.step h s.upstream (onto s.posted v) ≡ o → option_map (heard below s v) o ≡ Some ((b, t), w) → Called s v t w
       by None is e = absurd (cc)
-      by (Some x) is e = (let same : heard s v x ≡ ((b, t), w) = cc in subst (λ (y : (List Posted × Server U) × View). Called s v y.0.1 y.1) same (record { more = (law s.upstream (onto s.posted v) x.0 x.1 is).1; stats = refl }))
+      by (Some x) is e = (let same : heard below s v x ≡ ((b, t), w) = cc in subst (λ (y : (List Posted × Server U) × View). Called s v y.0.1 y.1) same (record { more = (law s.upstream (onto s.posted v) x.0 x.1 is).1; stats = refl }))
 
   pub was_started : (ticket : ℕ) (r : R) (s t : Server U) (v w : View) (b : Reply P) → ((u : U) (v : View) (w : U) (x : View) → below.send r u v ≡ Some (w, x) → Opens has u v w x)
       → starts below ticket r s v ≡ Some ((b, t), w) → Called s v t w
@@ -166,9 +166,9 @@ module _ {R U P : Type 0} (has : U → ℕ → Bool) (below : Transport R U P) w
   pub heard_quietly : (h : Heard) (s t : Server U) (v w : View) (b : List Posted) → hears below h s v ≡ Some ((b, t), w) → t.posted ≡ []
   heard_quietly h s t v w b e = by (below.step h s.upstream (onto s.posted v)) e
     where
-      by : (o : Option (U × View)) → option_map (heard s v) o ≡ Some ((b, t), w) → t.posted ≡ []
+      by : (o : Option (U × View)) → option_map (heard below s v) o ≡ Some ((b, t), w) → t.posted ≡ []
       by None e = absurd (cc)
-      by (Some x) e = (let same : heard s v x ≡ ((b, t), w) = cc in subst (λ (y : (List Posted × Server U) × View). y.0.1.posted ≡ []) same refl)
+      by (Some x) e = (let same : heard below s v x ≡ ((b, t), w) = cc in subst (λ (y : (List Posted × Server U) × View). y.0.1.posted ≡ []) same refl)
 
 both_true : (a b : Bool) → (a && b) ≡ true → (a ≡ true) × (b ≡ true)
 both_true true b e = (refl, e)
@@ -177,7 +177,7 @@ both_true false b e = absurd (cc)
 -- ---- the order of servers
 
 module _ {U : Type 0} where
-  lined_alike : (servers : List (Server U)) (i n : ℕ) (old new : Server U) (es : List _) → slice_get servers i ≡ Some old → new.stats ≡ old.stats → all_lined_up n (slice_set servers i new) es ≡ all_lined_up n servers es
+  lined_alike : (servers : List (Server U)) (i n : ℕ) (old new : Server U) (es : List ListedServer) → slice_get servers i ≡ Some old → new.stats ≡ old.stats → all_lined_up n (slice_set servers i new) es ≡ all_lined_up n servers es
   lined_alike [] i n old new es at same = absurd (cc)
   lined_alike (s ∷ servers) zero n old new es at same =
       let is : old ≡ s = cc in
@@ -299,6 +299,7 @@ module _ {U : Type 0} (has : U → ℕ → Bool) where
       by None e = refl
       by (Some s) e = order_kept servers i s _ e refl
 
+module _ {U : Type 0} where
   pub quiet_where_empty : (i : ℕ) (servers : List (Server U)) (s : Server U) → slice_get servers i ≡ Some s → (length s.posted == 0) ≡ true → IsQuiet i servers
   quiet_where_empty i servers s at empty t e = (let same : s ≡ t = cc in subst (λ (s : Server U). s.posted ≡ []) same (none s.posted empty))
     where

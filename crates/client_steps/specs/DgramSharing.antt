@@ -1,9 +1,9 @@
 -- The places of a transport by datagrams: what happens at others is nothing to it, and it draws those that it comes to have.
 use Rattle.std.specs.Prelude.{◌≡◌, ℕ, Bool, false, Some}
-use Rattle.std.proofs.Common.{refl, ◌∙◌}
+use Rattle.std.proofs.Common.{refl, sym, subst, ◌∙◌}
 use Rattle.client_request.specs.Requests.{Requests}
 use Rattle.client_request.specs.View.{View, Heard}
-use Rattle.client_choice.specs.Places.{Opens, place_of}
+use Rattle.client_choice.specs.Places.{IsUnused, Opens, place_of}
 use Rattle.client_dgram.specs.Plain as dgram
 use Rattle.client_dgram.specs.Plain.{Dgram, Asked}
 use Rattle.client_settings.specs.Dgram as dgram_settings
@@ -28,5 +28,5 @@ module _ {R : Type 0} (requests : Requests R) where
   cancels r c v d x e = growing.led (Opens has c v) (dgram.plain_cancel r.ticket c v) d x (drawn.cancels requests r.ticket c v) e
 
 -- it has none as it begins
-pub unused : {R : Type 0} (server : ℕ) (settings : dgram_settings.Settings) (p : ℕ) → has {R = R} (dgram.started server settings) p ≡ false
-unused server settings p = refl
+pub unused_at : {R : Type 0} (server : ℕ) (settings : dgram_settings.Settings) (c : Dgram R) → c ≡ dgram.started server settings → IsUnused has c
+unused_at {R = R} server settings c e p = subst (λ (c : Dgram R). has c p ≡ false) (sym e) refl

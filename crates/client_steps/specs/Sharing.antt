@@ -1,9 +1,10 @@
 -- The places of a server, by the transport that is used for it: what happens at others is nothing to it, and it draws those that it comes to have.
 use Rattle.std.specs.Prelude.{◌≡◌, ℕ, Bool, true, false, Option, Some, None}
-use Rattle.std.proofs.Common.{refl, ap, ◌∙◌, le_refl, inl}
+use Rattle.std.proofs.Common.{refl, ap, sym, subst, ◌∙◌, le_refl, inl}
+use Rattle.client_request.specs.Request.{Request}
 use Rattle.client_request.specs.Requests.{Requests, for_several}
 use Rattle.client_request.specs.View.{View, Heard}
-use Rattle.client_choice.specs.Places.{Opens, place_of}
+use Rattle.client_choice.specs.Places.{IsUnused, Opens, place_of}
 use Rattle.client_dgram.specs.Plain as dgram
 use Rattle.client_multi.specs.Fallback as fallback
 use Rattle.client_multi.specs.Links.{Link, one_stream}
@@ -97,6 +98,9 @@ module _ {R : Type 0} (requests : Requests R) where
       (by_either.ignores by_dgrams.has streams_have (dgram.transport requests) (by_streams requests) (by_dgrams.ignores requests) (by_stream.ignores (one_stream requests)) h p c v (same_place h ∙ e) no)
 
 -- it has none as it begins
-pub unused : (t : Transports) (number : ℕ) (by_streams : Bool) (p : ℕ) → has (upstream_at t number by_streams) p ≡ false
+unused : (t : Transports) (number : ℕ) (by_streams : Bool) (p : ℕ) → has (upstream_at t number by_streams) p ≡ false
 unused t number true p = refl
 unused t number false p = refl
+
+pub unused_at : (t : Transports) (number : ℕ) (by_streams : Bool) (u : Upstream Request) → u ≡ upstream_at t number by_streams → IsUnused has u
+unused_at t number by_streams u e p = subst (λ (u : Upstream Request). has u p ≡ false) (sym e) (unused t number by_streams p)

@@ -1,5 +1,5 @@
 -- The places of a transport by datagrams: what happens at others is nothing to it, and it draws those that it comes to have.
-use Rattle.std.specs.Prelude.{◌≡◌, ℕ, ◌+◌, ◌-◌, ◌<◌, ◌≤◌, ◌⊎◌, nat_lt, take, Bool, true, false, if◌then◌else◌, List, [], ◌∷◌, Option, Some, None, option_and_then, Result, Ok, Err}
+use Rattle.std.specs.Prelude.{◌≡◌, ℕ, zero, suc, ◌+◌, ◌-◌, ◌<◌, ◌≤◌, ◌⊎◌, nat_lt, take, Bool, true, false, if◌then◌else◌, List, [], ◌∷◌, Option, Some, None, option_and_then, Result, Ok, Err}
 use Rattle.std.proofs.Common.{refl, ap, sym, ◌∙◌, subst, le_refl, inl, inr}
 use Rattle.client_request.specs.Board.{Part}
 use Rattle.client_request.specs.Numbered.{frees, entry_at}
@@ -183,20 +183,21 @@ module _ {R : Type 0} where
     cancels ticket s v = whole s v (dgram.drops s.server ticket s.tables v) (dropped requests s.server s.settings (has s) v.place ticket s.tables v (at_first s.tables v))
 
 -- what happens at another place
+same_entry : (q p : ℕ) → Some q ≡ Some p → (es : List (ℕ × ℕ)) → entry_at p es ≡ None → entry_at q es ≡ None
+same_entry q p e es none = (let same : p ≡ q = cc in subst (λ q. entry_at q es ≡ None) same none)
+
+module _ {R : Type 0} where
+  tells_nothing : (s : Tables R) (v : View) (p : ℕ) → entry_at p s.places ≡ None → (f : ℕ → Job R → Tables R → View → dgram.After R) → dgram.at_place f p s v ≡ Some (s, v)
+  tells_nothing s v p none f = ap (λ o. dgram.at_ticket f s v o) none
+
 module _ {R : Type 0} (requests : Requests R) where
-  same_entry : (q p : ℕ) → Some q ≡ Some p → (es : List (ℕ × ℕ)) → entry_at p es ≡ None → entry_at q es ≡ None
-  same_entry q p e es none = (let same : p ≡ q = cc in subst (λ q. entry_at q es ≡ None) same none)
-
-  tells_nothing : (server : ℕ) (settings : Settings) (s : Tables R) (v : View) (p : ℕ) → entry_at p s.places ≡ None → (f : ℕ → Job R → Tables R → View → dgram.After R) → dgram.at_place f p s v ≡ Some (s, v)
-  tells_nothing server settings s v p none f = ap (λ o. dgram.at_ticket f s v o) none
-
   told_nothing : (server : ℕ) (settings : Settings) (s : Tables R) (v : View) (p : ℕ) → entry_at p s.places ≡ None → (what : What) → place_in what ≡ Some p → dgram.tells requests server settings what s v ≡ Some (s, v)
-  told_nothing server settings s v p none (Opened q) e = tells_nothing server settings s v q (same_entry q p e s.places none) _
-  told_nothing server settings s v p none (OpenFailed q f) e = tells_nothing server settings s v q (same_entry q p e s.places none) _
-  told_nothing server settings s v p none (SendFailed q f) e = tells_nothing server settings s v q (same_entry q p e s.places none) _
-  told_nothing server settings s v p none (ShortSend q) e = tells_nothing server settings s v q (same_entry q p e s.places none) _
-  told_nothing server settings s v p none (RecvFailed q f) e = tells_nothing server settings s v q (same_entry q p e s.places none) _
-  told_nothing server settings s v p none (Datagram q o) e = tells_nothing server settings s v q (same_entry q p e s.places none) _
+  told_nothing server settings s v p none (Opened q) e = tells_nothing s v q (same_entry q p e s.places none) (λ ticket job s v. dgram.opened_stage requests server settings q ticket job s v job.stage)
+  told_nothing server settings s v p none (OpenFailed q f) e = tells_nothing s v q (same_entry q p e s.places none) (λ ticket job s v. dgram.open_failed_stage server (errors.Dgram (query.Connect f)) q ticket s v job.stage)
+  told_nothing server settings s v p none (SendFailed q f) e = tells_nothing s v q (same_entry q p e s.places none) (λ ticket job s v. dgram.ends_stage server (Err (errors.Dgram (query.Send f))) q ticket s v job.stage)
+  told_nothing server settings s v p none (ShortSend q) e = tells_nothing s v q (same_entry q p e s.places none) (λ ticket job s v. dgram.ends_stage server (Err (errors.Dgram (query.Send fault.ShortSend))) q ticket s v job.stage)
+  told_nothing server settings s v p none (RecvFailed q f) e = tells_nothing s v q (same_entry q p e s.places none) (λ ticket job s v. dgram.ends_stage server (Err (errors.Dgram (query.Receive f))) q ticket s v job.stage)
+  told_nothing server settings s v p none (Datagram q o) e = tells_nothing s v q (same_entry q p e s.places none) (λ ticket job s v. dgram.comes_stage requests server settings (take settings.recv_size o) q ticket job s v job.stage)
   told_nothing server settings s v p none (Ask r) e = refl
   told_nothing server settings s v p none (Wrote q k) e = refl
   told_nothing server settings s v p none (WriteFailed q f) e = refl

@@ -20,7 +20,7 @@ pub record OpensDrawn {R U P : Type 0} (has : U → ℕ → Bool) (t : Transport
   pub cancels : (p : P) (u : U) (v : View) → Leads (Opens has u v) (t.cancel p u v)
 
 -- what happens at another place is nothing to it
-abbrev pub Ignores : {R U P : Type 0} (has : U → ℕ → Bool) (t : Transport R U P) → Type 0
+abbrev pub Ignores : {R U P : Type 0} → (has : U → ℕ → Bool) → (t : Transport R U P) → Type 0
 Ignores {U = U} has t = (h : Heard) (p : ℕ) (u : U) (v : View) → place_of h ≡ Some p → has u p ≡ false → t.step h u v ≡ Some (u, v)
 
 module _ {R D S P Q : Type 0} (has_d : D → ℕ → Bool) (has_s : S → ℕ → Bool) where

@@ -1,6 +1,6 @@
 -- What a call leaves, and which places are there after it.
 use Rattle.std.specs.Prelude.{◌≡◌, ℕ, ◌+◌, ◌<◌, ◌≤◌, ◌⊎◌, Bool, true, Option, Some, None, option_and_then}
-use Rattle.std.proofs.Common.{inl, inr, subst, arith}
+use Rattle.std.proofs.Common.{inl, inr, subst, arith, le_trans, lt_of_lt_of_le}
 use Rattle.client_request.specs.View.{View, Heard, told, more_at, due_timer}
 use Rattle.client_request.specs.declared.event.What.{What}
 use Rattle.client_request.specs.declared.event.What.TheVariants.{Ask, Opened, OpenFailed, SendFailed, ShortSend, Datagram, RecvFailed, Wrote, WriteFailed, Bytes, ReadFailed, Ended, Tick}
@@ -55,7 +55,7 @@ AreKnown first n m now = (n ≤ m) × ((p : ℕ) → now p ≡ true → IsKnown 
 module _ (first : ℕ → Bool) (n : ℕ) where
   pub known_on : (m m' p : ℕ) → m ≤ m' → IsKnown first n m p → IsKnown first n m' p
   known_on m m' p le (inl e) = inl e
-  known_on m m' p le (inr x) = (let lt = x.1 in inr (x.0, omega arith))
+  known_on m m' p le (inr x) = inr (x.0, lt_of_lt_of_le x.1 le)
 
   -- fewer are there
   pub fewer : (m : ℕ) (now later : ℕ → Bool) → AreKnown first n m now → ((p : ℕ) → later p ≡ true → now p ≡ true) → AreKnown first n m later
@@ -63,8 +63,11 @@ module _ (first : ℕ → Bool) (n : ℕ) where
 
   -- the next one is drawn
   pub one_more : (m : ℕ) (now later : ℕ → Bool) → AreKnown first n m now → ((p : ℕ) → later p ≡ true → (now p ≡ true) ⊎ (p ≡ m)) → AreKnown first n (m + 1) later
-  one_more m now later k more = (let le = k.0 in omega arith, λ p e. by p (more p e))
+  one_more m now later k more = (grown k.0, λ p e. by p (more p e))
     where
+      grown : n ≤ m → n ≤ m + 1
+      grown le = omega arith
+
       here : (p : ℕ) → n ≤ m → p ≡ m → (n ≤ p) × (p < m + 1)
       here p le e = (omega arith, omega arith)
 
@@ -74,10 +77,10 @@ module _ (first : ℕ → Bool) (n : ℕ) where
 
   -- a call that draws some is made
   pub by_call : (m m' : ℕ) (now later : ℕ → Bool) → AreKnown first n m now → m ≤ m' → ((p : ℕ) → later p ≡ true → (now p ≡ true) ⊎ ((m ≤ p) × (p < m'))) → AreKnown first n m' later
-  by_call m m' now later k le more = (let l = k.0 in omega arith, λ p e. by p (more p e))
+  by_call m m' now later k le more = (le_trans k.0 le, λ p e. by p (more p e))
     where
       here : (p : ℕ) → n ≤ m → (m ≤ p) × (p < m') → (n ≤ p) × (p < m')
-      here p l x = (let a = x.0 in omega arith, x.1)
+      here p l x = (le_trans l x.0, x.1)
 
       by : (p : ℕ) → (now p ≡ true) ⊎ ((m ≤ p) × (p < m')) → IsKnown first n m' p
       by p (inl e) = known_on m m' p le (k.1 p e)

@@ -8,7 +8,7 @@ use Rattle.client_request.specs.View.{View, Heard, Transport, told, more_at, due
 use Rattle.client_request.specs.declared.error.Error.{Error}
 use Rattle.client_request.specs.declared.error.Error.TheVariants as errors
 use Rattle.client_request.specs.declared.fault.Fault.TheVariants as fault
-use Rattle.client_request.specs.declared.event.Out.TheVariants.{Close}
+use Rattle.client_request.specs.declared.event.Out.TheVariants.{Close, Resume}
 use Rattle.client_request.specs.declared.event.What.{What}
 use Rattle.client_request.specs.declared.event.What.TheVariants.{Ask, Opened, OpenFailed, SendFailed, ShortSend, Datagram, RecvFailed, Wrote, WriteFailed, Bytes, ReadFailed, Ended, Tick}
 use Rattle.client_transfer.specs.States.{checked}
@@ -34,6 +34,13 @@ pub record DrawsNone {R S P : Type 0} (t : Transport R S P) : Type 0 where
   pub steps : (h : Heard) (s : S) (v : View) → Leads (λ w x. x.place ≡ v.place) (t.step h s v)
   pub cancels : (p : P) (s : S) (v : View) → Leads (λ w x. x.place ≡ v.place) (t.cancel p s v)
 
+module _ (n : ℕ) where
+  stopped : (at : LineStage) (v : View) → v.place ≡ n → (plain.drops_own_timer at v).place ≡ n
+  stopped stage.New v e = e
+  stopped (stage.Active timer since) v e = e
+  stopped (stage.Idle timer) v e = e
+  stopped stage.Ended v e = e
+
 module _ {R M : Type 0} (n : ℕ) where
   abbrev At : Line R M → View → Type 0
   At s v = v.place ≡ n
@@ -44,12 +51,6 @@ module _ {R M : Type 0} (n : ℕ) where
   then_stays : (o : plain.After R M) (f : Line R M → View → plain.After R M) → Stays o → ((s : Line R M) (v : View) → v.place ≡ n → Stays (f s v)) → Stays (option_and_then (λ x. f x.0 x.1) o)
   then_stays o f = chain At At o f
 
-  stopped : (at : LineStage) (v : View) → v.place ≡ n → (plain.drops_own_timer at v).place ≡ n
-  stopped stage.New v e = e
-  stopped (stage.Active timer since) v e = e
-  stopped (stage.Idle timer) v e = e
-  stopped stage.Ended v e = e
-
   set_at : (to : LineStage) (due : ℕ) (s : Line R M) (v : View) → v.place ≡ n → Stays (option_and_then (λ w. Some (record s { stage = to }, w)) (sets_timer due v))
   set_at to due s v e = by (can_draw v.timers.next)
     where
@@ -58,7 +59,7 @@ module _ {R M : Type 0} (n : ℕ) where
       by false = tt
 
   became : (to : ℕ → LineStage) (due : ℕ) (s : Line R M) (v : View) → v.place ≡ n → Stays (plain.becomes to due s v)
-  became to due s v e = set_at (to v.timers.next) due s (plain.drops_own_timer s.stage v) (stopped s.stage v e)
+  became to due s v e = set_at (to v.timers.next) due s (plain.drops_own_timer s.stage v) (stopped n s.stage v e)
 
   awaited : (since : ℕ) (s : Line R M) (v : View) → v.place ≡ n → Stays (plain.awaits_frame_since since s v)
   awaited since s v e = became (λ timer. stage.Active timer since) (since + s.timeout + 1) s v e
@@ -74,7 +75,7 @@ module _ {R M : Type 0} (n : ℕ) where
   woken timeout s v e stage.Ended = e
 
   ended : (place : ℕ) (error : Error) (s : Line R M) (v : View) → v.place ≡ n → Stays (plain.ends place error s v)
-  ended place error s v e = stopped s.stage (asks (Close place) v) e
+  ended place error s v e = stopped n s.stage (asks (Close place) v) e
 
   idle_if_unused : (place : ℕ) (s : Line R M) (v : View) → v.place ≡ n → Stays (plain.becomes_idle_if_unused place s v)
   idle_if_unused place s v e = by (plain.has_nothing s) (s.idle_time == 0)
@@ -181,7 +182,7 @@ module _ {R M : Type 0} (n : ℕ) where
       where
         by : (b c : Bool) → Stays (if b then plain.ends place (errors.StreamWriteError fault.NothingTaken) s v
             else if c then plain.pumps one several place settings s.queue (record s { writing = None }) v
-            else Some (record s { writing = Some (drop count octets) }, asks _ v))
+            else Some (record s { writing = Some (drop count octets) }, asks (Resume place (drop count octets)) v))
         by true c = ended place (errors.StreamWriteError fault.NothingTaken) s v e
         by false true = pumped settings s.queue (record s { writing = None }) v e
         by false false = e

@@ -5,12 +5,13 @@ use Rattle.std.proofs.lemmas.Bool.Decides.{nat_tests}
 use Rattle.client_request.specs.Board.{Part}
 use Rattle.client_request.specs.Numbered.{puts, frees, entry_at}
 use Rattle.client_request.specs.Timers.{can_draw, with_timer}
-use Rattle.client_request.specs.View.{View, Heard, Step, told, more_at, due_timer, answers, drawn, drops_timer, sets_timer}
+use Rattle.client_request.specs.View.{View, Heard, Step, told, more_at, due_timer, asks, answers, drawn, drops_timer, sets_timer}
 use Rattle.client_request.specs.declared.board.Posted.{Posted}
 use Rattle.client_request.specs.declared.error.Error.TheVariants as errors
+use Rattle.client_request.specs.declared.event.Out.TheVariants.{OpenStream}
 use Rattle.client_request.specs.declared.event.What.{What}
 use Rattle.client_request.specs.declared.event.What.TheVariants.{Ask, Opened, OpenFailed, SendFailed, ShortSend, Datagram, RecvFailed, Wrote, WriteFailed, Bytes, ReadFailed, Ended, Tick}
-use Rattle.client_stream.specs.Plain.{Asked}
+use Rattle.client_stream.specs.Plain.{Asked, asked}
 use Rattle.client_settings.specs.Stream.{Settings as StreamSettings}
 use Rattle.client_settings.specs.MultiStream.{Settings}
 use Rattle.client_multi.specs.MultiStream as multi
@@ -157,9 +158,12 @@ module _ {R S : Type 0} (below : OneStream R S) (none : DrawsNone below.calls) (
   held : (ticket : ℕ) (job : Job R) (place : ℕ) (c : S) (s : Tables R S) (v : View) → IsKnown first n v.place place → Grown s v → Grows (multi.holds below ticket job place c s v)
   held ticket job place c s v known g = by (below.calls.send job.request c (multi.lent (record v { request = job.number }))) (none.sends job.request c (multi.lent (record v { request = job.number })))
     where
-      by : (o : Option (S × View)) → Leads (λ w x. x.place ≡ v.place) o → Grows (option_and_then (multi.returns below place (record s { jobs = _; inner = _ }) v) o)
+      with_it : Tables R S
+      with_it = record s { jobs = puts ticket (record job { stage = Held place (asked v.ticket) }) s.jobs; inner = puts v.ticket ticket s.inner }
+
+      by : (o : Option (S × View)) → Leads (λ w x. x.place ≡ v.place) o → Grows (option_and_then (multi.returns below place with_it v) o)
       by None l = tt
-      by (Some x) l = returned place (record s { jobs = _; inner = _ }) v x known g l
+      by (Some x) l = returned place with_it v x known g l
 
   left : (ticket : ℕ) (stage : Stage) (s : Tables R S) (v : View) → Grown s v → Grows (multi.leaves below ticket stage s v)
   left ticket Waiting s v g = g
@@ -187,7 +191,7 @@ module _ {R S : Type 0} (below : OneStream R S) (none : DrawsNone below.calls) (
       comes p (inl e) = inl (or_left (has_key s.connections p) (multi.is_number p s.opening) e)
       comes p (inr e) = inr (its_number p v.place e)
 
-      by : (b : Bool) → Grows (option_and_then (λ w. Some (record (multi.waits ticket job s) { opening = Some v.place }, _)) (if b then Some (record v { place = v.place + 1 }) else None))
+      by : (b : Bool) → Grows (option_and_then (λ w. Some (after, asks (OpenStream v.place server) w)) (if b then Some (record v { place = v.place + 1 }) else None))
       by true = one_more first n v.place (has_in s) (has_in after) g (λ p e. comes p (either_or (has_key s.connections p) (multi.is_number p (Some v.place)) e))
       by false = tt
 
