@@ -5,7 +5,8 @@
 
 PROGRAM is the built trace_audit, REFERENCE_FOLDER holds the package `plain`, whose generator makes scripts and whose client makes their
 traces. N traces of each kind: as they are made; of a client without a cache, which misses hits; of one that serves nothing that has
-expired, by a script in which that may serve, which misses such answers; and as they are made, where the script keeps more entries.
+expired, by a script in which that may serve, which misses such answers; of one that gives messages that fail, where what has expired may
+serve; and as they are made, where the script keeps more entries.
 Ends with status 1 where an answer differs; such traces are kept in the folder of --keep, where that is given.
 """
 
@@ -25,10 +26,11 @@ WORKER = {}
 
 # name: the stage of the reference client, and the lines that its script has more
 KINDS = {
-    "as made": (17, b""),
+    "as made": (18, b""),
     "without a cache": (7, b""),
     "nothing serves that has expired": (16, b"set stale-for 604800\n"),
-    "more entries": (17, b"set max-cache-entries 1000000\n"),
+    "what fails is given": (17, b""),
+    "more entries": (18, b"set max-cache-entries 1000000\n"),
 }
 
 
@@ -44,12 +46,8 @@ class Asking(Judge):
         super().watches(k)
 
     def never_fails(self):
-        self.missed |= {self.rows[x.request] for x in self.watched if self.h.now <= x.limit and self.fails_now(x.request)}
+        self.missed |= {self.rows[x.request] for x in self.watched if self.h.now <= x.limit and x.request in self.failed_here}
         super().never_fails()
-
-    def fails_now(self, k):
-        from definitions.right import Err, is_failure
-        return any(o.kind == "reply" and o.request == k and isinstance(o.result, Err) and is_failure(o.result) for o in self.outs)
 
 
 def wanted(script, trace):

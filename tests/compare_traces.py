@@ -1,7 +1,7 @@
 """Compares the traces of the built program dnsq with a reference client.
 
 usage: python3 tests/compare_traces.py REFERENCE_FOLDER PROGRAM [--profile P] [--stage N] [--judge J] [--scripts N]
-           [--events N] [--first SEED] [--leave-out NAME]
+           [--events N] [--first SEED] [--leave-out NAME] [--stale] [--drawing NAME]
 
 REFERENCE_FOLDER holds the package `plain`; PROGRAM is the built dnsq. Without the folder nothing is compared, and that is
 said. Each script is made by the reference's own generator from its number as the seed, so a failure can be made again.
@@ -11,7 +11,8 @@ several, and `all` everything. The stage, how much of the client is built, count
 is the profile's own where none is given. Judges: `check_trace` compares with the reference client step by step,
 `check_right` says whether a trace is right by the reference's reading of the definitions, and `definitions` whether it is by
 those of this folder (`judge_by_definitions.py`). Lines `set` whose name begins with the NAME of a `--leave-out` are left out of
-each script.
+each script, and a bound on a cache's octets always is. With `--drawing` each script has a line `set` whose name begins with one of
+its NAMEs. With `--stale` (profile `all`) servers keep well a while and fail a while, so that what has expired serves.
 """
 
 import argparse
@@ -22,18 +23,37 @@ import tempfile
 
 from judge_by_definitions import faults_in, told as lines_of
 
-STAGES = {"dgram1": 1, "dgram2": 2, "dgram3": 3, "dgram": 3, "stream1": 6, "servers": 7, "all": 17}
+STAGES = {"dgram1": 1, "dgram2": 2, "dgram3": 3, "dgram": 3, "stream1": 6, "servers": 7, "all": 18}
 
 
 def reference(folder, *words, **how):
     return subprocess.run([sys.executable, "-m", *words], cwd=folder, capture_output=True, **how)
 
 
-def compare(folder, program, seed, options, room):
-    made = reference(folder, "plain.fuzz", "--seed", str(seed), "--events", str(options.events),
-                     "--profile", options.profile, "--stage", str(options.stage), check=True).stdout
-    heads = tuple(f"set {it}".encode() for it in options.leave_out)
-    made = b"".join(it for it in made.splitlines(keepends=True) if not it.startswith(heads))
+def heads(names):
+    return tuple(f"set {it}".encode() for it in names)
+
+
+def script_of(folder, seed, options):
+    words = ["--stale"] if options.stale else []
+    made = reference(folder, "plain.fuzz", "--seed", str(seed), "--events", str(options.events), "--profile", options.profile,
+                     "--stage", str(options.stage), *words, check=True).stdout
+    left = heads(["max-cache-octets", *options.leave_out])
+    return b"".join(it for it in made.splitlines(keepends=True) if not it.startswith(left))
+
+
+def scripts(folder, options):
+    """The seeds and scripts that are asked for."""
+    seed, found = options.first, 0
+    while found < options.scripts:
+        made = script_of(folder, seed, options)
+        if not options.drawing or any(it.startswith(heads(options.drawing)) for it in made.splitlines()):
+            found += 1
+            yield seed, made
+        seed += 1
+
+
+def compare(folder, program, seed, made, options, room):
     script, trace = os.path.join(room, "script"), os.path.join(room, "trace")
     ran = subprocess.run([program, "replay"], input=made, capture_output=True, timeout=120)
     with open(script, "wb") as it:
@@ -63,6 +83,8 @@ def main():
     parser.add_argument("--first", type=int, default=1)
     parser.add_argument("--judge", default="check_trace", choices=("check_trace", "check_right", "definitions"))
     parser.add_argument("--leave-out", action="append", default=[])
+    parser.add_argument("--stale", action="store_true")
+    parser.add_argument("--drawing", action="append", default=[])
     options = parser.parse_args()
     if options.stage is None:
         options.stage = STAGES[options.profile]
@@ -72,8 +94,8 @@ def main():
     program = os.path.abspath(options.program)
     failed = 0
     with tempfile.TemporaryDirectory() as room:
-        for seed in range(options.first, options.first + options.scripts):
-            failed += not compare(options.reference, program, seed, options, room)
+        for seed, made in scripts(options.reference, options):
+            failed += not compare(options.reference, program, seed, made, options, room)
     print(f"{options.scripts - failed} passed, {failed} failed")
     return 1 if failed else 0
 

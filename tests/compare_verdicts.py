@@ -22,7 +22,7 @@ from definitions.mutations import mutated
 from definitions.right import verdict
 from judge_by_definitions import Reference
 
-PROFILES, STAGE = ("stream1", "servers", "all"), 17
+PROFILES, STAGE = ("stream1", "servers", "all"), 18
 WORKER = {}
 
 

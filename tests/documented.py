@@ -18,10 +18,13 @@ SPECS = TOP / "crates/dns_script/specs"
 
 
 def names(path, table):
-    """The names of a table of definitions."""
+    """The names of a table of definitions, and of the table that it goes on with."""
     text = path.read_text(encoding="utf-8")
-    body = re.search(rf"^{table} =\n?(.*?)∷ \[\]", text, re.M | re.S)
-    return set(re.findall(r'codes "([^"]+)"', body.group(1))) if body else set()
+    body = re.search(rf"^{table} =\n?(.*?)∷ (\[\]|\w+_names)", text, re.M | re.S)
+    if not body:
+        return set()
+    rest = set() if body.group(2) == "[]" else names(path, body.group(2))
+    return set(re.findall(r'codes "([^"]+)"', body.group(1))) | rest
 
 
 def rows(text, heading):

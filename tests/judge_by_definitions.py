@@ -24,7 +24,7 @@ from definitions.messages import end_of
 from definitions.mutations import mutated
 from definitions.right import judge, verdict
 
-STAGES = {"stream1": 6, "servers": 7, "all": 17}
+STAGES = {"stream1": 6, "servers": 7, "all": 18}
 FIRST_WITH_CACHE = 8
 CLAUSES = ("Right", "Timely", "Deferred", "Hit", "Stale")
 
@@ -65,12 +65,27 @@ class Reference:
     def __init__(self, folder):
         sys.path.insert(0, folder)
         from plain import fuzz, script
+        from plain.settings import CacheConfig
         from plain.tests import audit
-        self.fuzz, self.script, self.auditing, self.refusal = fuzz, script, audit, script.ScriptFault
+        self.script, self.auditing, self.refusal = script, audit, script.ScriptFault
+
+        class BoundedByEntries(fuzz.Fuzzer):
+            """Its caches have no bound on octets, which no client here has."""
+
+            def _settings(self):
+                conf, redundant, cache = super()._settings()
+                self.head = [line for line in self.head if not line.startswith("set max-cache-octets ")]
+                cache.max_cache_octets = CacheConfig().max_cache_octets
+                return conf, redundant, cache
+
+        self.fuzzer = BoundedByEntries
 
     def made(self, seed, events, profile, stage):
         """A script and its trace."""
-        run = self.fuzz.make(seed, events, profile, stage, stage > 16)
+        run = self.fuzzer(seed, profile, stage, stage > 16)
+        for _ in range(events):
+            run.event()
+        run.finish()
         return run.text(), self.script.trace_text(run.rows)
 
     def judges(self, script, trace, stage):
@@ -79,12 +94,12 @@ class Reference:
         except self.refusal as fault:
             return "not read: line %d" % fault.line
         return self.auditing.audit(
-            self.script.read_script(script, False, stage), rows, stage > 16, stage >= FIRST_WITH_CACHE)
+            self.script.read_script(script, False, stage), rows, stage, stage >= FIRST_WITH_CACHE)
 
     def judges_without_case(self, script, trace, stage):
         """The same, where a view may spell its question's name in another case (RFC 4343)."""
         exact = self.auditing.same_view
-        self.auditing.same_view = lambda a, b: self.auditing.same_message(a, b, True)
+        self.auditing.same_view = lambda a, b, stage: self.auditing.same_message(a, b, True, stage=stage)
         try:
             return self.judges(script, trace, stage)
         finally:
@@ -212,7 +227,7 @@ def main():
     if options.verdict:
         return print_verdict(*options.verdict)
     if options.judge:
-        return judge_files(*options.judge, options.stage or 17)
+        return judge_files(*options.judge, options.stage or 18)
     if not os.path.isdir(os.path.join(options.reference, "plain")):
         print("skipped: no reference client in", options.reference)
         return 0

@@ -55,7 +55,7 @@ POINTER_COPIED = named("c00c", 70, "0001046d61696cc025")
 
 OTHER = answer(name="076578616d706c65036f726700")
 CUT = "000783800001000000000000" + question()
-FAILING = "000081820000000000000000"
+FAILING, ABSENT = "000081820000000000000000", "000081830000000000000000"
 PIECE = "%04x%s" % (len(answer()) // 2, answer())
 BAD = "0005" + "0102030405"
 
@@ -103,9 +103,16 @@ def expired(*outs):
     return given(ask(200000000), "> start 1 0 dgram", "> open-dgram 1 0", "at 200000100 open-failed 1 refused", *outs)
 
 
+def heard(message, *outs):
+    """That answer has expired, and this message came."""
+    return given(ask(200000000), "> start 1 0 dgram", "> open-dgram 1 0", "at 200000100 opened 1", "> send 1 1 0 " + datagram("0000"),
+                 "at 200000200 datagram 1 " + message, *outs)
+
+
 FIVE = "at 5000000 tick"
 LATER = ["> close 0", "> open-dgram 1 0"]
 KEPT = "> reply %d err Dgram Connect refused"
+OLD = ["> close 1", "> stale 1", "> reply 1 ok " + answer("1234", 30)]
 
 # name, lines of the configuration, rows, what is said
 REFUSED = [
@@ -113,7 +120,7 @@ REFUSED = [
     ("nothing_sent", CONF, asked("at 0 opened 0"), "H4 row 1"),
     ("no_answer", CONF, taken(0, OTHER), "H1 row 2"),
     ("cut_answer", CONF, taken(0, CUT), "H1 row 2"),
-    ("past_5_seconds", CONF, taken(5000000, answer()), "H1 row 2"),
+    ("past_its_time", CONF, taken(5000000, answer()), "H1 row 2"),
     ("closed_place", CONF, sent(FIVE, *LATER, "at 5000001 datagram 0 " + answer(), "> reply 0 ok " + answer(), "> close 1"), "H1 row 3"),
     ("early_timeout", CONF, sent("at 10 tick", "> close 0", "> reply 0 err TimedOut"), "H3 row 2"),
     ("passed_over", CONF, sent("at 0 datagram 0 " + answer()), "H4 row 2"),
@@ -127,7 +134,7 @@ REFUSED = [
     ("before_its_write", STREAMS, asked_by_stream("at 0 opened 0", "at 1 bytes 0 " + PIECE, "> reply 0 ok " + answer()), "H4 row 1"),
     ("after_a_bad_frame", STREAMS, frame_taken(1, BAD + PIECE, answer()), "H1 row 2"),
     ("another_id", STREAMS, frame_taken(1, "%04x%s" % (len(answer()) // 2, answer("0008")), answer("0008")), "H1 row 2"),
-    ("past_30_seconds", STREAMS, frame_taken(30000000, PIECE, answer()), "H1 row 2"),
+    ("past_its_time_by_stream", STREAMS, frame_taken(30000000, PIECE, answer()), "H1 row 2"),
     ("no_answer_by_stream", STREAMS, frame_taken(1, "%04x%s" % (len(OTHER) // 2, OTHER), OTHER), "H1 row 2"),
     ("frame_passed_over", STREAMS, written("at 1 bytes 0 " + PIECE), "H5 row 2"),
     ("second_while_opening", STREAMS, [ask(0), "> start 0 0 stream", "> open-stream 0 0", "> open-stream 1 0"], "H4 row 0"),
@@ -154,6 +161,9 @@ REFUSED = [
     ("stale_at_once", STALE, given(ask(200000000), "> stale 1", "> reply 1 ok " + answer("1234", 30)), "H1 row 3"),
     ("without_mark", STALE, expired("> reply 1 ok " + answer("1234", 30)), "H1 row 4"),
     ("alone", STALE, expired("> stale 1"), "H4 row 4"),
+    ("for_none", CONF, heard(FAILING, *OLD), "H1 row 5"),
+    ("for_absent", STALE, heard(ABSENT, *OLD), "H1 row 5"),
+    ("before_all", [*TWO, *STALE[1:]], heard(FAILING, *OLD), "H1 row 5"),
 ]
 
 # the same with what is owed
@@ -164,6 +174,8 @@ TAKEN = [
     ("view_of_names", CONF, named_given(WRITTEN_OUT)),
     ("kept_error", CONF, refused(ask(30000000), KEPT % 1)),
     ("stale", STALE, expired("> stale 1", "> reply 1 ok " + answer("1234", 30))),
+    ("stale_for_failing", STALE, heard(FAILING, *OLD)),
+    ("given_itself", STALE, heard(FAILING, "> close 1", "> reply 1 ok " + FAILING)),
 ]
 
 

@@ -9,10 +9,6 @@ from collections import namedtuple
 from . import messages as dns
 from .requests import carries_by
 
-READ_TIMEOUT = 5000000
-RESPONSE_TIMEOUT = 19000000
-IDLE_TIMEOUT = 10000000
-STREAM_TIMEOUT = 30000000
 BACK_OFF = 64000000
 ID_COUNT = 32768
 
@@ -74,6 +70,9 @@ def last_keepalive(ms, before):
 class History:
     def __init__(self, conf):
         self.conf = conf
+        self.read_timeout = conf.transports.dgram_read_timeout
+        self.response_timeout = conf.transports.stream_response_timeout
+        self.stream_timeout = conf.transports.multi_stream_response_timeout
         self.now, self.row, self.newest = 0, -1, None
         self.asks = 0
         self.asking, self.replied, self.start = Fold(), Fold(), Fold()
@@ -245,7 +244,8 @@ class History:
     def carries(self, via, k, id_, octets):
         key = via, k, id_, octets
         if key not in self.carried:
-            self.carried[key] = carries_by(via, octets, self.asking[k].request, id_)
+            self.carried[key] = carries_by(
+                via, octets, self.asking[k].request, id_, self.conf.transports.dgram_udp_payload_size)
         return self.carried[key]
 
     # ---- places
@@ -264,6 +264,13 @@ class History:
         what = self.newest
         return what.place == p and (what.kind in TELLING or what.kind == "wrote" and what.more == 0)
 
+    def taken_from(self, s, k):
+        """How many datagram places of server s open, or were sent another request than k."""
+        def is_taken(p):
+            last = self.sending.get(p)
+            return self.stand[p] == "Opening" or last is not None and last.place != k
+        return sum(self.is_at("dgram", s, p) and is_taken(p) for p in self.live_places)
+
     def live(self, s):
         return sum(self.is_at("dgram", s, p) for p in self.live_places)
 
@@ -273,12 +280,12 @@ class History:
     # ---- frames
 
     def came(self, what):
-        """What the event brings to its place: a datagram, cut at 2000 octets, or the frames that it completes."""
+        """What the event brings to its place: a datagram, as far as it is read, or the frames that it completes."""
         p = what.place
         if what.kind not in ("datagram", "bytes") or self.stand.past(p) != "Alive":
             return []
         if self.site.get(p).via == "dgram":
-            cut = what.more[:2000] if what.kind == "datagram" else b""
+            cut = what.more[:self.conf.transports.dgram_recv_size] if what.kind == "datagram" else b""
             return [cut] if len(cut) >= 12 else []
         if what.kind == "datagram":
             return []
@@ -337,7 +344,7 @@ class History:
         return self.now if p in self.opened_here or ms else self.past_quiet.get(p, 0)
 
     def idle_with(self, ms, p):
-        return last_keepalive(ms, self.past_idle.get(p, IDLE_TIMEOUT))
+        return last_keepalive(ms, self.past_idle.get(p, self.conf.transports.stream_idle_timeout))
 
     def idle_timer_is_due(self, p):
         """Before the row's event, or after some of the frames that came, the later ones not counted."""
@@ -356,11 +363,11 @@ class History:
     def read_timer_is_due(self, p):
         """By the rows before, at the moment of this row."""
         t, site = self.now, self.site.past(p)
-        if self.stand.past(p) != "Alive" or self.past_quiet.get(p, 0) + RESPONSE_TIMEOUT >= t:
+        if self.stand.past(p) != "Alive" or self.past_quiet.get(p, 0) + self.response_timeout >= t:
             return False
         if self.past_loose.get(p):
             return True
-        if any(w.moment + RESPONSE_TIMEOUT < t for ws in self.past_waiting.get(p, {}).values() for w in ws):
+        if any(w.moment + self.response_timeout < t for ws in self.past_waiting.get(p, {}).values() for w in ws):
             return True
         return site.via == "stream" and any(
             self.asking.past(k) is not None and self.started_past(k, site.server, "stream") for k in self.invalid)
@@ -386,10 +393,10 @@ class History:
     # ---- exchanges
 
     def unanswered(self, p, k, id_, row):
-        """What request k was sent as at p under this id, less than 5 s ago, with no answer since, by rows below `row`."""
+        """What request k was sent as at p under this id, less than the read timeout ago, with no answer since, by rows below `row`."""
         found = []
         for x in self.sent.get(p, ()):
-            if x.request != k or x.id != id_ or x.row >= row or self.now >= x.moment + READ_TIMEOUT:
+            if x.request != k or x.id != id_ or x.row >= row or self.now >= x.moment + self.read_timeout:
                 continue
             later = [m for r, m in self.datagrams.get(p, ()) if x.row < r < row]
             if x.row < self.row < row and self.newest.kind == "datagram":
@@ -403,7 +410,7 @@ class History:
         if via == "dgram":
             return self.unanswered(p, k, id_, row)
         start = self.start.get((k, s, "stream"))
-        if start is None or self.now >= start + STREAM_TIMEOUT:
+        if start is None or self.now >= start + self.stream_timeout:
             return []
         return [w.octets for w in self.waiting_with(ms, p, id_) if w.request == k]
 

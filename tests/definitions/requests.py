@@ -137,8 +137,10 @@ def says_request(octets, request):
             and agree(reading, contents))
 
 
-def carries(octets, request, id_):
-    return says_request(octets, request.with_id(id_).with_payload_size(1232))
+def carries(octets, request, id_, size):
+    """As it is composed for a datagram: a payload size is announced, if one is set."""
+    named = request.with_id(id_)
+    return says_request(octets, named if size is None else named.with_payload_size(size))
 
 
 def carries_in_frame(octets, request, id_):
@@ -149,9 +151,9 @@ def carries_in_frame(octets, request, id_):
     return says_request(rest, named) or says_request(rest, named.with_option(11, b""))
 
 
-def carries_by(via, octets, request, id_):
+def carries_by(via, octets, request, id_, size):
     if via == "dgram":
-        return carries(octets, request, id_) and dns.id_of(octets) == id_
+        return carries(octets, request, id_, size) and dns.id_of(octets) == id_
     return carries_in_frame(octets, request, id_)
 
 

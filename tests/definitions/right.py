@@ -6,11 +6,11 @@ A judge walks over the rows of a trace. For each of the five it keeps the first 
 from collections import namedtuple
 
 from . import messages as dns
-from .history import BACK_OFF, READ_TIMEOUT, STREAM_TIMEOUT, History
+from .history import BACK_OFF, History
 from .requests import covers
 from .texts import Err
-from .views import (is_deferred, is_final, is_valid_stale, known_parts, says, stale_of, validity_of_message, view_of,
-                    view_validity)
+from .views import (is_deferred, is_failing_message, is_final, is_valid_stale, known_parts, says, stale_of, tells_of_name,
+                    validity_of_message, view_of, view_validity)
 
 Fault = namedtuple("Fault", "row out definition")
 FreshReply = namedtuple("FreshReply", "message moment place")
@@ -55,6 +55,7 @@ def letter_of(definition, out):
 class Judge:
     def __init__(self, conf, settings, has_cache=True):
         self.conf, self.settings, self.has_cache = conf, settings, has_cache
+        self.max_tries = 1 + conf.transports.dgram_max_retries
         self.h = History(conf)
         self.faults = {}            # the first of each clause
         self.definitions = set()    # all that fail
@@ -71,6 +72,7 @@ class Judge:
         self.outs, self.out = [], None
         self.marked = None          # the request whose mark was put last, in this row
         self.watched = []           # requests that must not fail, each up to a moment
+        self.failed_here = set()    # requests that fail by a reply of this row
         self.defers_nothing = not (settings.defers_errors or settings.defers_refused or settings.defers_servfail)
 
     def fails(self, clause, definition):
@@ -87,7 +89,7 @@ class Judge:
     def row(self, moment, what, outs):
         h = self.h
         h.begin_row(moment, what)
-        self.outs, self.out, self.marked = outs, None, None
+        self.outs, self.out, self.marked, self.failed_here = outs, None, None, set()
         self.replied_in_row = {o.request for o in outs if o.kind == "reply"}
         if what.kind == "ask":
             self.log.append(Asked(h.asks - 1, h.row))
@@ -100,6 +102,8 @@ class Judge:
                 self.reply_apart(out.request, out.result)
             if out.kind == "reply":
                 self.note_reply(out)
+                if self.fails_by(out.request, out.result):
+                    self.failed_here.add(out.request)
             h.put(out)
             self.marked = out.request if out.kind == "stale" else None
         self.out = None
@@ -168,7 +172,7 @@ class Judge:
         h = self.h
         if not self.stands_to_send("dgram", out) or h.sending.get(out.place) is not None:
             return "MaySend"
-        return None if h.sends.get((out.request, h.site[out.place].server), 0) < 6 else "ServerOutRight: sends"
+        return None if h.sends.get((out.request, h.site[out.place].server), 0) < self.max_tries else "ServerOutRight: sends"
 
     def may_write(self, out):
         free = not self.h.waiting_with([], out.place, out.id)
@@ -194,7 +198,7 @@ class Judge:
         if sending is not None:
             answered = any(x.place == p and x.request == sending.place and x.via == "dgram" and x.agrees
                            for x in h.comes())
-            return answered or sending.moment + READ_TIMEOUT <= h.now or self.replied_here(sending.place)
+            return answered or sending.moment + h.read_timeout <= h.now or self.replied_here(sending.place)
         return (any(h.started(k, s, "dgram") and self.replied_here(k) for k in self.replied_in_row)
                 or any(h.started(k, s, "dgram") for k in h.invalid))
 
@@ -283,15 +287,24 @@ class Judge:
     # ---- what has expired
 
     def fails_here(self, k):
-        """Some error of a server or of the deadline has its own cause here."""
+        """Some error of a server or of the deadline has its own cause here, or a message that fails would be right."""
         h, what = self.h, self.h.newest
         told = self.told_error() or what.kind == "open-failed" and Err(("Dgram", "Connect", what.more))
-        if self.direct_cause(k, TIMED_OUT):
+        if self.direct_cause(k, TIMED_OUT) or self.some_message_fails(k):
             return True
         of_server = [told, NO_ANSWER, WRONG_REPLY, SILENCE, *self.earlier.get(k, ())]
         if not any(e and self.direct_cause(k, e) for e in of_server):
             return False
         return not self.settings.defers_errors or h.all_are_done(k) and self.none_came(k)
+
+    def some_message_fails(self, k):
+        """A message that fails is fresh here; where it is deferred every server is done with the request, and it is the first."""
+        for m in {x.message for x in self.h.matching() if x.request == k} | {
+                x.message for _, x, matches, _ in self.came_earlier.get(k, ()) if matches}:
+            if is_failing_message(m) and self.is_fresh(k, m) and (
+                    not is_deferred(self.settings, m) or self.h.all_are_done(k) and self.came_first(k, m)):
+                return True
+        return False
 
     def is_stale(self, k, m):
         r, settings = self.h.asking[k].request, self.settings
@@ -379,7 +392,8 @@ class Judge:
             count, last = h.sends.get((k, s)), h.last_try.get((k, s))
             if by_the_rows_before:
                 count, last = h.sends.past((k, s)), h.last_try.past((k, s))
-            if count == 6 and last.moment + READ_TIMEOUT <= h.now and h.stand.past(last.place) in ("Opening", "Alive"):
+            lived = last is not None and h.stand.past(last.place) in ("Opening", "Alive")
+            if count == self.max_tries and lived and last.moment + h.read_timeout <= h.now:
                 return True
         return False
 
@@ -388,7 +402,7 @@ class Judge:
         h = self.h
         for s, via in h.starts_of.get(k, ()):
             begun = h.start.past((k, s, "stream"))
-            if via == "stream" and begun is not None and begun + STREAM_TIMEOUT <= h.now and not any(
+            if via == "stream" and begun is not None and begun + h.stream_timeout <= h.now and not any(
                     x.via == "stream" and x.server == s and not excused
                     for _, x, _, excused in self.came_earlier.get(k, ())):
                 return True
@@ -411,7 +425,7 @@ class Judge:
         servers = {h.site[p].server for p in h.live_places} | {s for _, s, _ in h.start} | set(
             range(len(self.conf.servers)))
         for s in servers:
-            live, wanted = h.live(s), min(100, h.demand(s))
+            live, wanted = h.live(s), min(self.conf.transports.dgram_max_parallel, h.demand(s))
             if live > wanted or self.defers_nothing and live != wanted:
                 self.fails("Right", "PlacesAreMet: server %d" % s)
         self.prompt()
@@ -429,7 +443,8 @@ class Judge:
             return True
         there = [p for p in h.live_places if h.site[p].server == s]
         if h.started(k, s, "dgram") and (
-                any(h.site[p].via == "dgram" and h.stand[p] == "Opening" for p in there) or h.live(s) >= 100):
+                any(h.site[p].via == "dgram" and h.stand[p] == "Opening" for p in there)
+                or h.taken_from(s, k) >= self.conf.transports.dgram_max_parallel):
             return True
         if not h.started(k, s, "stream"):
             return False
@@ -441,13 +456,18 @@ class Judge:
         h = self.h
         for x in h.matching():
             k = x.request
-            given = any(o.kind == "reply" and o.request == k and o.result == x.message for o in self.outs)
-            if given or self.is_overdue(k) or h.is_excused(x.place):
+            if self.is_given_so(k, x.message) or self.is_overdue(k) or h.is_excused(x.place):
                 continue
             if is_final(self.settings, h.asking[k].request, x.message):
                 self.fails("Right", "Prompt: request %d" % k)
             elif not is_deferred(self.settings, x.message):
                 self.unkept.add(k)
+
+    def is_given_so(self, k, m):
+        """As it is; or, where an expired message may serve and this one fails, a stale one."""
+        as_it_is = any(o.kind == "reply" and o.request == k and o.result == m for o in self.outs)
+        return as_it_is or self.settings.stale_for > 0 and is_failing_message(m) and any(
+            o.kind == "stale" and o.request == k for o in self.outs)
 
     def is_overdue(self, k):
         asked = self.h.asking.past(k)
@@ -552,14 +572,25 @@ class Judge:
                 continue
             for x in self.fresh[j]:
                 parts, validity = known_parts(x.message), validity_of_message(self.settings, x.message)
-                if (validity and parts.code in (0, 3) and x.moment + validity < h.now
+                if (validity and tells_of_name(parts.code) and x.moment + validity < h.now
                         and self.few_between(j, q, x, k)):
                     self.watched.append(Watched(k, x.moment + validity + self.settings.stale_for, j))
 
+    def fails_by(self, k, result):
+        """An error of a server or of the deadline. Or, in a row behind the asking's: a message that fails and is not marked as stale; the error of
+        a message without validity, where none came here that does not fail."""
+        if isinstance(result, Err):
+            return is_failure(result) or result == PARSE and not self.h.is_asked_here(k) and not self.came_unread(k)
+        return is_failing_message(result) and self.marked != k and not self.h.is_asked_here(k)
+
+    def came_unread(self, k):
+        return k in self.h.asking and self.h.asking[k].request.is_cacheable and any(
+            x.request == k and not is_failing_message(x.message) and validity_of_message(self.settings, x.message) is None
+            for x in self.h.matching())
+
     def never_fails(self):
-        failed = {o.request for o in self.outs if o.kind == "reply" and isinstance(o.result, Err) and is_failure(o.result)}
         for x in self.watched:
-            if self.h.now <= x.limit and x.request in failed:
+            if self.h.now <= x.limit and x.request in self.failed_here:
                 self.fails("Stale", "NeverFails by request %d" % x.by)
 
 

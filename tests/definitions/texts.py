@@ -6,10 +6,10 @@ from types import SimpleNamespace
 from . import messages as dns
 from .requests import Request
 
-SECOND = 1000000
+SECOND, MILLISECOND = 1000000, 1000
 What = namedtuple("What", "kind place more", defaults=(None, None))
 Out = namedtuple("Out", "kind place request server via id octets result text")
-Conf = namedtuple("Conf", "servers timeout")
+Conf = namedtuple("Conf", "servers timeout transports")
 Err = namedtuple("Err", "words")
 
 # name: default, least and greatest, in seconds
@@ -21,6 +21,17 @@ DURATIONS = {
     "max-nodata-validity": (3600, 60, 86400),
     "max-delegation-validity": (1000000, 60, 1000000000),
     "stale-for": (0, 0, 604800),
+}
+# name: default, least and greatest, and the unit of what a script says
+TRANSPORTS = {
+    "dgram-max-parallel": (100, 1, 1000, 1),
+    "dgram-max-retries": (5, 0, 100, 1),
+    "dgram-read-timeout": (5000, 1, 60000, MILLISECOND),
+    "dgram-recv-size": (2000, 0, 2**64 - 1, 1),
+    "dgram-udp-payload-size": (1232, 0, 65535, 1),
+    "stream-response-timeout": (19000, 1, 600000, MILLISECOND),
+    "stream-idle-timeout": (10000, 0, 3600000, MILLISECOND),
+    "multi-stream-response-timeout": (30000, 1, 600000, MILLISECOND),
 }
 SWITCHES = {"defer-transport-error": "defers_errors", "defer-refused": "defers_refused",
             "defer-servfail": "defers_servfail", "cache-truncated": "cache_truncated"}
@@ -35,6 +46,16 @@ def first_settings():
     return settings
 
 
+def first_transports():
+    named = {name.replace("-", "_"): value * unit for name, (value, _, _, unit) in TRANSPORTS.items()}
+    return SimpleNamespace(**named)
+
+
+def take_transport(transports, name, value):
+    _, least, greatest, unit = TRANSPORTS[name]
+    setattr(transports, name.replace("-", "_"), None if value == "none" else max(least, min(greatest, int(value))) * unit)
+
+
 def take_setting(settings, name, value):
     if name in SWITCHES:
         setattr(settings, SWITCHES[name], value == "on")
@@ -47,7 +68,7 @@ def take_setting(settings, name, value):
 
 def read_script(text):
     """The configuration and the settings of a script."""
-    servers, seconds, by_stream, settings = 0, 5, False, first_settings()
+    servers, seconds, by_stream, settings, transports = 0, 5, False, first_settings(), first_transports()
     for line in text.decode().split("\n"):
         words = line.split()
         if words[:2] == ["conf", "nameserver"]:
@@ -57,11 +78,13 @@ def read_script(text):
                 by_stream = by_stream or word == "use-vc"
                 if word.startswith("timeout:"):
                     seconds = int(word[8:])
+        elif words[:1] == ["set"] and words[1] in TRANSPORTS:
+            take_transport(transports, words[1], words[2])
         elif words[:1] == ["set"]:
             take_setting(settings, words[1], words[2])
         elif words[:1] == ["at"]:
             break
-    return Conf(["streams" if by_stream else "dgrams"] * servers, seconds * SECOND), settings
+    return Conf(["streams" if by_stream else "dgrams"] * servers, seconds * SECOND, transports), settings
 
 
 def octets_of(word):

@@ -137,6 +137,15 @@ def view_validity(settings, q, r, x):
 
 # ---- what has expired (RFC 8767 4, 5)
 
+def tells_of_name(code):
+    return code in (0, 3)
+
+
+def is_failing_message(m):
+    """Its server failed."""
+    return not tells_of_name(dns.opt_rcode(m))
+
+
 def stale_of(q, r, x):
     """The view at age 0 with 30 seconds in place of each TTL but OPT's."""
     view = view_of(q, r, 0, x)
@@ -149,5 +158,5 @@ def stale_of(q, r, x):
 
 
 def is_valid_stale(settings, q, r, m, x, age):
-    return (bool(validity_of_message(settings, m)) and x.code in (0, 3) and settings.stale_for > 0
+    return (bool(validity_of_message(settings, m)) and tells_of_name(x.code) and settings.stale_for > 0
             and age <= view_validity(settings, q, r, x) + settings.stale_for)

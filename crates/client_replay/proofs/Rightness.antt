@@ -1,5 +1,5 @@
 -- What a replay has made when no event is left.
-use Rattle.std.proofs.Common.{◌≡◌, ℕ, List, [], ◌∷◌, ◌++◌, map, Option, Some, None, refl, ap, ◌∙◌, append-nil}
+use Rattle.std.proofs.Common.{◌≡◌, ℕ, List, [], ◌∷◌, ◌++◌, map, Option, Some, None, refl, ap, subst, ◌∙◌, append-nil}
 use Rattle.std.specs.Prelude.{option_map, option_and_then}
 use Rattle.client_core.proofs.Replaying.{row_event}
 use Rattle.client_request.specs.declared.event.Event.{Event}
@@ -13,7 +13,7 @@ use Rattle.client_steps.specs.Headline.{conf_of}
 use Rattle.right_settings.proofs.First.{first_given}
 use Rattle.right_trace.specs.Trace as trace
 use Rattle.client_settings.specs.Settings.{CacheSettings, RedundantSettings}
-use Rattle.client_steps.specs.Whole.{machine, plain_trace_with}
+use Rattle.client_steps.specs.Whole.{machine, plain_trace, plain_trace_with}
 use Rattle.client_replay.specs.Replayed.{IsReplay, IsReplayWith}
 use Rattle.resolv_conf.specs.declared.conf.ResolvConf.{ResolvConf}
 
@@ -56,8 +56,10 @@ is_replay given redundant cache conf words events rows right hits serves cuts ma
     }
 
 -- With the defaults it is a replay with the first settings.
-pub replay_of : (redundant : RedundantSettings) (cache : CacheSettings) (conf : ResolvConf) (words : ℕ → ℕ) (events : List Event) (rows : List Row) → IsReplayWith default_transports redundant cache conf words events rows → IsReplay redundant cache conf words events rows
-replay_of redundant cache conf words events rows x =
+pub replay_of : (given : Transports) (redundant : RedundantSettings) (cache : CacheSettings) (conf : ResolvConf) (words : ℕ → ℕ) (events : List Event) (rows : List Row) → given ≡ default_transports
+    → IsReplayWith given redundant cache conf words events rows → IsReplay redundant cache conf words events rows
+replay_of given redundant cache conf words events rows defaults y =
+    let x = subst (λ (t : Transports). IsReplayWith t redundant cache conf words events rows) defaults y in
     let are = first_given (conf_of conf) in
     record {
       plain = x.plain;
@@ -68,3 +70,8 @@ replay_of redundant cache conf words events rows x =
       stale = x.stale trace.first_transports are;
       cut = x.cut trace.first_transports are;
     }
+
+-- With the defaults there is no plain trace where there is none with what was given.
+pub none_of : (given : Transports) (redundant : RedundantSettings) (cache : CacheSettings) (conf : ResolvConf) (words : ℕ → ℕ) (events : List Event) → given ≡ default_transports
+    → plain_trace_with given redundant cache conf words events ≡ None → plain_trace redundant cache conf words events ≡ None
+none_of given redundant cache conf words events defaults none = subst (λ (t : Transports). plain_trace_with t redundant cache conf words events ≡ None) defaults none

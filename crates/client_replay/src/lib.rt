@@ -3,7 +3,7 @@
 //!
 //! The trace of a replay is the plain trace of the events handed in, it is **right** and **timely** (below), what is kept
 //! is given, and what has expired serves where servers fail; octets of a stream that come in several events do what they do
-//! in one. By `Client::replay`, of the trait `Replay`.
+//! in one. By `Client::replay` and, with settings of transports, `Client::replay_with`, of the trait `Replay`.
 //!
 //! ```text
 //! use client_core::Client;

@@ -2,14 +2,14 @@
 
 ghost use Rattle.std.specs.Prelude.{None};
 
-use client_core::{Client, Clock, cache};
+use client_core::{Client, Clock, Settings, Transports, cache};
 use client_edge::{RandWords, RealClock, SocketEdge};
 use client_loop::{ask, learn_all};
 use client_request::Error;
 use command_parts::{deliver, statuses};
 use dns_base::{IpAddr, Message, Name, NoMemory, Seq, SocketAddr};
 use dns_lookup_pages::{json_text, message_text, short_text};
-use dns_lookup_run::{document, query_text, request_by};
+use dns_lookup_run::{announced, document, query_text, request_by};
 use dns_lookup_walk::{NameServer, Verdict, World, received_line, silent_line};
 use dns_lookup_words::{Family, Layout, Lookup, Manner};
 use dns_values::{Status, StdSink};
@@ -36,7 +36,7 @@ type SoleReply = Option<Result<Message, Error>>;
 #[derive(Drop)]
 pub struct SocketWorld<'a> {
     rt: HostRuntime,
-    /// The port, the family and the way of asking that the words say.
+    /// The port, the family, the payload size and the way of asking that the words say.
     lookup: &'a Lookup,
     /// The servers that are given, and how any server is asked.
     conf: &'a ResolvConf,
@@ -114,6 +114,15 @@ impl<'a> SocketWorld<'a> {
         Ok(ResolvConf { servers, options })
     }
 
+    /// How the client is set that asks one server, which is named once: its transports ask it again.
+    fn settings(&self) -> Settings {
+        Settings {
+            redundant: practical_choice(),
+            cache: cache::Config::new(),
+            transports: announced(self.lookup.announced, Transports::new()),
+        }
+    }
+
     /// Asks one server what a message asks, by sockets of its own.
     fn reply_of(&mut self, ip: IpAddr, question: &Message) -> Result<SoleReply, Error> {
         let rt = self.rt;
@@ -122,7 +131,7 @@ impl<'a> SocketWorld<'a> {
         let request = request_by(alloc, self.manner.flags, question.try_clone()?)?;
         let mut edge = SocketEdge::new(rt, alloc);
         learn_all(&mut edge, conf.servers.as_slice())?;
-        let mut client = Client::new(alloc, &conf, practical_choice(), cache::Config::new())?;
+        let mut client = Client::with_settings(alloc, &conf, self.settings(), 0)?;
         let mut clock = RealClock::new(rt);
         let before = clock.now().0;
         let number = client.next_request();

@@ -12,16 +12,14 @@ use Rattle.client_loop.specs.Turns.{after_deeds}
 use Rattle.client_request.specs.declared.error.Error.{Error}
 use Rattle.client_request.specs.declared.error.Error.TheVariants.{NumbersUsed}
 use Rattle.client_request.specs.declared.event.Row.{Row}
-use Rattle.client_settings.specs.Settings.{default_cache}
-use Rattle.resolver_policy.specs.Practice.{practical_choice}
-use Rattle.client_steps.specs.Whole.{Whole, started}
+use Rattle.client_steps.specs.Whole.{Whole}
 use Rattle.command_parts.specs.Ends.{IsSaid}
 use Rattle.dns_lookup_pages.specs.declared.short.Lacking.{Lacking}
 use Rattle.dns_lookup_pages.specs.declared.short.Lacking.TheVariants as lacks
 use Rattle.dns_record.specs.Asking.{IsAnsweredAnd}
 use Rattle.dns_values.specs.Source.{Rose}
 use Rattle.dns_lookup_run.specs.Reports.{tells, told_of}
-use Rattle.dns_lookup_run.specs.Worlds.{World, begun, is_message, said}
+use Rattle.dns_lookup_run.specs.Worlds.{World, begun, client_for, is_message, said}
 use Rattle.dns_lookup_run.specs.declared.watched_edge.Opened.{Opened}
 use Rattle.resolv_conf.specs.declared.server.ServerConf.{ServerConf}
 use Rattle.resolv_conf.specs.declared.conf.ResolvConf.{ResolvConf}
@@ -40,12 +38,12 @@ use Rattle.dns_lookup_words.specs.declared.lookup.Lookup.{Lookup}
 use Rattle.dns_lookup_words.specs.declared.manner.Ask.{Ask}
 
 -- a new client, whose edge learned the servers, stands where the first request is asked
-pub begins : (conf : ResolvConf) (client : Whole) (old : World) (deeds : Option (List Deed)) (waits : Option (List ℕ)) (polls : ℕ)
-    → HasBegun conf client old.deeds deeds old.polls polls → scene client old.words deeds waits polls old.moments ≡ begun conf old waits
-begins conf client old deeds waits polls h =
+pub begins : (lookup : Lookup) (conf : ResolvConf) (client : Whole) (old : World) (deeds : Option (List Deed)) (waits : Option (List ℕ)) (polls : ℕ)
+    → HasBegun lookup conf client old.deeds deeds old.polls polls → scene client old.words deeds waits polls old.moments ≡ begun lookup conf old waits
+begins lookup conf client old deeds waits polls h =
     ap (λ m. scene m old.words deeds waits polls old.moments) h.made
-    ∙ ap (λ d. scene (started practical_choice default_cache conf) old.words d waits polls old.moments) h.learned
-    ∙ ap (λ p. scene (started practical_choice default_cache conf) old.words (after_deeds (map (λ server. Learned server) conf.servers) old.deeds) waits p old.moments) h.polled
+    ∙ ap (λ d. scene (client_for lookup conf) old.words d waits polls old.moments) h.learned
+    ∙ ap (λ p. scene (client_for lookup conf) old.words (after_deeds (map (λ server. Learned server) conf.servers) old.deeds) waits p old.moments) h.polled
 
 -- where a request begins, and where one ends
 abbrev pub leaves : Whole → World → Option (List Deed) → (waits : Option (List ℕ)) → ℕ → Scene
@@ -123,21 +121,21 @@ module _ {A : Type 0} (made : A → Whole → List Row → A → Whole → Type 
       (all, one_made m first (more ++ ask ∷ []) reply (replies ++ answer ∷ []) r.0 all a x c old mid new one r.1 refl)
 
 -- what is so before the next of all asks: these are left, this many were asked, and the first answer without data was this
-pub record SoFar {A : Type 0} (made : A → Whole → List Row → A → Whole → Type 0) (all : List Try) (conf : ResolvConf) (old : World) (first : A) (rest : List Try) (number : ℕ) (lack : Option Lacking) (last : A) (at : Scene) : Type 0 where
+pub record SoFar {A : Type 0} (made : A → Whole → List Row → A → Whole → Type 0) (all : List Try) (lookup : Lookup) (conf : ResolvConf) (old : World) (first : A) (rest : List Try) (number : ℕ) (lack : Option Lacking) (last : A) (at : Scene) : Type 0 where
   pub asks : List Ask
   pub answers : List Answer
   pub rows : List Row
   pub waits : Option (List ℕ)
   pub walks : Walks all asks answers lack rest
   pub count : number ≡ length asks
-  pub answered : AreAnswered 0 asks answers (begun conf old waits) at
-  pub are_made : AreMade made 0 asks answers rows first last (begun conf old waits) at
+  pub answered : AreAnswered 0 asks answers (begun lookup conf old waits) at
+  pub are_made : AreMade made 0 asks answers rows first last (begun lookup conf old waits) at
   pub messages : All (λ (answer : Answer). is_message answer ≡ true) answers
 
 -- the same where the first that is left is named
-pub at_first : {A : Type 0} (made : A → Whole → List Row → A → Whole → Type 0) (all : List Try) (conf : ResolvConf) (old : World) (first : A) (rest : List Try) (one : Try) (later : List Try) (number : ℕ) (lack : Option Lacking) (last : A) (at : Scene)
-    → rest ≡ one ∷ later → SoFar made all conf old first rest number lack last at → SoFar made all conf old first (one ∷ later) number lack last at
-at_first made all conf old first rest one later number lack last at is so = subst (λ (left : List Try). SoFar made all conf old first left number lack last at) is so
+pub at_first : {A : Type 0} (made : A → Whole → List Row → A → Whole → Type 0) (all : List Try) (lookup : Lookup) (conf : ResolvConf) (old : World) (first : A) (rest : List Try) (one : Try) (later : List Try) (number : ℕ) (lack : Option Lacking) (last : A) (at : Scene)
+    → rest ≡ one ∷ later → SoFar made all lookup conf old first rest number lack last at → SoFar made all lookup conf old first (one ∷ later) number lack last at
+at_first made all lookup conf old first rest one later number lack last at is so = subst (λ (left : List Try). SoFar made all lookup conf old first left number lack last at) is so
 
 -- where none is left, what holds behind each that was told holds
 pub none_left : (left : ℕ) (P : Type 0) → left ≡ 0 → (0 < left) ⊎ P → P
@@ -278,10 +276,10 @@ told_alone held faults servers old new line h = ([], subst (λ (l : List ℕ). s
 
 module _ {A : Type 0} (made : A → Whole → List Row → A → Whole → Type 0) (lookup : Lookup) (conf : ResolvConf) (old : World) (first : A) where
   -- nothing was asked yet
-  pub so_begins : (client : Whole) (deeds : Option (List Deed)) (waits : Option (List ℕ)) (polls : ℕ) (rest : List Try) → HasBegun conf client old.deeds deeds old.polls polls → rest ≡ tries_of lookup.search conf.options lookup.asks
-      → SoFar made (tries_of lookup.search conf.options lookup.asks) conf old first rest 0 None first (leaves client old deeds waits polls)
+  pub so_begins : (client : Whole) (deeds : Option (List Deed)) (waits : Option (List ℕ)) (polls : ℕ) (rest : List Try) → HasBegun lookup conf client old.deeds deeds old.polls polls → rest ≡ tries_of lookup.search conf.options lookup.asks
+      → SoFar made (tries_of lookup.search conf.options lookup.asks) lookup conf old first rest 0 None first (leaves client old deeds waits polls)
   so_begins client deeds waits polls rest begin is =
-      let at : begun conf old waits ≡ leaves client old deeds waits polls = sym (begins conf client old deeds waits polls begin) in
+      let at : begun lookup conf old waits ≡ leaves client old deeds waits polls = sym (begins lookup conf client old deeds waits polls begin) in
       record {
         asks = [];
         answers = [];
@@ -289,20 +287,20 @@ module _ {A : Type 0} (made : A → Whole → List Row → A → Whole → Type 
         waits = waits;
         walks = subst (λ (left : List Try). Walks (tries_of lookup.search conf.options lookup.asks) [] [] None left) (sym is) walk_begins;
         count = refl;
-        answered = subst (λ (s : Scene). AreAnswered 0 [] [] (begun conf old waits) s) at (all_asked 0 (begun conf old waits));
-        are_made = subst (λ (s : Scene). AreMade made 0 [] [] [] first first (begun conf old waits) s) at (none_made 0 first (begun conf old waits));
+        answered = subst (λ (s : Scene). AreAnswered 0 [] [] (begun lookup conf old waits) s) at (all_asked 0 (begun lookup conf old waits));
+        are_made = subst (λ (s : Scene). AreMade made 0 [] [] [] first first (begun lookup conf old waits) s) at (none_made 0 first (begun lookup conf old waits));
         messages = All-nil IsMessage;
       }
 
-  module _ (one : Try) (later : List Try) (number : ℕ) (lack : Option Lacking) (middle last : A) (mid end : Scene) (so : SoFar made (tries_of lookup.search conf.options lookup.asks) conf old first (one ∷ later) number lack middle mid) where
+  module _ (one : Try) (later : List Try) (number : ℕ) (lack : Option Lacking) (middle last : A) (mid end : Scene) (so : SoFar made (tries_of lookup.search conf.options lookup.asks) lookup conf old first (one ∷ later) number lack middle mid) where
     -- the next was asked, and a message was answered
     so_next : (next : Option Lacking) (left : List Try) (o : Outcome) → is_message o.answer ≡ true
         → IsAnsweredAnd (λ rows. made middle mid.client rows last end.client) number 1000000 (request_for one.ask) o.answer mid end
         → Walks (tries_of lookup.search conf.options lookup.asks) (so.asks ++ one.ask ∷ []) (so.answers ++ o.answer ∷ []) next left
-        → SoFar made (tries_of lookup.search conf.options lookup.asks) conf old first left (number + 1) next last end
+        → SoFar made (tries_of lookup.search conf.options lookup.asks) lookup conf old first left (number + 1) next last end
     so_next next left o brought gave walks =
-        let m : (all : List Row) × AreMade made 0 (so.asks ++ one.ask ∷ []) (so.answers ++ o.answer ∷ []) all first last (begun conf old so.waits) end =
-        made_more made 0 number so.asks so.answers so.rows one.ask o.answer first middle last (begun conf old so.waits) mid end (omega (arith, so.count)) so.are_made gave in
+        let m : (all : List Row) × AreMade made 0 (so.asks ++ one.ask ∷ []) (so.answers ++ o.answer ∷ []) all first last (begun lookup conf old so.waits) end =
+        made_more made 0 number so.asks so.answers so.rows one.ask o.answer first middle last (begun lookup conf old so.waits) mid end (omega (arith, so.count)) so.are_made gave in
         record {
           asks = so.asks ++ one.ask ∷ [];
           answers = so.answers ++ o.answer ∷ [];
@@ -310,7 +308,7 @@ module _ {A : Type 0} (made : A → Whole → List Row → A → Whole → Type 
           waits = so.waits;
           walks = walks;
           count = omega (arith, so.count, length-append so.asks (one.ask ∷ []));
-          answered = answered_more 0 number so.asks so.answers one.ask o.answer (begun conf old so.waits) mid end (omega (arith, so.count)) so.answered gave.answered;
+          answered = answered_more 0 number so.asks so.answers one.ask o.answer (begun lookup conf old so.waits) mid end (omega (arith, so.count)) so.answered gave.answered;
           are_made = m.1;
           messages = with_message so.answers o.answer so.messages brought;
         }
@@ -318,7 +316,7 @@ module _ {A : Type 0} (made : A → Whole → List Row → A → Whole → Type 
     -- it was passed by
     pub so_passed : (outcome : Result Outcome Error)
         → IfOk outcome (λ o. IsAnsweredAnd (λ rows. made middle mid.client rows last end.client) number 1000000 (request_for one.ask) o.answer mid end)
-        → passes_of one later outcome ≡ true → SoFar made (tries_of lookup.search conf.options lookup.asks) conf old first later (number + 1) lack last end
+        → passes_of one later outcome ≡ true → SoFar made (tries_of lookup.search conf.options lookup.asks) lookup conf old first later (number + 1) lack last end
     so_passed (Err e) gave passes = absurd (false≢true passes)
     so_passed (Ok o) gave passes =
         so_next lack later o (passed_message one later (Ok o) passes) gave (walk_passes so.asks so.answers lack one later o.answer so.walks passes)
@@ -327,7 +325,7 @@ module _ {A : Type 0} (made : A → Whole → List Row → A → Whole → Type 
     pub so_told : (next : Option Lacking) (left : List Try) (outcome : Result Outcome Error) → Brought true outcome
         → IfOk outcome (λ o. IsAnsweredAnd (λ rows. made middle mid.client rows last end.client) number 1000000 (request_for one.ask) o.answer mid end)
         → passes_of one later outcome ≡ false → next ≡ or_lack lack (lack_of one.ask outcome) → left ≡ behind_tries one.more later
-        → SoFar made (tries_of lookup.search conf.options lookup.asks) conf old first left (number + 1) next last end
+        → SoFar made (tries_of lookup.search conf.options lookup.asks) lookup conf old first left (number + 1) next last end
     so_told next left (Err e) brought gave passes is left_is = absurd brought
     so_told next left (Ok o) brought gave passes is left_is =
         so_next next left o brought gave
@@ -339,8 +337,8 @@ module _ {A : Type 0} (made : A → Whole → List Row → A → Whole → Type 
     pub so_made : (gave : (o : Outcome) × IsAnsweredAnd (λ rows. made middle mid.client rows last end.client) number 1000000 (request_for one.ask) o.answer mid end)
         → passes_by one later gave.0.answer ≡ false → (new : World) (left : Whole) (later_waits : Option (List ℕ)) → end ≡ arrives left new later_waits → IsMadeFor made lookup conf first last old new
     so_made gave passes new left later_waits end_is =
-        let m : (all : List Row) × AreMade made 0 (so.asks ++ one.ask ∷ []) (so.answers ++ gave.0.answer ∷ []) all first last (begun conf old so.waits) end =
-        made_more made 0 number so.asks so.answers so.rows one.ask gave.0.answer first middle last (begun conf old so.waits) mid end (omega (arith, so.count)) so.are_made gave.1 in
+        let m : (all : List Row) × AreMade made 0 (so.asks ++ one.ask ∷ []) (so.answers ++ gave.0.answer ∷ []) all first last (begun lookup conf old so.waits) end =
+        made_more made 0 number so.asks so.answers so.rows one.ask gave.0.answer first middle last (begun lookup conf old so.waits) mid end (omega (arith, so.count)) so.are_made gave.1 in
         record {
           asks = so.asks ++ one.ask ∷ [];
           answers = so.answers ++ gave.0.answer ∷ [];
@@ -351,12 +349,12 @@ module _ {A : Type 0} (made : A → Whole → List Row → A → Whole → Type 
           left = left;
           waits = so.waits;
           later_waits = later_waits;
-          are_made = subst (λ (s : Scene). AreMade made 0 (so.asks ++ one.ask ∷ []) (so.answers ++ gave.0.answer ∷ []) m.0 first last (begun conf old so.waits) s) end_is m.1;
+          are_made = subst (λ (s : Scene). AreMade made 0 (so.asks ++ one.ask ∷ []) (so.answers ++ gave.0.answer ∷ []) m.0 first last (begun lookup conf old so.waits) s) end_is m.1;
         }
 
   -- where the next ends it, its rows are there
   pub fails_made : (one : Try) (later : List Try) (number : ℕ) (lack : Option Lacking) (middle last : A) (mid : Scene) (left : Whole) (new : World) (later_waits : Option (List ℕ)) (status : ℕ) (outcome : Result Outcome Error)
-      → SoFar made (tries_of lookup.search conf.options lookup.asks) conf old first (one ∷ later) number lack middle mid → passes_of one later outcome ≡ false
+      → SoFar made (tries_of lookup.search conf.options lookup.asks) lookup conf old first (one ∷ later) number lack middle mid → passes_of one later outcome ≡ false
       → IfOk outcome (λ o. IsAnsweredAnd (λ rows. made middle mid.client rows last left) number 1000000 (request_for one.ask) o.answer mid (arrives left new later_waits))
       → IsOfRequest status → (HasPage status → Brought true outcome) → (status ≡ 5 → Brought false outcome) → status ≢ 6 → status ≢ 7
       → IsMadeFor made lookup conf first last old new
@@ -367,7 +365,7 @@ module _ {A : Type 0} (made : A → Whole → List Row → A → Whole → Type 
 
   -- The next ends it: it had no message, or writing it failed.
   pub fails_ends : (one : Try) (later : List Try) (number : ℕ) (lack : Option Lacking) (middle : A) (mid : Scene) (left : Whole) (new : World) (later_waits : Option (List ℕ)) (status : ℕ) (Told : List ℕ → Type 0) (outcome : Result Outcome Error)
-      → SoFar made (tries_of lookup.search conf.options lookup.asks) conf old first (one ∷ later) number lack middle mid → passes_of one later outcome ≡ false
+      → SoFar made (tries_of lookup.search conf.options lookup.asks) lookup conf old first (one ∷ later) number lack middle mid → passes_of one later outcome ≡ false
       → IfOk outcome (λ o. Gave one.ask number o.answer mid (arrives left new later_waits)) → (IsErrOf outcome NumbersUsed → Stopped one.ask mid (arrives left new later_waits))
       → IsOfRequest status → 0 < status → (HasPage status → Brought true outcome) → (status ≡ 5 → Brought false outcome) → (status ≡ 5 → IfOk outcome (λ o. Told (answer_text o.answer)))
       → (status ≡ 7 → IsErrOf outcome NumbersUsed) → EndsSo lookup conf status Told old new
@@ -385,7 +383,7 @@ module _ {A : Type 0} (made : A → Whole → List Row → A → Whole → Type 
             left = left;
             waits = so.waits;
             later_waits = later_waits;
-            answered = answered_more 0 number so.asks so.answers one.ask c.0 (begun conf old so.waits) mid (arrives left new later_waits) (omega (arith, so.count)) so.answered c.2;
+            answered = answered_more 0 number so.asks so.answers one.ask c.0 (begun lookup conf old so.waits) mid (arrives left new later_waits) (omega (arith, so.count)) so.answered c.2;
           };
           messages = with_message so.answers c.0 so.messages c.1;
         };
@@ -402,7 +400,7 @@ module _ {A : Type 0} (made : A → Whole → List Row → A → Whole → Type 
             left = left;
             waits = so.waits;
             later_waits = later_waits;
-            answered = answered_more 0 number so.asks so.answers one.ask c.0 (begun conf old so.waits) mid (arrives left new later_waits) (omega (arith, so.count)) so.answered c.2;
+            answered = answered_more 0 number so.asks so.answers one.ask c.0 (begun lookup conf old so.waits) mid (arrives left new later_waits) (omega (arith, so.count)) so.answered c.2;
           };
           messages = so.messages;
           no_message = c.1;
@@ -431,12 +429,12 @@ module _ {A : Type 0} (made : A → Whole → List Row → A → Whole → Type 
   whole_is (one ∷ rest) asks answers lack walks none = absurd (omega (arith, none))
 
   pub whole_made : (rest : List Try) (number : ℕ) (lack : Option Lacking) (last : A) (left : Whole) (new : World) (later_waits : Option (List ℕ))
-      → SoFar made (tries_of lookup.search conf.options lookup.asks) conf old first rest number lack last (arrives left new later_waits) → IsMadeFor made lookup conf first last old new
+      → SoFar made (tries_of lookup.search conf.options lookup.asks) lookup conf old first rest number lack last (arrives left new later_waits) → IsMadeFor made lookup conf first last old new
   whole_made rest number lack last left new later_waits so =
       record { asks = so.asks; answers = so.answers; lack = lack; later = rest; walks = so.walks; rows = so.rows; left = left; waits = so.waits; later_waits = later_waits; are_made = so.are_made }
 
   pub whole_ends : (rest : List Try) (number : ℕ) (lack : Option Lacking) (last : A) (left : Whole) (new : World) (later_waits : Option (List ℕ)) (status : ℕ) (Told : List ℕ → Type 0)
-      → SoFar made (tries_of lookup.search conf.options lookup.asks) conf old first rest number lack last (arrives left new later_waits) → length rest ≡ 0
+      → SoFar made (tries_of lookup.search conf.options lookup.asks) lookup conf old first rest number lack last (arrives left new later_waits) → length rest ≡ 0
       → (status ≡ lack_status lack) ⊎ (status ≡ 6) → (status ≢ 6 → LackTold Told lack) → EndsSo lookup conf status Told old new
   whole_ends rest number lack last left new later_waits status Told so none is told =
       let only = last_only status lack is in

@@ -28,7 +28,7 @@ unfolding words_ahead
 with_ahead P words count h is = subst P (ap (λ (n : ℕ). drawn n words) is) h
 
 module _ {L R : Type 0} (held : L → Option (List ℕ)) (faults : L → ℕ) (kept : R → Option (List ℕ)) (file_faults : R → ℕ) (lookup : Lookup) (conf : ResolvConf) (status : ℕ) (before after : L) (first last : R) (old new : World)
-    (settings : Settings) (set : settings ≡ settings_for conf) where
+    (settings : Settings) (set : settings ≡ settings_for lookup conf) where
   -- the client with these settings, and with what its record begins
   abbrev first_with : Settings → Whole
   first_with s = started_with s.transports s.redundant s.cache conf
@@ -52,10 +52,10 @@ module _ {L R : Type 0} (held : L → Option (List ℕ)) (faults : L → ℕ) (k
       let end : World = at_words (left_of s) new in
       let m : IsMadeFor (keeps_by kept) lookup conf (record { recorder = r; sink = middle }) (record { recorder = s; sink = last }) start end =
       subst (λ (ws : List ℕ). IsMadeFor (keeps_by kept) lookup conf (record { recorder = r; sink = middle }) (record { recorder = s; sink = last }) (at_words (listed ws) old) end) words made in
-      let o = opening_with (settings_for conf) in
-      let b : Recorded o [] (kept middle) r (client_for conf) = subst (λ (s : Settings). Recorded (opening_with s) [] (kept middle) r (first_with s)) set begins in
+      let o = opening_with (settings_for lookup conf) in
+      let b : Recorded o [] (kept middle) r (client_for lookup conf) = subst (λ (s : Settings). Recorded (opening_with s) [] (kept middle) r (first_with s)) set begins in
       let all : Recorded o m.rows (kept last) s m.left =
-      all_kept kept 0 m.asks m.answers m.rows (record { recorder = r; sink = middle }) (record { recorder = s; sink = last }) (begun conf start m.waits)
+      all_kept kept 0 m.asks m.answers m.rows (record { recorder = r; sink = middle }) (record { recorder = s; sink = last }) (begun lookup conf start m.waits)
       (scene m.left end.words end.deeds m.later_waits end.polls end.moments) m.are_made o [] b in
       record { made = m; has = law o m.rows (kept last) s.words s.size s.ended m.left all }
 

@@ -12,6 +12,7 @@ use Rattle.dns_lookup_pages.specs.Queries.{query_octets}
 use Rattle.dns_lookup_pages.specs.declared.short.Lacking.{Lacking}
 use Rattle.dns_lookup_run.specs.Worlds.{World, begun, client_for, is_message}
 use Rattle.resolv_conf.specs.declared.conf.ResolvConf.{ResolvConf}
+use Rattle.dns_lookup_words.specs.declared.lookup.Lookup.{Lookup}
 use Rattle.dns_lookup_words.specs.declared.manner.Ask.{Ask}
 use Rattle.dns_lookup_words.specs.declared.manner.Flags.{Flags}
 use Rattle.dns_lookup_run.specs.declared.asking.Outcome.{Outcome}
@@ -73,16 +74,16 @@ pub data AreAnswered : ℕ → List Ask → List Answer → Scene → Scene → 
       → IsAnswered n 1000000 (request_for ask) old mid answer → AreAnswered (n + 1) asks answers mid new
       → AreAnswered n (ask ∷ asks) (answer ∷ answers) old new
 
--- A new client of a configuration, whose servers were learned, and nothing else was done with their edge.
-pub record HasBegun (conf : ResolvConf) (client : Whole) (deeds deeds_after : Option (List Deed)) (polls polls_after : ℕ) : Type 0 where
-  pub made : client ≡ client_for conf
+-- A new client for a lookup of a configuration, whose servers were learned, and nothing else was done with their edge.
+pub record HasBegun (lookup : Lookup) (conf : ResolvConf) (client : Whole) (deeds deeds_after : Option (List Deed)) (polls polls_after : ℕ) : Type 0 where
+  pub made : client ≡ client_for lookup conf
   pub learned : deeds_after ≡ after_deeds (map (λ server. Learned server) conf.servers) deeds
   pub polled : polls_after ≡ polls
 
--- A new client, whose edge learned the servers of a configuration, was asked these, and then none. What the edge keeps of its waits is not
+-- A new client for a lookup, whose edge learned the servers of a configuration, was asked these, and then none. What the edge keeps of its waits is not
 -- the program's.
-pub record IsAskedFor (conf : ResolvConf) (old new : World) (asks : List Ask) (answers : List Answer) : Type 0 where
+pub record IsAskedFor (lookup : Lookup) (conf : ResolvConf) (old new : World) (asks : List Ask) (answers : List Answer) : Type 0 where
   pub left : Whole
   pub waits : Option (List ℕ)
   pub later_waits : Option (List ℕ)
-  pub answered : AreAnswered 0 asks answers (begun conf old waits) (scene left new.words new.deeds later_waits new.polls new.moments)
+  pub answered : AreAnswered 0 asks answers (begun lookup conf old waits) (scene left new.words new.deeds later_waits new.polls new.moments)

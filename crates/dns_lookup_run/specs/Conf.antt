@@ -28,6 +28,11 @@ abbrev pub timed : Option ℕ → ResolvConf → ResolvConf
 timed None conf = conf
 timed (Some seconds) conf = record conf { options = record conf.options { timeout = seconds * 1000000 } }
 
+-- so many rounds in which servers are asked
+abbrev pub tried : Option ℕ → ResolvConf → ResolvConf
+tried None conf = conf
+tried (Some tries) conf = record conf { options = record conf.options { attempts = tries } }
+
 -- streams alone
 abbrev pub streamed : Bool → ResolvConf → ResolvConf
 streamed false conf = conf
@@ -92,14 +97,14 @@ IsBaseOf (ip ∷ ips) true told base = IfSome told (λ text. HasSuffixesOf text 
 abbrev pub IsBase : Lookup → Option (List ℕ) → Found → Type 0
 IsBase lookup told base = IsBaseOf lookup.servers (is_file_needed lookup) told base
 
--- What is asked, and told of the configuration: that of the base, as a client is given it in practice by the words that come, with what the
--- lookup says. These words are left.
+-- What is asked, and told of the configuration: that of the base, in as many rounds as the lookup says, as a client is given it in practice by the
+-- words that come, with what the lookup says of the rest. These words are left.
 pub record IsConfOf (lookup : Lookup) (told : Option (List ℕ)) (words : ℕ → ℕ) (asked : Found) (left : ℕ → ℕ) : Type 0 where
   pub base : Found
   pub is_base : IsBase lookup told base
-  pub conf : asked.conf ≡ conf_asked lookup (practical words base.conf)
+  pub conf : asked.conf ≡ conf_asked lookup (practical words (tried lookup.tries base.conf))
   pub notes : asked.notes ≡ base.notes
-  pub left_is : left ≡ words_left words base.conf
+  pub left_is : left ≡ words_left words (tried lookup.tries base.conf)
 
 -- It is the configuration that is asked, whatever is told of it.
 pub record IsAskedBy (lookup : Lookup) (told : Option (List ℕ)) (words left : ℕ → ℕ) (conf : ResolvConf) : Type 0 where

@@ -63,7 +63,7 @@ pub record IsAnsweredWhole (lookup : Lookup) (conf : ResolvConf) (status : ℕ) 
   pub answers : List Answer
   pub lack : Option Lacking
   pub walks : Walks (tries_of lookup.search conf.options lookup.asks) asks answers lack []
-  pub asked : IsAskedFor conf old new asks answers
+  pub asked : IsAskedFor lookup conf old new asks answers
   pub messages : All (λ answer. is_message answer ≡ true) answers
   pub ends : status ≡ lack_status lack
   pub told : LackTold Told lack
@@ -75,7 +75,7 @@ pub record IsAnsweredInPart (lookup : Lookup) (conf : ResolvConf) (old new : Wor
   pub lack : Option Lacking
   pub later : List Try
   pub walks : Walks (tries_of lookup.search conf.options lookup.asks) asks answers lack later
-  pub asked : IsAskedFor conf old new asks answers
+  pub asked : IsAskedFor lookup conf old new asks answers
   pub messages : All (λ answer. is_message answer ≡ true) answers
 
 -- The first of it was asked for, and of the answers the last alone is no message; the sentence that tells why is told.
@@ -86,7 +86,7 @@ pub record IsUnanswered (lookup : Lookup) (conf : ResolvConf) (Told : List ℕ �
   pub lack : Option Lacking
   pub later : List Try
   pub walks : Walks (tries_of lookup.search conf.options lookup.asks) asks (answers ++ last ∷ []) lack later
-  pub asked : IsAskedFor conf old new asks (answers ++ last ∷ [])
+  pub asked : IsAskedFor lookup conf old new asks (answers ++ last ∷ [])
   pub messages : All (λ answer. is_message answer ≡ true) answers
   pub no_message : is_message last ≡ false
   pub said : Told (answer_text last)
@@ -101,7 +101,7 @@ pub record IsStopped (lookup : Lookup) (conf : ResolvConf) (old new : World) : T
   pub walks : Walks (tries_of lookup.search conf.options lookup.asks) asks answers lack (one ∷ later)
   pub waits : Option (List ℕ)
   pub mid : Scene
-  pub answered : AreAnswered 0 asks answers (begun conf old waits) mid
+  pub answered : AreAnswered 0 asks answers (begun lookup conf old waits) mid
   pub left : Whole
   pub later_waits : Option (List ℕ)
   pub stops : StopsForNumbers (request_for one.ask) mid (scene left new.words new.deeds later_waits new.polls new.moments)

@@ -64,4 +64,4 @@ pub record IsMadeFor {A : Type 0} (made : A → Whole → List Row → A → Who
   pub left : Whole
   pub waits : Option (List ℕ)
   pub later_waits : Option (List ℕ)
-  pub are_made : AreMade made 0 asks answers rows first last (begun conf old waits) (scene left new.words new.deeds later_waits new.polls new.moments)
+  pub are_made : AreMade made 0 asks answers rows first last (begun lookup conf old waits) (scene left new.words new.deeds later_waits new.polls new.moments)

@@ -11,14 +11,14 @@ use Rattle.dns_record.specs.Recording.{HasEnded, IsRefused, Keeps, Recording, dr
 use Rattle.dns_record.specs.Sentences.{ended_text, refused_text}
 use Rattle.dns_record.specs.declared.ended.Ended.{Ended}
 use Rattle.dns_record.specs.declared.ended.Refused.{Refused}
-use Rattle.resolver_policy.specs.Practice.{practical_choice, practical_transports}
+use Rattle.resolver_policy.specs.Practice.{practical_choice}
 use Rattle.resolver_policy.specs.declared.found.Found.{Found}
 use Rattle.resolv_conf.specs.declared.conf.ResolvConf.{ResolvConf}
 use Rattle.dns_lookup_run.specs.Conf.{IsConfOf}
 use Rattle.dns_lookup_run.specs.Ends.{EndsTold, IsOfAsking, IsToldSo, TellsWhy}
 use Rattle.dns_lookup_run.specs.Making.{IsMadeFor}
 use Rattle.dns_lookup_run.specs.Reports.{notes_text}
-use Rattle.dns_lookup_run.specs.Worlds.{World, at_words, said}
+use Rattle.dns_lookup_run.specs.Worlds.{World, at_words, said, transports_for}
 use Rattle.dns_lookup_run.specs.declared.recorded.Recorded.{Recorded}
 use Rattle.dns_lookup_words.specs.Words.{LookupGives}
 use Rattle.dns_lookup_words.specs.declared.lookup.Lookup.{Lookup}
@@ -50,13 +50,13 @@ ended_line ended lost = codes "dns_lookup: the record ended: " ++ (ended_text en
 -- What a client put out that was asked the first asks of a lookup, and the sink holds the record of the first of these rows.
 pub record IsRecordedFor {R : Type 0} (kept : R → Option (List ℕ)) (lookup : Lookup) (conf : ResolvConf) (words : List ℕ) (r s : Recording) (first middle last : R) (old new : World) : Type 0 where
   pub made : IsMadeFor (keeps_by kept) lookup conf (record { recorder = r; sink = middle }) (record { recorder = s; sink = last }) old new
-  pub has : HasEnded (opening conf practical_choice default_cache (practical_transports conf) words (kept first)) made.rows (kept last)
+  pub has : HasEnded (opening conf practical_choice default_cache (transports_for lookup conf) words (kept first)) made.rows (kept last)
 
 -- What it ends with to ask a lookup with 4096 words that come first: nothing can be recorded and it is told why, or it is asked as ever with these
 -- words, and recorded.
 pub data AskedEnd {L R : Type 0} (held : L → Option (List ℕ)) (faults : L → ℕ) (kept : R → Option (List ℕ)) (file_faults : R → ℕ) (lookup : Lookup) (conf : ResolvConf) (status : ℕ) (before after : L) (first last : R) (old new : World) : Type 0 where
   no_memory : status ≡ 6 → AskedEnd held faults kept file_faults lookup conf status before after first last old new
-  not_recorded : (why : Refused) → IsRefused why conf practical_choice default_cache (practical_transports conf) (words_ahead old.words) (file_faults first) (file_faults last)
+  not_recorded : (why : Refused) → IsRefused why conf practical_choice default_cache (transports_for lookup conf) (words_ahead old.words) (file_faults first) (file_faults last)
       → said held faults before after (unrecorded_line why) → status ≡ 8 → AskedEnd held faults kept file_faults lookup conf status before after first last old new
   asked : (r s : Recording) (middle : R) → IsOfAsking status
       → EndsTold held faults lookup conf status before after (at_words (listed (words_ahead old.words)) old) (at_words (left_of s) new) → IsToldSo held faults status before after

@@ -9,7 +9,11 @@ use Rattle.client_loop.specs.Turns.{after_deeds}
 use Rattle.client_request.specs.declared.error.Error.{Error}
 use Rattle.client_settings.specs.Settings.{default_cache}
 use Rattle.client_settings.specs.declared.settings.Settings.{Settings}
-use Rattle.resolver_policy.specs.Practice.{practical_choice, practical_transports}
+use Rattle.client_settings.specs.declared.settings.Transports.{Transports}
+use Rattle.dns_lookup_words.specs.declared.lookup.Lookup.{Lookup}
+use Rattle.dns_lookup_words.specs.declared.manner.Announced.{Announced}
+use Rattle.dns_lookup_words.specs.declared.manner.Announced.TheVariants.{Nothing, Size, Usual}
+use Rattle.resolver_policy.specs.Practice.{announcing, practical_choice, practical_transports}
 use Rattle.client_steps.specs.Whole.{Whole, started_with}
 use Rattle.resolv_conf.specs.declared.conf.ResolvConf.{ResolvConf}
 
@@ -36,16 +40,25 @@ around deeds polls given stream old new P =
 abbrev pub said : {L : Type 0} → (L → Option (List ℕ)) → (L → ℕ) → (old new : L) → (line : List ℕ) → Type 0
 said held faults old new line = IsSaid line (held old) (held new) (faults old) (faults new)
 
--- how the client is set that asks the servers of a configuration, and a new one, which asks as practice has it
-abbrev pub settings_for : ResolvConf → Settings
-settings_for conf = record { redundant = practical_choice; cache = default_cache; transports = practical_transports conf }
+-- settings of transports, with the payload size that words announce
+abbrev pub announced : Announced → Transports → Transports
+announced Usual t = t
+announced (Size n) t = announcing (Some n) t
+announced Nothing t = announcing None t
 
-abbrev pub client_for : ResolvConf → Whole
-client_for conf = started_with (practical_transports conf) practical_choice default_cache conf
+-- how the client is set that asks the servers of a lookup's configuration, and a new one, which asks as practice has it but for what the lookup says
+abbrev pub transports_for : Lookup → ResolvConf → Transports
+transports_for lookup conf = announced lookup.announced (practical_transports conf)
+
+abbrev pub settings_for : Lookup → ResolvConf → Settings
+settings_for lookup conf = record { redundant = practical_choice; cache = default_cache; transports = transports_for lookup conf }
+
+abbrev pub client_for : Lookup → ResolvConf → Whole
+client_for lookup conf = started_with (transports_for lookup conf) practical_choice default_cache conf
 
 -- such a client, whose servers the edge has learned; it keeps these waits
-abbrev pub begun : ResolvConf → World → Option (List ℕ) → Scene
-begun conf old waits = scene (client_for conf) old.words (after_deeds (map (λ server. Learned server) conf.servers) old.deeds) waits old.polls old.moments
+abbrev pub begun : Lookup → ResolvConf → World → Option (List ℕ) → Scene
+begun lookup conf old waits = scene (client_for lookup conf) old.words (after_deeds (map (λ server. Learned server) conf.servers) old.deeds) waits old.polls old.moments
 
 -- it is a message
 abbrev pub is_message : Option (Result (List ℕ) Error) → Bool

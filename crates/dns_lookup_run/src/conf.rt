@@ -4,7 +4,7 @@ ghost use Rattle.std.specs.Prelude.{◌≡◌, ◌≢◌, ◌++◌, filter, map,
 ghost use Rattle.dns_values.specs.Source.{Rose};
 ghost use Rattle.command_parts.specs.Ends.{IsEarly, line_of, status_of};
 ghost use Rattle.resolv_conf.specs.Conf.{name_server};
-ghost use Rattle.dns_lookup_run.specs.Conf.{IsBase, IsConfOf, IsReadyIn, IsTooLong, conf_asked, is_file_needed, is_of_family, is_v4, named, of_family, streamed, timed, with_domain, with_dots, with_suffixes};
+ghost use Rattle.dns_lookup_run.specs.Conf.{IsBase, IsConfOf, IsReadyIn, IsTooLong, conf_asked, is_file_needed, is_of_family, is_v4, named, of_family, streamed, timed, tried, with_domain, with_dots, with_suffixes};
 
 use client_request::Words;
 use command_parts::{Ending, conf_at, says, statuses};
@@ -50,6 +50,17 @@ fn timed(seconds: Option<u64>, mut conf: ResolvConf) -> ResolvConf
         return conf;
     };
     conf.options.timeout = Duration::from_secs(seconds);
+    conf
+}
+
+/// With so many rounds, if their number is said.
+fn tried(tries: Option<usize>, mut conf: ResolvConf) -> ResolvConf
+    ensures { result ≡ tried tries conf }
+{
+    let Some(tries) = tries else {
+        return conf;
+    };
+    conf.options.attempts = tries;
     conf
 }
 
@@ -223,7 +234,7 @@ pub(crate) fn conf_of<S: Source, W: Words>(
         Ok(base) => base,
         Err(ending) => return Err(ending),
     };
-    let conf = practical(alloc, conf, words)?;
+    let conf = practical(alloc, tried(lookup.tries, conf), words)?;
     let conf = conf_asked(alloc, lookup, conf)?;
     Ok(Found { conf, notes })
 }

@@ -32,6 +32,9 @@ Servers:
   -4, -6          ask at addresses of IPv4 alone, or of IPv6
   +tcp, +vc       ask by streams alone
   +time=SECONDS   give a request so long, from 0 to 600, and 0 as 1; +timeout=SECONDS is the same
+  +tries=COUNT    ask the servers in so many rounds, from 0 to 5, and 0 as 1; +time is the time of all of them
+  +bufsize=OCTETS announce this payload size, from 0 to 65535, and read as many octets of an answer at least; +bufsize the usual, 1232
+  +noedns         announce none; by streams a request has an OPT record all the same, and so has one with +dnssec, +nsid or +expire
 
 What is asked:
   NAME            the name; the final dot may be left out
@@ -74,8 +77,8 @@ Of options dig's first letters are enough, in any case; no behind the plus turns
 is taken, as +nocmd and +nocookie.
 
 Of several names what is said before the first is said of all of them, and what stands behind one is said of that one; but servers, +tcp,
-+time, +search, +domain, +ndots and +trace are those of all names, and servers stand before a second one. The first request without an
-answer ends it.
++time, +tries, +bufsize, +edns, +search, +domain, +ndots and +trace are those of all names, and servers stand before a second one. The
+first request without an answer ends it.
 
 Exit status:
   0   each answer was written whole, whatever its response code

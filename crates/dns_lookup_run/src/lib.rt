@@ -1,8 +1,8 @@
 //! What the program `dns_lookup` does, over a source, two sinks and the rest of its world.
 //!
 //! A lookup is the requests of its words, one after another, of a new client of the servers that the words name, or of the
-//! configuration as it is found, asked as `resolver_policy` says and with the words' port, family of addresses, time,
-//! streams and suffixes. Where suffixes are searched for a name, the names that stand for it are asked in its place, up to
+//! configuration as it is found, asked as `resolver_policy` says and with the words' rounds, port, family of addresses,
+//! time, streams, payload size and suffixes. Where suffixes are searched for a name, the names that stand for it are asked in its place, up to
 //! the first answer but that there is no such name. Status 0, 9, 10 or 11 means that all that was so to be asked was
 //! answered with messages in the plain client's rows of what the edge gave, turn by turn, at the clock's moments, and that
 //! what is written was handed on; 9, 10 and 11 that data alone was to be written and the first answer without any said no
@@ -56,17 +56,18 @@
 //!
 //! At 0, 4, 5, 7 and from 9 on the lookup is that of the words (`LookupGives`), and the configuration that of the servers
 //! that they name, by their addresses with the default options, or what is found in the text that the source told,
-//! finalized; as it is asked in practice (`practical`, with the words that come), and with the words' family of addresses,
-//! port, time, streams, suffix and count of dots (`IsConfOf`). Where servers are named and suffixes are searched, those of
-//! the text are taken, and its count of dots, unless the words say both (`IsBase`). The notes of it were told first. The
-//! edge learned its servers in order, and a new client with `practical_choice` was asked the requests one after another
+//! finalized; as it is asked in practice (`practical`, with the words that come) in as many rounds as the words say, and
+//! with their family of addresses, port, time, streams, suffix and count of dots (`IsConfOf`). Where servers are named and
+//! suffixes are searched, those of the text are taken, and its count of dots, unless the words say both (`IsBase`). The
+//! notes of it were told first. The edge learned its servers in order, and a new client with `practical_choice`, and
+//! `practical_transports` with the words' payload size (`client_for`), was asked the requests one after another
 //! (`AreAnswered`, which is `IsAnswered` of `client_loop` for each). A sentence *was told* where it was written whole to
 //! the sink of errors, or its first octets and that sink's count of faults rose; and it was handed on, or that count rose
 //! (`line_flushed`). What is written of a message is only tested.
 //!
-//! `told_conf` gives that configuration alone, with its notes told, and `request_by` the request of a message by flags: a
-//! walk from the root is asked by these, and not by `run`, to which `+trace` says nothing but how a name is asked and
-//! written.
+//! `told_conf` gives that configuration alone, with its notes told, `request_by` the request of a message by flags, and
+//! `announced` the settings of transports with the payload size of words: a walk from the root is asked by these, and not
+//! by `run`, to which `+trace` says nothing but how a name is asked and written.
 //!
 //! `run_recorded` does the same and records it: the client draws words of 4096 that come first, all of the lookup
 //! (`RecordedEnd`, `AskedEnd`). At each status but 6 and 7 what was handed in as the file has the record of the first of
@@ -111,6 +112,7 @@ mod program;
 mod recorded;
 mod reports;
 mod search;
+mod settings;
 mod telling;
 mod watched_clock;
 mod watched_edge;
@@ -122,6 +124,7 @@ pub use page::{document, query_text};
 pub use passing_edge::{Asked, PassingEdge};
 pub use program::run;
 pub use recorded::{Recorded, run_recorded};
+pub use settings::announced;
 pub use telling::{tell_lack, tell_no_memory, tell_no_random};
 pub use watched_clock::WatchedClock;
 pub use watched_edge::{Heard, News, Opened, Tidings, WatchedEdge};

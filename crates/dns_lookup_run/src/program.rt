@@ -3,7 +3,7 @@
 ghost use Rattle.std.specs.Prelude.{◌≡◌, ◌≢◌, ◌⊎◌, ◌++◌, ◌<◌, ◌≤◌, true, false, length, IfOk, IsErrOf};
 ghost use Rattle.dns_values.specs.Source.{Rose};
 ghost use Rattle.dns_values.specs.Sink.{IsFlushed, with_octets};
-ghost use Rattle.dns_lookup_run.specs.Worlds.{around, is_message, said, settings_for};
+ghost use Rattle.dns_lookup_run.specs.Worlds.{around, is_message, said};
 ghost use Rattle.dns_lookup_run.specs.Asking.{Brought, HasBegun, lack_of, or_lack};
 ghost use Rattle.dns_lookup_run.specs.Ends.{EndsTold, HasNoConf, HasPage, IsDone, IsOfAsking, IsOfRequest, IsRefusalTold, TellsWhy, WordsEnd};
 ghost use Rattle.dns_lookup_run.specs.Making.{IsMadeFor};
@@ -17,12 +17,13 @@ use crate::conf::conf_of;
 use crate::page::page;
 use crate::reports::reports;
 use crate::search::{Try, tries_of};
+use crate::settings::settings_for;
 use crate::telling::{
     UNWRITTEN, tell_conf, tell_lack, tell_notes, tell_refusal, tell_stop, tell_unanswered,
 };
 use crate::watched_clock::WatchedClock;
 use crate::watched_edge::{Opened, WatchedEdge};
-use client_core::{Client, Clock, Edge, Settings, cache};
+use client_core::{Client, Clock, Edge};
 use client_loop::learn_all;
 use client_request::{Error, Words};
 use command_parts::{deliver, end_by, statuses};
@@ -31,7 +32,6 @@ use dns_lookup_pages::{Lacking, lacking_in};
 use dns_lookup_words::{Ask, Fault, Lookup, lookup_of};
 use dns_values::{Sink, Source};
 use resolv_conf::{ResolvConf, ServerConf};
-use resolver_policy::{practical_choice, practical_transports};
 use std::alloc::Global;
 
 /// Tells why there is no answer, and what each place of a server brought.
@@ -133,23 +133,17 @@ fn tell<K: Sink, L: Sink>(
     }
 }
 
-/// How the client is set that asks the servers of a configuration.
-pub(crate) fn settings_for(conf: &ResolvConf) -> Settings
-    ensures { result ≡ settings_for conf.now }
-{
-    Settings {
-        redundant: practical_choice(),
-        cache: cache::Config::new(),
-        transports: practical_transports(conf),
-    }
-}
-
-/// A new client of a configuration, whose servers an edge learns.
-fn client_of<E: Edge>(alloc: Global, conf: &ResolvConf, edge: &mut E) -> Result<Client, Error>
-    ensures { IfOk result (λ c. HasBegun conf.now c (E.deeds edge.old) (E.deeds edge.new) (E.polls edge.old) (E.polls edge.new)) }
+/// A new client for a lookup of a configuration, whose servers an edge learns.
+fn client_of<E: Edge>(
+    alloc: Global,
+    lookup: &Lookup,
+    conf: &ResolvConf,
+    edge: &mut E,
+) -> Result<Client, Error>
+    ensures { IfOk result (λ c. HasBegun lookup.now conf.now c (E.deeds edge.old) (E.deeds edge.new) (E.polls edge.old) (E.polls edge.new)) }
 {
     learn_all(edge, conf.servers.as_slice())?;
-    Client::with_settings(alloc, conf, settings_for(conf), 0)
+    Client::with_settings(alloc, conf, settings_for(lookup, conf), 0)
 }
 
 /// Why the answer has no data to write, where these alone are to be written.
@@ -244,7 +238,7 @@ pub(crate) fn ask_all<K: Sink, L: Sink, E: Edge + Drop, C: Clock + Drop, A: Asks
     let Ok(tries) = tries_of(alloc, lookup.search, &conf.options, asks) else {
         return statuses::NO_MEMORY;
     };
-    let Ok(mut client) = client_of(alloc, conf, edge) else {
+    let Ok(mut client) = client_of(alloc, lookup, conf, edge) else {
         return statuses::NO_MEMORY;
     };
     let servers = conf.servers.as_slice();

@@ -12,7 +12,8 @@ ghost use Rattle.dns_lookup_run.specs.Worlds.{around, said};
 
 use crate::asks::{Answered, Asks};
 use crate::conf::conf_of;
-use crate::program::{ask_all, settings_for};
+use crate::program::ask_all;
+use crate::settings::settings_for;
 use crate::telling::{tell_conf, tell_no_memory, tell_notes, tell_refusal};
 use crate::watched_clock::WatchedClock;
 use crate::watched_edge::WatchedEdge;
@@ -176,7 +177,7 @@ fn ask_recorded<K: Sink, L: Sink, E: Edge + Drop, C: Clock + Drop, W: Words, R: 
     ensures line_flushed { IsTold result.status.0 → IsFlushed (L.held errors.new) (L.flushed errors.new) ⊎ Rose (L.faults errors.old) (L.faults errors.new) }
 {
     record_law();
-    let settings = settings_for(conf);
+    let settings = settings_for(lookup, conf);
     let mut file = file;
     let begun = Recorder::with_settings(alloc, conf, &settings, rng, ahead(), &mut file);
     let recorder = match begun {

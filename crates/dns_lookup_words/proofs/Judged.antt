@@ -15,7 +15,8 @@ use Rattle.dns_lookup_words.specs.declared.wrong.Value.{Value}
 use Rattle.dns_lookup_words.specs.declared.wrong.Value.TheVariants as values
 use Rattle.dns_lookup_words.specs.declared.wrong.Wrong.{Wrong}
 use Rattle.dns_lookup_words.proofs.ShortAddresses.{same_missing, same_short}
-use Rattle.dns_lookup_words.specs.Words.{AddressAt, Gives, GivesAt, GluedGives, IsJudged, IsSaidBy, LookupGives, ServerAt, ServerAtNumber, ServerAtSame, ServerAtText, ServerIn, ServerOf, SignGives, ValueGives, ValuedGives, WordGives, WordsGive, asked, bad_word, bare, behind, behind_first, good_word, is_localhost, is_other, no_word, nothing_said, number_in, said_whole, valued, with_address, with_server, wrong_word}
+use Rattle.dns_lookup_words.specs.Numbers.{number_in}
+use Rattle.dns_lookup_words.specs.Words.{AddressAt, Gives, GivesAt, GluedGives, IsJudged, IsSaidBy, LookupGives, ServerAt, ServerAtNumber, ServerAtSame, ServerAtText, ServerIn, ServerOf, SignGives, ValueGives, ValuedGives, WordGives, WordsGive, asked, bad_word, bare, behind, behind_first, good_word, is_localhost, is_other, no_word, nothing_said, said_whole, valued, with_address, with_server, wrong_word}
 
 one_server_at : (text : List ℕ) (port : Option ℕ) (said : Said) (a b : Result Said Wrong) → ServerAt text port said a → ServerAt text port said b → a ≡ b
 one_server_at text port said (Ok x) (Ok y) h k = ap Ok (h.2 ∙ ap (λ ip. with_server ip port said) (one_address text h.0 k.0 h.1 k.1) ∙ sym k.2)

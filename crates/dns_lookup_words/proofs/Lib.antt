@@ -1,3 +1,4 @@
 mod Judged
+mod Letters
 mod ShortAddresses
 mod Taken

@@ -7,7 +7,7 @@ use Rattle.dns_lookup_words.specs.declared.lacking.Lack.TheVariants as lacks
 use Rattle.dns_lookup_words.specs.declared.options.Flag.TheVariants as flags
 use Rattle.dns_lookup_words.specs.declared.options.Part.TheVariants as parts
 use Rattle.dns_lookup_words.specs.declared.options.Sets.{Sets}
-use Rattle.dns_lookup_words.specs.declared.options.Sets.TheVariants.{Absent, All, Already, Domain, Dots, Edns, Flag, Never, Part, Search, Tcp, Time, Walk}
+use Rattle.dns_lookup_words.specs.declared.options.Sets.TheVariants.{Absent, All, Already, Domain, Dots, Edns, Flag, Never, Part, Search, Size, Tcp, Time, Tries, Walk}
 
 -- dig's options, of which the first that a word is short for counts
 unfoldable pub plus_options : List (Row Sets)
@@ -21,7 +21,7 @@ plus_options =
     ∷ (codes "authority", First 2, Part parts.Authority)
     ∷ (codes "badcookie", First 2, Never lacks.Cookie)
     ∷ (codes "besteffort", First 2, Absent lacks.Transport)
-    ∷ (codes "bufsize", First 2, Absent lacks.Extension)
+    ∷ (codes "bufsize", First 2, Size)
     ∷ (codes "cdflag", First 2, Flag flags.Unchecked)
     ∷ (codes "class", First 2, Part parts.Class)
     ∷ (codes "cmd", First 2, Never lacks.Text)
@@ -77,7 +77,7 @@ plus_options =
     ∷ (codes "timeout", First 5, Time)
     ∷ (codes "tls", First 2, Never lacks.Encryption)
     ∷ (codes "trace", First 3, Walk)
-    ∷ (codes "tries", First 3, Absent lacks.Tries)
+    ∷ (codes "tries", First 3, Tries)
     ∷ (codes "ttlid", First 4, Part parts.Ttl)
     ∷ (codes "ttlunits", First 4, Part parts.Units)
     ∷ (codes "unknownformat", First 3, Never lacks.Text)

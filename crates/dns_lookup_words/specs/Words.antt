@@ -1,5 +1,5 @@
 -- The words of a lookup, in dig's habits: `[@SERVER ..] [-p PORT] [-4 | -6]`, and of each name `(-x ADDRESS | [-q] NAME) [[-c] CLASS] [[-t] TYPE] [+OPTION ..]`, in any order.
-use Rattle.std.specs.Prelude.{◌≡◌, ℕ, ◌+◌, ◌==◌, ◌||◌, ◌&&◌, not, Bool, true, false, if◌then◌else◌, is_some, List, [], ◌∷◌, ◌++◌, length, codes, nat_lt, Option, None, Some, option_and_then, String, Result, Ok, Err}
+use Rattle.std.specs.Prelude.{◌≡◌, ℕ, ◌+◌, ◌==◌, ◌||◌, not, Bool, true, false, if◌then◌else◌, is_some, List, [], ◌∷◌, ◌++◌, length, codes, nat_lt, Option, None, Some, option_and_then, String, Result, Ok, Err}
 use Rattle.std.specs.List.{after_first, before_first, list_any, position_or_len}
 use Rattle.std.specs.Result.{result_ok}
 use Rattle.std.specs.Str.{bytes_eq, str_eq_ignore_ascii_case}
@@ -12,20 +12,18 @@ use Rattle.dns_values.specs.NumberNames.{begins_with, class_of_text}
 use Rattle.dns_values.specs.declared.address.IpAddr.{IpAddr}
 use Rattle.dns_values.specs.declared.address.IpAddr.TheVariants.{V4}
 use Rattle.dns_values.specs.declared.numbers.Rtype.{Rtype}
-use Rattle.resolv_conf.specs.Number.{number_of}
-use Rattle.dns_lookup_words.specs.Asks.{all_set, asks_of, flag_set, part_set, usual_asking, walking}
+use Rattle.dns_lookup_words.specs.Asks.{asks_of, usual_asking}
+use Rattle.dns_lookup_words.specs.Numbers.{number_in}
 use Rattle.program_words.specs.Rows.{said_in}
 use Rattle.dns_lookup_words.specs.Options.{is_off, plus_options, without_no}
+use Rattle.dns_lookup_words.specs.Setting.{plus_at}
 use Rattle.dns_lookup_words.specs.ShortAddress.{IsNoAddress, IsShortAddress, short_labels}
 use Rattle.dns_lookup_words.specs.Types.{type_number}
 use Rattle.dns_lookup_words.specs.declared.lacking.Lack.{Lack}
 use Rattle.dns_lookup_words.specs.declared.lacking.Lack.TheVariants as lacks
 use Rattle.dns_lookup_words.specs.declared.lookup.Lookup.{Lookup}
+use Rattle.dns_lookup_words.specs.declared.manner.Announced.TheVariants.{Usual}
 use Rattle.dns_lookup_words.specs.declared.manner.Family.TheVariants as families
-use Rattle.dns_lookup_words.specs.declared.manner.Flags.{Flags}
-use Rattle.dns_lookup_words.specs.declared.manner.Layout.{Layout}
-use Rattle.dns_lookup_words.specs.declared.options.Sets.{Sets}
-use Rattle.dns_lookup_words.specs.declared.options.Sets.TheVariants as sets
 use Rattle.dns_lookup_words.specs.declared.said.Next.{Next}
 use Rattle.dns_lookup_words.specs.declared.said.Next.TheVariants as next
 use Rattle.dns_lookup_words.specs.declared.said.Said.{Said}
@@ -49,6 +47,8 @@ nothing_said = record {
   family = None;
   tcp = false;
   seconds = None;
+  tries = None;
+  announced = Usual;
   search = false;
   domain = None;
   dots = None;
@@ -70,20 +70,6 @@ unfoldable pub behind_first : ℕ → List ℕ → Option (List ℕ)
 behind_first sign text =
     if nat_lt (position_or_len (λ c. c == sign) text) (length text) then Some (after_first (λ c. c == sign) text) else None
 
--- a number up to the greatest
-abbrev pub up_to : ℕ → ℕ → Option ℕ
-up_to most n = if nat_lt most n then None else Some n
-
-abbrev pub number_up_to : ℕ → List ℕ → Option ℕ
-number_up_to most word = option_and_then (up_to most) (number_of word)
-
--- a number from 1 to the greatest
-abbrev pub in_range : ℕ → ℕ → Option ℕ
-in_range most n = if n == 0 || nat_lt most n then None else Some n
-
-abbrev pub number_in : ℕ → List ℕ → Option ℕ
-number_in most word = option_and_then (in_range most) (number_of word)
-
 -- `-p PORT`, the last of which counts
 abbrev pub port_given : Option ℕ → Said → Result Said Wrong
 port_given None said = Err wrongs.Port
@@ -91,30 +77,6 @@ port_given (Some port) said = Ok (record said { port = Some port })
 
 abbrev pub port_said : List ℕ → Said → Result Said Wrong
 port_said word said = port_given (number_in 65535 word) said
-
--- `+time=SECONDS`, the last of which counts, and 0 as 1
-abbrev pub time_given : Option ℕ → Said → Result Said Wrong
-time_given None said = Err wrongs.Time
-time_given (Some seconds) said = Ok (record said { seconds = Some (if seconds == 0 then 1 else seconds) })
-
-abbrev pub time_said : List ℕ → Said → Result Said Wrong
-time_said text said = time_given (number_up_to 600 text) said
-
--- `+ndots=COUNT`, the last of which counts
-abbrev pub dots_given : Option ℕ → Said → Result Said Wrong
-dots_given None said = Err wrongs.Dots
-dots_given (Some dots) said = Ok (record said { dots = Some dots })
-
-abbrev pub dots_said : List ℕ → Said → Result Said Wrong
-dots_said text said = dots_given (number_up_to 65535 text) said
-
--- `+domain=NAME`, the last of which counts: this suffix is searched
-abbrev pub domain_given : Option Labels → Said → Result Said Wrong
-domain_given None said = Err wrongs.Suffix
-domain_given (Some name) said = Ok (record said { search = true; domain = Some name })
-
-abbrev pub domain_said : List ℕ → Said → Result Said Wrong
-domain_said text said = domain_given (result_ok (name_of_text text)) said
 
 -- `@ADDRESS`, behind those that were said before
 abbrev pub with_server : IpAddr → Option ℕ → Said → Said
@@ -318,76 +280,6 @@ ValuedGives None text said answer = answer ≡ dash_said text said
 abbrev pub DashGives : List ℕ → Said → Result Said Wrong → Type 0
 DashGives text said answer = ValuedGives (valued text) text said answer
 
--- what is always done can be asked for, and what never is can be left
-abbrev pub only_on : Lack → Bool → Said → Result Said Wrong
-only_on lack on said = if on then Ok said else Err (wrongs.Lacking lack)
-
-abbrev pub only_off : Lack → Bool → Said → Result Said Wrong
-only_off lack on said = if on then Err (wrongs.Lacking lack) else Ok said
-
-abbrev pub with_flags : Flags → Said → Said
-with_flags flags said = record said { asking = record said.asking { manner = record said.asking.manner { flags = flags } } }
-
-abbrev pub with_layout : Layout → Said → Said
-with_layout layout said = record said { asking = record said.asking { manner = record said.asking.manner { layout = layout } } }
-
--- `+[no]trace`: each name as it stands is asked for from the root on
-abbrev pub with_walk : Bool → Said → Said
-with_walk true said = record said { walk = true; search = false; asking = record said.asking { manner = walking said.asking.manner } }
-with_walk false said = record said { walk = false }
-
--- an option without a value
-abbrev pub set_bare : Sets → Bool → Said → Result Said Wrong
-set_bare sets.Tcp on said = Ok (record said { tcp = on })
-set_bare sets.Time on said = Err wrongs.Time
-set_bare (sets.Flag flag) on said = Ok (with_flags (flag_set flag on said.asking.manner.flags) said)
-set_bare (sets.Part part) on said = Ok (with_layout (part_set part on said.asking.manner.layout) said)
-set_bare sets.Search on said = Ok (record said { search = on })
-set_bare sets.Domain on said = Err wrongs.Suffix
-set_bare sets.Dots on said = Err wrongs.Dots
-set_bare sets.Walk on said = Ok (with_walk on said)
-set_bare sets.All on said = Ok (with_layout (all_set on said.asking.manner.layout) said)
-set_bare sets.Edns on said = only_on lacks.Extension on said
-set_bare (sets.Already lack) on said = only_on lack on said
-set_bare (sets.Never lack) on said = only_off lack on said
-set_bare (sets.Absent lack) on said = Err (wrongs.Lacking lack)
-
--- and with one, which time, a suffix, a count of dots and the version of EDNS have
-abbrev pub time_valued : Bool → List ℕ → Said → Result Said Wrong
-time_valued on text said = if on then time_said text said else Err wrongs.Time
-
-abbrev pub domain_valued : Bool → List ℕ → Said → Result Said Wrong
-domain_valued on text said = if on then domain_said text said else Err wrongs.Suffix
-
-abbrev pub dots_valued : Bool → List ℕ → Said → Result Said Wrong
-dots_valued on text said = if on then dots_said text said else Err wrongs.Dots
-
-abbrev pub version_said : List ℕ → Bool → Said → Result Said Wrong
-version_said text on said = only_on lacks.Extension (on && bytes_eq text (codes "0")) said
-
-abbrev pub set_valued : Sets → Bool → List ℕ → Said → Result Said Wrong
-set_valued sets.Tcp on text said = Err wrongs.Valued
-set_valued sets.Time on text said = time_valued on text said
-set_valued (sets.Flag flag) on text said = Err wrongs.Valued
-set_valued (sets.Part part) on text said = Err wrongs.Valued
-set_valued sets.Search on text said = Err wrongs.Valued
-set_valued sets.Domain on text said = domain_valued on text said
-set_valued sets.Dots on text said = dots_valued on text said
-set_valued sets.Walk on text said = Err wrongs.Valued
-set_valued sets.All on text said = Err wrongs.Valued
-set_valued sets.Edns on text said = version_said text on said
-set_valued (sets.Already lack) on text said = Err wrongs.Valued
-set_valued (sets.Never lack) on text said = Err (wrongs.Lacking lack)
-set_valued (sets.Absent lack) on text said = Err (wrongs.Lacking lack)
-
-abbrev pub set_by : Sets → Bool → Option (List ℕ) → Said → Result Said Wrong
-set_by s on None said = set_bare s on said
-set_by s on (Some text) said = set_valued s on text said
-
-abbrev pub plus_at : Option Sets → Bool → Option (List ℕ) → Said → Result Said Wrong
-plus_at None on value said = Err wrongs.Option
-plus_at (Some s) on value said = set_by s on value said
-
 -- `+[no]NAME` or `+NAME=VALUE`, by the table of names
 abbrev pub plus_named : (name : List ℕ) → Option (List ℕ) → Said → Result Said Wrong
 plus_named name value said = plus_at (said_in plus_options (without_no name)) (not (is_off name)) value said
@@ -444,6 +336,8 @@ named (Some name) said = Ok (record {
   family = said.family;
   tcp = said.tcp;
   seconds = said.seconds;
+  tries = said.tries;
+  announced = said.announced;
   search = said.search;
   domain = said.domain;
   dots = said.dots;

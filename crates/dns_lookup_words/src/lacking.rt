@@ -12,11 +12,11 @@ pub enum Lack {
     Cookie,
     /// The network of a client (RFC 7871).
     Subnet,
-    /// Another OPT record, or none (RFC 6891).
+    /// A version, a flag or an option of EDNS (RFC 6891).
     Extension,
     /// Another id or opcode, or no question.
     Header,
-    /// How often a server is asked.
+    /// How often a server is asked again.
     Tries,
     /// What is done with an answer that is truncated or broken, or with a stream.
     Transport,
@@ -45,13 +45,13 @@ pub(crate) fn lack_text(lack: Lack) -> &'static str
         Lack::Cookie => "asks for a cookie, and no request has one",
         Lack::Subnet => "asks for the network of a client, and no request has one",
         Lack::Extension => {
-            "asks for another OPT record than EDNS version 0 with the size that is always said"
+            "asks for another version, flag or option of EDNS than +dnssec, +nsid and +expire ask for"
         }
         Lack::Header => {
             "asks for another id or opcode, or for no question, and each request is a query with one"
         }
         Lack::Tries => {
-            "asks for a number of tries, which attempts in the configuration alone says"
+            "asks for a number of tries behind the first, and +tries says how many there are with it"
         }
         Lack::Transport => {
             "asks for another way with truncated or broken answers or with streams than the usual"

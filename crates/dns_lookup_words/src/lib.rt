@@ -51,6 +51,6 @@ mod wrong;
 pub use lacking::Lack;
 pub use laws::lookup_laws;
 pub use lookup::{Lookup, lookup_of};
-pub use manner::{Ask, Family, Flags, Layout, Manner};
+pub use manner::{Announced, Ask, Family, Flags, Layout, Manner};
 pub use telling::sentence;
 pub use wrong::{Fault, Refusal, Value, Wrong};

@@ -3,7 +3,7 @@
 ghost use Rattle.std.specs.Prelude.{◌≡◌, ◌<◌, length, IfOk};
 ghost use Rattle.dns_lookup_words.specs.Words.{Gives, IsJudged, IsSaidBy, asked, named};
 
-use crate::manner::{Ask, Family};
+use crate::manner::{Announced, Ask, Family};
 use crate::said::{Next, Said, push_asks};
 use crate::wrong::{Fault, Refusal};
 use dns_names::Name;
@@ -23,6 +23,10 @@ pub struct Lookup {
     pub tcp: bool,
     /// How long a request may take, in seconds, in place of what the configuration says.
     pub seconds: Option<u64>,
+    /// In how many rounds servers are asked, from 1 to 5, in place of what the configuration says.
+    pub tries: Option<usize>,
+    /// The payload size that requests announce.
+    pub announced: Announced,
     /// Whether suffixes are searched for names.
     pub search: bool,
     /// The suffix that is searched, in place of those of the configuration.
@@ -47,6 +51,8 @@ fn named(alloc: Global, said: Said) -> Result<Lookup, Fault>
         family,
         tcp,
         seconds,
+        tries,
+        announced,
         search,
         domain,
         dots,
@@ -67,6 +73,8 @@ fn named(alloc: Global, said: Said) -> Result<Lookup, Fault>
             family,
             tcp,
             seconds,
+            tries,
+            announced,
             search,
             domain,
             dots,
@@ -105,12 +113,13 @@ fn said_by(alloc: Global, words: &[String]) -> Result<Said, Fault>
 /// A word that begins with `@` names a server by its address, in brackets or not, or this host by `localhost`, with `#PORT` behind it
 /// or not. One that begins with a plus is an option of `dig` or the first letters of one, `no` turns it off; one that begins with a
 /// hyphen is an option of one letter, whose value is glued to it or the next word. Behind `--` no word is an option. Any other word
-/// is the type or the class, where it names one, and else a name. Of several ports, types, classes or times the last counts.
+/// is the type or the class, where it names one, and else a name. Of several ports, types, classes, times, tries or payload
+/// sizes the last counts.
 ///
 /// What is said before the first name is said of all names, and what is said behind one of that name alone; but servers, the port,
-/// `-4` and `-6`, `+tcp`, `+time`, `+search`, `+domain`, `+ndots` and `+trace` are of all names wherever they stand, and servers behind a
-/// name are refused where another name stands behind that. `Refused` names the first word that is wrong, or says which value or that a
-/// name is missing.
+/// `-4` and `-6`, `+tcp`, `+time`, `+tries`, `+bufsize`, `+edns`, `+search`, `+domain`, `+ndots` and `+trace` are of all names wherever they
+/// stand, and servers behind a name are refused where another name stands behind that. `Refused` names the first word that is wrong, or
+/// says which value or that a name is missing.
 pub fn lookup_of(alloc: Global, words: &[String]) -> Result<Lookup, Fault>
     ensures judged { IsJudged words.now result }
     ensures some { IfOk result (λ lookup. 0 < length lookup.asks) }

@@ -84,6 +84,17 @@ pub struct Ask {
     pub manner: Manner,
 }
 
+/// The payload size that requests announce (RFC 6891 6.2.3).
+#[derive(Clone, Copy, Debug, PartialEq, Eq)]
+pub enum Announced {
+    /// The usual one.
+    Usual,
+    /// This many octets.
+    Size(u16),
+    /// None: a request by datagrams has an OPT record only for what is asked in it.
+    Nothing,
+}
+
 /// The addresses at which servers are asked.
 #[derive(Clone, Copy, Debug, PartialEq, Eq)]
 pub enum Family {

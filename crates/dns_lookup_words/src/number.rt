@@ -1,7 +1,7 @@
 //! Numbers among the words.
 
 ghost use Rattle.std.specs.Prelude.{◌≡◌, ◌≤◌, IfSome};
-ghost use Rattle.dns_lookup_words.specs.Words.{number_in, number_up_to};
+ghost use Rattle.dns_lookup_words.specs.Numbers.{number_in, number_up_to};
 ghost use Rattle.resolv_conf.specs.Number.{number_of};
 
 /// The number that a text writes, where a plus may stand first.

@@ -60,6 +60,10 @@ pub(crate) enum Sets {
     Tcp,
     /// How long a request may take.
     Time,
+    /// In how many rounds servers are asked.
+    Tries,
+    /// The payload size that requests announce.
+    Size,
     /// What a request says.
     Flag(Flag),
     /// What is written of an answer.
@@ -74,7 +78,7 @@ pub(crate) enum Sets {
     Walk,
     /// Whether sections, comments and statistics are written.
     All,
-    /// EDNS version 0 (RFC 6891), which requests have.
+    /// Whether requests announce a payload size, by EDNS version 0 (RFC 6891).
     Edns,
     /// What is done already, and can't be left.
     Already(Lack),
@@ -103,7 +107,7 @@ const PLUS_OPTIONS: [Row<Sets>; 72] = [
         Letters::First(2),
         Sets::Absent(Lack::Transport),
     ),
-    ("bufsize", Letters::First(2), Sets::Absent(Lack::Extension)),
+    ("bufsize", Letters::First(2), Sets::Size),
     ("cdflag", Letters::First(2), Sets::Flag(Flag::Unchecked)),
     ("class", Letters::First(2), Sets::Part(Part::Class)),
     ("cmd", Letters::First(2), Sets::Never(Lack::Text)),
@@ -175,7 +179,7 @@ const PLUS_OPTIONS: [Row<Sets>; 72] = [
     ("timeout", Letters::First(5), Sets::Time),
     ("tls", Letters::First(2), Sets::Never(Lack::Encryption)),
     ("trace", Letters::First(3), Sets::Walk),
-    ("tries", Letters::First(3), Sets::Absent(Lack::Tries)),
+    ("tries", Letters::First(3), Sets::Tries),
     ("ttlid", Letters::First(4), Sets::Part(Part::Ttl)),
     ("ttlunits", Letters::First(4), Sets::Part(Part::Units)),
     ("unknownformat", Letters::First(3), Sets::Never(Lack::Text)),

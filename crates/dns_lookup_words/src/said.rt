@@ -4,7 +4,7 @@ ghost use Rattle.std.specs.Prelude.{◌≡◌, ◌++◌, ◌<◌, length, OnOk};
 ghost use Rattle.dns_lookup_words.specs.Asks.{asks_of, usual, usual_asking};
 ghost use Rattle.dns_lookup_words.specs.Words.{nothing_said};
 
-use crate::manner::{Ask, Family, Flags, Layout, Manner};
+use crate::manner::{Announced, Ask, Family, Flags, Layout, Manner};
 use crate::wrong::Value;
 use dns_names::Name;
 use dns_values::{Class, IpAddr, NoMemory, Rtype, Seq};
@@ -42,6 +42,8 @@ pub(crate) struct Said {
     pub(crate) family: Option<Family>,
     pub(crate) tcp: bool,
     pub(crate) seconds: Option<u64>,
+    pub(crate) tries: Option<usize>,
+    pub(crate) announced: Announced,
     pub(crate) search: bool,
     /// The suffix that is searched, in place of those of the configuration.
     pub(crate) domain: Option<Name>,
@@ -158,6 +160,8 @@ impl Said {
             family: None,
             tcp: false,
             seconds: None,
+            tries: None,
+            announced: Announced::Usual,
             search: false,
             domain: None,
             dots: None,

@@ -2,10 +2,11 @@
 
 ghost use Rattle.std.specs.Prelude.{◌≡◌};
 ghost use Rattle.dns_lookup_words.specs.Asks.{all_set, flag_set, part_set, walking};
-ghost use Rattle.dns_lookup_words.specs.Words.{Answers, domain_said, dots_said, only_off, only_on, set_bare, set_valued, time_said, version_said, with_walk};
+ghost use Rattle.dns_lookup_words.specs.Setting.{domain_said, dots_said, edns_set, only_off, only_on, set_bare, set_valued, size_bare, size_said, time_said, tries_said, version_said, with_walk};
+ghost use Rattle.dns_lookup_words.specs.Words.{Answers};
 
 use crate::lacking::Lack;
-use crate::manner::{Flags, Layout, Manner};
+use crate::manner::{Announced, Flags, Layout, Manner};
 use crate::number::number_up_to;
 use crate::options::{Flag, Part, Sets};
 use crate::said::Said;
@@ -15,6 +16,12 @@ use std::alloc::Global;
 
 /// The longest time, in seconds.
 const MOST_SECONDS: usize = 600;
+
+/// The most rounds in which servers are asked.
+const MOST_TRIES: usize = 5;
+
+/// The greatest payload size, in octets.
+const MOST_OCTETS: usize = 65535;
 
 /// The most dots.
 const MOST_DOTS: usize = 65535;
@@ -99,6 +106,18 @@ fn walking(mut manner: Manner) -> Manner
     manner
 }
 
+/// What is announced, with EDNS or without it.
+fn edns_set(on: bool, announced: Announced) -> Announced
+    ensures { result ≡ edns_set on announced }
+{
+    match (on, announced) {
+        (false, _) => Announced::Nothing,
+        (true, Announced::Nothing) => Announced::Usual,
+        (true, Announced::Usual) => Announced::Usual,
+        (true, Announced::Size(size)) => Announced::Size(size),
+    }
+}
+
 impl Said {
     fn take_time(&mut self, text: &str) -> Result<(), WordFault>
         ensures { Answers (λ o. o ≡ time_said text.now self.old) result self.new }
@@ -113,6 +132,46 @@ impl Said {
                 Ok(())
             }
             None => Err(WordFault::Wrong(Wrong::Time)),
+        }
+    }
+
+    fn take_tries(&mut self, text: &str) -> Result<(), WordFault>
+        ensures { Answers (λ o. o ≡ tries_said text.now self.old) result self.new }
+    {
+        match number_up_to(MOST_TRIES, text) {
+            Some(0) => {
+                self.tries = Some(1);
+                Ok(())
+            }
+            Some(tries) => {
+                self.tries = Some(tries);
+                Ok(())
+            }
+            None => Err(WordFault::Wrong(Wrong::Tries)),
+        }
+    }
+
+    fn take_size(&mut self, text: &str) -> Result<(), WordFault>
+        ensures { Answers (λ o. o ≡ size_said text.now self.old) result self.new }
+    {
+        match number_up_to(MOST_OCTETS, text) {
+            Some(size) => {
+                self.announced = Announced::Size(size as u16);
+                Ok(())
+            }
+            None => Err(WordFault::Wrong(Wrong::Size)),
+        }
+    }
+
+    /// Announces the usual payload size, unless `no` stands before the option.
+    fn take_usual_size(&mut self, on: bool) -> Result<(), WordFault>
+        ensures { Answers (λ o. o ≡ size_bare on self.old) result self.new }
+    {
+        if on {
+            self.announced = Announced::Usual;
+            Ok(())
+        } else {
+            Err(WordFault::Wrong(Wrong::Size))
         }
     }
 
@@ -185,6 +244,8 @@ impl Said {
         match sets {
             Sets::Tcp => self.tcp = on,
             Sets::Time => return Err(WordFault::Wrong(Wrong::Time)),
+            Sets::Tries => return Err(WordFault::Wrong(Wrong::Tries)),
+            Sets::Size => return self.take_usual_size(on),
             Sets::Flag(flag) => self.asking.manner.flags = flag_set(flag, on, flags),
             Sets::Part(part) => self.asking.manner.layout = part_set(part, on, layout),
             Sets::Search => self.search = on,
@@ -192,7 +253,7 @@ impl Said {
             Sets::Dots => return Err(WordFault::Wrong(Wrong::Dots)),
             Sets::Walk => self.set_walk(on),
             Sets::All => self.asking.manner.layout = all_set(on, layout),
-            Sets::Edns => return self.keep_on(Lack::Extension, on),
+            Sets::Edns => self.announced = edns_set(on, self.announced),
             Sets::Already(lack) => return self.keep_on(lack, on),
             Sets::Never(lack) => return self.keep_off(lack, on),
             Sets::Absent(lack) => return Err(WordFault::Wrong(Wrong::Lacking(lack))),
@@ -205,7 +266,12 @@ impl Said {
         ensures { Answers (λ o. o ≡ version_said text.now on self.old) result self.new }
     {
         let is_said = on && text == "0";
-        self.keep_on(Lack::Extension, is_said)
+        if is_said {
+            self.announced = edns_set(true, self.announced);
+            Ok(())
+        } else {
+            Err(WordFault::Wrong(Wrong::Lacking(Lack::Extension)))
+        }
     }
 
     /// Takes an option with a value.
@@ -221,6 +287,10 @@ impl Said {
         match (sets, on) {
             (Sets::Time, true) => self.take_time(text),
             (Sets::Time, false) => Err(WordFault::Wrong(Wrong::Time)),
+            (Sets::Tries, true) => self.take_tries(text),
+            (Sets::Tries, false) => Err(WordFault::Wrong(Wrong::Tries)),
+            (Sets::Size, true) => self.take_size(text),
+            (Sets::Size, false) => Err(WordFault::Wrong(Wrong::Size)),
             (Sets::Domain, true) => self.take_domain(alloc, text),
             (Sets::Domain, false) => Err(WordFault::Wrong(Wrong::Suffix)),
             (Sets::Dots, true) => self.take_dots(text),

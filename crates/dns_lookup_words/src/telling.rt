@@ -36,6 +36,8 @@ fn wrong_text(wrong: Wrong) -> &'static str
         Wrong::Class => "is no class",
         Wrong::OtherClass => "is another class than IN, CH and HS",
         Wrong::Time => "gives no seconds from 0 to 600",
+        Wrong::Tries => "gives no number of tries from 0 to 5",
+        Wrong::Size => "gives no payload size from 0 to 65535",
         Wrong::Suffix => "gives no suffix by +domain=NAME",
         Wrong::Dots => "gives no count of dots from 0 to 65535",
         Wrong::Option => "is no option",

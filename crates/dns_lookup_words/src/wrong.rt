@@ -38,6 +38,10 @@ pub enum Wrong {
     OtherClass,
     /// What stands behind its `+time=` is no number from 0 to 600.
     Time,
+    /// What stands behind its `+tries=` is no number from 0 to 5.
+    Tries,
+    /// What stands behind its `+bufsize=` is no number from 0 to 65535.
+    Size,
     /// No name stands behind its `+domain=`.
     Suffix,
     /// What stands behind its `+ndots=` is no number from 0 to 65535.

@@ -16,6 +16,7 @@ use Rattle.dns_script.specs.declared.script.Script.{Script}
 use Rattle.client_request.specs.declared.event.Row.{Row}
 use Rattle.client_replay.proofs.Rightness.{replay_of}
 use Rattle.client_request.specs.Words.{listed}
+use Rattle.client_settings.specs.Client.{default_transports}
 use Rattle.client_settings.specs.Settings.{default_cache, default_redundant}
 use Rattle.dnsq_run.specs.Program.{IsPlayed, first_lane, numbers_line, rows_of}
 use Rattle.dnsq_run.specs.QueryWords.{asked, nothing_said, query_of, said_by}
@@ -103,7 +104,7 @@ only_seven n (inl one) (inl six) = absurd (omega arith)
 pub sums_up : (n : ℕ) (script : Script) (rows : List Row) (out : List ℕ) → script ≡ generated n → IsPlayed script rows → out ≡ summary_text_of rows → IsSummary n out
 sums_up n script rows out is played says =
     let set = subst (λ s. IsPlayed s rows) is played in
-    let made = replay_of default_redundant default_cache generated_conf (listed (generated n).words) (first_lane (generated n).lanes) rows set in
+    let made = replay_of default_transports default_redundant default_cache generated_conf (listed (generated n).words) (first_lane (generated n).lanes) rows refl set in
     record {
       rows = rows;
       plain = made.plain;

@@ -128,23 +128,24 @@ pub(crate) fn take_all<'a>(
     let mut rest = words;
     let mut at = 1;
     while let Some((name, more)) = rest.split_first() {
-        if is_silent(name.as_str()) {
+        let called = name.as_str();
+        if is_silent(called) {
             options.announced = Announced::Nothing;
             rest = more;
             at += 1;
-        } else {
-            let Some((value, behind)) = more.split_first() else {
-                return Ok(rest);
-            };
-            let Some(kind) = kind_of(name.as_str()) else {
-                return Ok(rest);
-            };
-            match options.take(kind, value.as_str()) {
-                Ok(()) => rest = behind,
-                Err(fault) => return Err(fault_at(at, fault)),
-            }
-            at += 2;
+            continue;
         }
+        let Some((value, behind)) = more.split_first() else {
+            return Ok(rest);
+        };
+        let Some(kind) = kind_of(called) else {
+            return Ok(rest);
+        };
+        match options.take(kind, value.as_str()) {
+            Ok(()) => rest = behind,
+            Err(fault) => return Err(fault_at(at, fault)),
+        }
+        at += 2;
     }
     Ok(rest)
 }

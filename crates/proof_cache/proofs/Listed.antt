@@ -13,7 +13,7 @@ use Rattle.right_trace.specs.Messages.{Octets}
 use Rattle.right_trace.specs.Settings.{Settings}
 use Rattle.right_trace.specs.Keys.{FlagClass, Do, Ad, Plain, Key, KeysCover, KeyCovers, key_of, spelled_name, is_cacheable, question_or}
 use Rattle.dns_base.specs.Message.{sole_question}
-use Rattle.right_trace.specs.Trace.{Conf}
+use Rattle.right_trace.specs.Trace.{Conf, first_transports}
 use Rattle.right_trace.specs.Validity.{validity_of_parts}
 use Rattle.right_trace.specs.Views.{viewed}
 use Rattle.proof_right.specs.machine.Cache.{Op, Uses, Stores, AskDoes, Misses, Takes, TakesFlags, TakesRd, TakesBoth, First, NoneThere, tried, in_block, after_ops}
@@ -324,7 +324,7 @@ module _ (cache : CacheSettings) (s : Settings) (now : ℕ) (r : Request) (a : A
 
 -- some client, and some way to compose: what the table stands to is the same for all
 no_servers : Conf
-no_servers = record { servers = []; timeout = 0 }
+no_servers = record { servers = []; timeout = 0; transports = first_transports }
 
 pub look_ups_are_listed : LookUpsAreListed
 look_ups_are_listed cache s compose now r a es t limited asked alike =

@@ -9,6 +9,7 @@ use Rattle.client_request.specs.declared.error.Error.{Error}
 use Rattle.client_request.specs.declared.event.What.{What}
 use Rattle.right_trace.specs.Frames.{Reading, Length, LengthAfter, Body, Fed, settled, fed_one, fed, is_bad}
 use Rattle.right_trace.specs.Messages.{Octets, answers, truncated, id_in}
+use Rattle.right_trace.specs.Time.{recv_size}
 use Rattle.right_trace.specs.Trace.{Conf}
 use Rattle.proof_right.specs.machine.Part.{Act}
 use Rattle.proof_right.specs.machine.Dgrams.{Stage, Tryer, Dgrams, stage_of}
@@ -123,7 +124,7 @@ meets_ends conf n d _ _ _ octets ends (dgrams.NotSent k a p id t f at held stage
 meets_ends conf n d _ _ _ octets ends (dgrams.SentShort k a p id t at held stage) = (ends_at k _ d.held (ends_some _ (ending _ tt)) ends, tt)
 meets_ends conf n d _ _ _ octets ends (dgrams.NotReceived k a p id t f at held stage) = (ends_at k _ d.held (ends_some _ (ending _ tt)) ends, tt)
 meets_ends conf n d _ _ _ octets ends (dgrams.IsAnswered k a p id t o at held stage long answers) =
-    (ends_at k _ d.held (ends_some _ (answered (take 2000 o) (record { octets = taken 2000 o octets; long = long }))) ends, tt)
+    (ends_at k _ d.held (ends_some _ (answered (take (recv_size conf) o) (record { octets = taken (recv_size conf) o octets; long = long }))) ends, tt)
 
 -- ---- streams
 

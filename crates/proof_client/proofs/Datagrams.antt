@@ -3,6 +3,7 @@ use Rattle.std.proofs.Common.{◌≡◌, ℕ, zero, suc, List, [], ◌∷◌, ma
 use Rattle.client_multi.specs.MultiStream.{started}
 use Rattle.right_settings.specs.Given.{streams_of}
 use Rattle.right_trace.specs.Orderly.{use_at}
+use Rattle.right_trace.specs.Time.{idle_timeout, response_timeout, stream_timeout}
 use Rattle.right_trace.specs.Trace.{Conf, Use, ByDatagrams, ByStreams}
 use Rattle.proof_dgram.specs.Fallback.{AreStreams}
 use Rattle.proof_dgram.proofs.FallbackShared.{fallback_is_shared}
@@ -17,6 +18,7 @@ used_alone zero (u ∷ us) used = refl
 used_alone (suc s) (u ∷ us) used = used_alone s us used
 
 streams_below : (c : Conf) (s several : ℕ) → use_at s c.servers ≡ Some ByDatagrams → AreStreams (alone c) s by_streams (started s (streams_of several c)) (TiedAs (alone c) s) names_of owns
+unfolding idle_timeout response_timeout stream_timeout
 streams_below c s several used = reconnection_is_streams (alone c) s several (used_alone s c.servers used)
 
 pub fallbacks_are_tied : FallbacksAreTied

@@ -12,7 +12,7 @@ use Rattle.proof_parts.specs.Places.{is_this, has_place}
 use Rattle.proof_parts.specs.Sights.{Sight}
 use Rattle.proof_dgram.specs.AtServer.{with_dgrams}
 use Rattle.proof_multi.specs.Tied.{TiedAs}
-use Rattle.proof_client.specs.Fallbacks.{FallsBack}
+use Rattle.proof_client.specs.Fallbacks.{alone, FallsBack}
 use Rattle.proof_client.specs.Upstreams.{TiedBy}
 use Rattle.proof_cutting.specs.Layers.{both_octets, IsFitBoth, server_octets, IsFitServer}
 use Rattle.proof_cutting.specs.Standing.{Streams, stream_octets, IsFitStream}
@@ -34,7 +34,7 @@ module _ (c : Conf) (s : ℕ) (phase : Phase) (x : Sight) (a : Served) (end : Ma
   by_streams_fit m t = at_places (λ p. stream_octets p m) a (streams_rest_fit c s phase m x a end t)
 
   by_both_fit : (f : DgramStream Request) → FallsBack c s phase f x a → RestsFit (IsFitBoth f x.timer) (λ p. both_octets p f) (has_place a)
-  by_both_fit f t = at_places (λ p. both_octets p f) a (streams_rest_fit c s phase f.parts.stream x (with_dgrams no_datagram a) end t.streams)
+  by_both_fit f t = at_places (λ p. both_octets p f) a (streams_rest_fit (alone c) s phase f.parts.stream x (with_dgrams no_datagram a) end t.streams)
 
   pub server_rests_fit : (how : Option Use) (u : Upstream Request) → TiedBy c how s phase u x a → RestsFit (IsFitServer u x.timer) (λ p. server_octets p u) (has_place a)
   server_rests_fit None u t = absurd t

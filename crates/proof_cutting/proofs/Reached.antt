@@ -106,7 +106,7 @@ module _ (t : trace.Transports) (given : Transports) (redundant : RedundantSetti
 
   -- each server of the configuration
   servers_rest_fit : ServersRestFit servers server_octets IsFitServer
-  servers_rest_fit s phase u x a may t = server_rests_fit (conf_with t conf) s phase x a may (use_at s (conf_with t conf).servers) u t
+  servers_rest_fit s phase u x a may tied = server_rests_fit (conf_with t conf) s phase x a may (use_at s (conf_with t conf).servers) u tied
 
   reached_is_fit : (d : PlainClient client) → IsReached client d → (place : ℕ) → IsFitLayer place d.layer d.view.timers.next × (stands (layer_octets place d.layer) ≡ false)
   reached_is_fit d r place =

@@ -57,9 +57,9 @@ practical words conf = record {
   options = record conf.options { timeout = time_of_round conf.options * rounds_of conf.options };
 }
 
--- how long a round may take of a configuration that is given so: ten minutes at most
+-- how long a round may take of a configuration that is given so, in whole thousandths of a second, which scripts tell: ten minutes at most
 abbrev pub round_time : ResolvOptions → ℕ
-round_time options = min 600000000 (options.timeout / rounds_of options)
+round_time options = min 600000 (options.timeout / rounds_of options / 1000) * 1000
 
 -- How servers are asked of a configuration that is given so: none is asked again by a transport, since the rounds ask again; an answer by datagram counts as long as the
 -- request may take, and a stream waits for one as long as a round.

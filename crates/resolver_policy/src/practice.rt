@@ -130,18 +130,18 @@ pub fn practical<W: Words>(
     Ok(ResolvConf { servers, options })
 }
 
-/// The greatest time for which a stream waits for an answer, in microseconds.
-const MOST_ROUND_MICROS: u128 = 600_000_000;
+/// The greatest time for which a stream waits for an answer, in milliseconds.
+const MOST_ROUND_MILLIS: u128 = 600_000;
 
 /// The most requests that are asked at a server at a time.
 const MOST_PLACES: usize = 1000;
 
-/// How long each round may take, of a configuration that `practical` made.
+/// How long each round may take, of a configuration that `practical` made, in whole milliseconds, which scripts tell.
 fn round_time(options: &ResolvOptions) -> Duration
     ensures { result ≡ round_time options.now }
 {
-    let round = options.timeout.as_micros() / rounds_of(options) as u128;
-    Duration::from_micros(round.min(MOST_ROUND_MICROS) as u64)
+    let round = options.timeout.as_micros() / rounds_of(options) as u128 / 1000;
+    Duration::from_millis(round.min(MOST_ROUND_MILLIS) as u64)
 }
 
 /// How servers are asked in practice, of a configuration that `practical` made. No server is asked again by a transport, since the

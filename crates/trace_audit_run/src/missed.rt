@@ -26,7 +26,7 @@ pub fn audit_hits(alloc: Global, script: &Script, trace: &Trace) -> Result<Misse
 {
     let rows = trace.rows.as_slice();
     let hit = first_missed_hit(alloc, &script.cache, rows)?;
-    let conf = conf_of(alloc, &script.conf, script.transports.try_clone()?)?;
+    let conf = conf_of(alloc, &script.conf, &script.transports)?;
     let stale = first_missed_stale(&conf, &script.cache, rows)?;
     Ok(Missed { hit, stale })
 }

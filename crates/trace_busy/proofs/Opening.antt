@@ -182,12 +182,12 @@ module _ (c : Conf) (end : History) (t : Scene) (servers : c.servers ≡ map use
 
   so_dgram : (r : Request) (k p id : ℕ) (m : ℕ) → asking k end ≡ Some (record { request = r; moment = m }) → is_of_kind Stream (site p end) ≡ false → (o : Octets) → IsAmong o (unanswered c r p k id (now end) end) → CarriesBy c Dgram o r id
       → some_sent c r k id t.ledger.now.books.requests.clock (listed p t.sends.now) t ≡ true
-  so_dgram r k p id m asked kind o am c =
+  so_dgram r k p id m asked kind o am carries =
       let f = sent_so c k id (now end) o (reverse (listed p t.sends.now)) (subst (IsAmong o) (sym (known.sends.waits k p id (now end) (record { request = r; moment = m }) kind asked)) am) in
       let y = f.send in
       finds_sent c r k id t.ledger.now.books.requests.clock y (listed p t.sends.now) t (in_reverse y (listed p t.sends.now) f.there)
       (all ((y.request == k) && (y.id == id)) _ (all (y.request == k) (y.id == id) (ap (λ (n : ℕ). n == k) f.is_request ∙ own k) (ap (λ (n : ℕ). n == id) f.is_id ∙ own id)) (ap (λ (n : ℕ). nat_lt n (y.moment + read_timeout c)) known.ledger.books.requests.time ∙ f.young))
-      (noted Dgram r k id m asked y.octets ∙ so_carries c Dgram y.octets r id (subst (λ (o : Octets). CarriesBy c Dgram o r id) (sym f.is_octets) c))
+      (noted Dgram r k id m asked y.octets ∙ so_carries c Dgram y.octets r id (subst (λ (o : Octets). CarriesBy c Dgram o r id) (sym f.is_octets) carries))
 
   -- by stream
   left_waiting : (p id : ℕ) → brings_seen id (frames_of p t.ledger.now.frames.brought) ≡ false → waiting_seen p id t.ledger.now.waiting ≡ waiting_with (came_here p end) p id end
@@ -212,13 +212,13 @@ module _ (c : Conf) (end : History) (t : Scene) (servers : c.servers ≡ map use
       (w.octets, subst (λ b. IsAmong w.octets (if b then octets_for k (waiting_with (came_here p end) p id end) else [])) (sym (sym (young_is k s) ∙ q.0)) an, carries_so c Stream w.octets r id (sym (noted Stream r k id m asked w.octets) ∙ f.carries))
 
   so_stream : (r : Request) (k p id s m : ℕ) → asking k end ≡ Some (record { request = r; moment = m }) → (o : Octets) → IsAmong o (waited_for c Stream r s p k id (now end) (came_here p end) end end) → CarriesBy c Stream o r id → is_open_by c Stream r k p id s t ≡ true
-  so_stream r k p id s m asked o am c = young (is_before c (now end) (start k s Stream end)) refl am
+  so_stream r k p id s m asked o am carries = young (is_before c (now end) (start k s Stream end)) refl am
     where
       left : (b : Bool) → brings_seen id (frames_of p t.ledger.now.frames.brought) ≡ b → IsAmong o (octets_for k (waiting_with (came_here p end) p id end)) → (not b && some_written c r k id (waiting_seen p id t.ledger.now.waiting) t) ≡ true
       left true i am = absurd (subst (λ (ws : List Written). IsAmong o (octets_for k ws)) (brought_gone p id i) am)
       left false i am =
           let f = written_so k o (waiting_seen p id t.ledger.now.waiting) (subst (λ (ws : List Written). IsAmong o (octets_for k ws)) (sym (left_waiting p id i)) am) in
-          finds_written c r k id f.write (waiting_seen p id t.ledger.now.waiting) t f.there f.is_request (noted Stream r k id m asked f.write.octets ∙ so_carries c Stream f.write.octets r id (subst (λ (o : Octets). CarriesBy c Stream o r id) (sym f.is_octets) c))
+          finds_written c r k id f.write (waiting_seen p id t.ledger.now.waiting) t f.there f.is_request (noted Stream r k id m asked f.write.octets ∙ so_carries c Stream f.write.octets r id (subst (λ (o : Octets). CarriesBy c Stream o r id) (sym f.is_octets) carries))
 
       young : (b : Bool) → is_before c (now end) (start k s Stream end) ≡ b → IsAmong o (if b then octets_for k (waiting_with (came_here p end) p id end) else []) → is_open_by c Stream r k p id s t ≡ true
       young true i am =

@@ -1,4 +1,4 @@
 pub mod Listing
 pub mod Arriving
 pub mod Telling
-pub mod Failing
+pub mod Failed

@@ -5,7 +5,7 @@ pub mod Points
 pub mod Keeping
 pub mod Among
 pub mod Sparing
-pub mod Failing
+pub mod Failed
 pub mod Tabling
 pub mod Never
 pub mod Judging

@@ -24,8 +24,8 @@ use Rattle.trace_hits.specs.Point.{is_number}
 use Rattle.trace_hits.specs.Failing.{fails_by}
 use Rattle.trace_hits.specs.Failures.{nothing, clock_of, failing, after_rows, fails_in, first_failure}
 use Rattle.trace_hits.specs.Serving.{KnowFailures}
-use Rattle.trace_hits.proofs.Behind.{reply_first, behind_nothing, behind_row}
-use Rattle.trace_hits.proofs.Failing.{some_fails, none_fails}
+use Rattle.trace_hits.proofs.Behind.{reply_first, behind_row}
+use Rattle.trace_hits.proofs.Failed.{some_fails, none_fails}
 use Rattle.trace_hits.proofs.Tabling.{from_nothing}
 
 pub all_known : (cache : CacheSettings) (c : Conf) (v : Settings) (f : Failures) (rows : List Row) → v ≡ cached_by cache → f ≡ after_rows c v rows nothing → (s : Settings) → RightAfter c s [] rows → KnowFailures cache f c s [] rows

@@ -1,6 +1,7 @@
 //! The first row whose request failed where what has expired should have served it.
 
 ghost use Rattle.std.specs.Prelude.{◌≡◌, IfOk};
+ghost use Rattle.cache_rules.specs.Validity.{cached_by};
 ghost use Rattle.trace_hits.specs.Stale as plain;
 
 use crate::course::Course;
@@ -12,6 +13,14 @@ use dns_base::NoMemory;
 use std::alloc::Global;
 use trace_promptness::TraceSettings;
 use trace_questions::TraceConf;
+
+/// The settings of a client with this cache that defers nothing.
+fn with_cache(cache: &cache::Config) -> Result<TraceSettings, NoMemory>
+    ensures { IfOk result (λ settings. settings ≡ cached_by cache.now) }
+{
+    let cache = cache.try_clone()?;
+    Ok(TraceSettings::new(cache, false, false, false))
+}
 
 /// A row goes by: whether its request fails, in it or later, where what has expired should have served it.
 fn step(
@@ -40,7 +49,7 @@ pub fn first_missed_stale(
     ensures { IfOk result (plain.TellsMissedStale conf.now cache.now rows.now) }
 {
     let alloc = conf.alloc();
-    let settings = TraceSettings::new(cache.try_clone()?, false, false, false);
+    let settings = with_cache(cache)?;
     let failures = Failures::of(conf, &settings, rows)?;
     let mut course = Course::new(alloc);
     for (i, row) in rows.iter().enumerate() {

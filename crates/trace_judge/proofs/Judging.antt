@@ -135,7 +135,7 @@ row_goes r row mid new xs x right a u keeps =
 
 -- a row is judged, its event not asked
 module _ (r : Rules) (row : Row) (old mid new : Judge) (run kept : Kept) (xs : List Coming) (q : Bool) where
-  pub judges : Runs r row old mid run → course.TellsEnd r.conf r mid.course row.outs run kept → TellsComing r mid xs → TellsPrompt r row xs mid q → plain.Ends r row xs mid new
+  pub judges : Runs r row old mid run → course.TellsEnd r mid.course row.outs run kept → TellsComing r mid xs → TellsPrompt r row xs mid q → plain.Ends r row xs mid new
       → Judges r row.event row old new (first_broken kept q)
   judges f e cs g u x right n =
       let c = r.conf in

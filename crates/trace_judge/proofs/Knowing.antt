@@ -75,10 +75,10 @@ tables_out c h o bad t is_bad k =
 
 -- whether nothing is deferred stands
 event_exact : (c : Conf) (e : Event) (t : Tables) → (tables.met c e t).loads.exact ≡ t.loads.exact
-event_exact c e t = (loading.goes_on.exact e.what t.pass.ledger.books t.loads (Close 0)).0
+event_exact c e t = ((loading.goes_on c).exact e.what t.pass.ledger.books t.loads (Close 0)).0
 
 out_exact : (c : Conf) (h : History) (o : Out) (bad : Bool) (t : Tables) → (tables.has_put c (newest h) o bad t).loads.exact ≡ t.loads.exact
-out_exact c h o bad t = (loading.goes_on.exact (newest h) t.pass.ledger.books t.loads o).1
+out_exact c h o bad t = ((loading.goes_on c).exact (newest h) t.pass.ledger.books t.loads o).1
 
 -- marks
 none_marked : (c : Conf) (s : Settings) (x : History) (e : Event) → MarkKnown c s x (Came e ∷ x) None

@@ -47,7 +47,7 @@ impl Rules {
         let refused = script.redundant.defer_refused();
         let servfail = script.redundant.defer_servfail();
         Ok(Rules {
-            conf: conf_of(alloc, &script.conf, script.transports.try_clone()?)?,
+            conf: conf_of(alloc, &script.conf, &script.transports)?,
             servers: uses_of(
                 alloc,
                 script.conf.options.use_vc,

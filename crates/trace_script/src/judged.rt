@@ -39,11 +39,12 @@ pub fn uses_of(
 pub fn conf_of(
     alloc: Global,
     conf: &ResolvConf,
-    transports: Transports,
+    transports: &Transports,
 ) -> Result<TraceConf, NoMemory>
-    ensures { IfOk result (λ c. c ≡ plain.conf_of conf.now transports) }
+    ensures { IfOk result (λ c. c ≡ plain.conf_of conf.now transports.now) }
 {
     let uses = uses_of(alloc, conf.options.use_vc, conf.servers.as_slice())?;
+    let transports = transports.try_clone()?;
     Ok(TraceConf::new(alloc, uses, conf.options.timeout, transports))
 }
 

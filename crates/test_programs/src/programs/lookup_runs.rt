@@ -45,6 +45,11 @@ const UNANSWERED: &str =
 dns_lookup: 192.0.2.53:53 (UDP), asked 2 times: connection refused
 ";
 
+const UNANSWERED_ONCE: &str =
+    "dns_lookup: no answer: dgram error: connecting failed: connection refused; another @SERVER, +tcp or a longer +time= may help
+dns_lookup: 192.0.2.53:53 (UDP): connection refused
+";
+
 /// What is told of the configuration.
 const NOTE: &str =
     "dns_lookup: /etc/resolv.conf: line 1 skipped, since its first word is not known\n";
@@ -73,7 +78,56 @@ const DOCUMENT: &str = "-
         - 'example.com. 100 IN A 192.0.2.1'
 ";
 
-pub const RUNS: [Run; 40] = [
+pub const RUNS: [Run; 47] = [
+    Run {
+        words: "@192.0.2.53 +tries=0 example.com A",
+        answers: false,
+        status: 5,
+        written: "",
+        said: UNANSWERED_ONCE,
+    },
+    Run {
+        words: "--record lookup @192.0.2.53 +tries=3 +time=10 +bufsize=4096 example.com A",
+        answers: true,
+        status: 0,
+        written: PAGE,
+        said: "",
+    },
+    Run {
+        words: "@192.0.2.53 +noedns example.com A",
+        answers: true,
+        status: 0,
+        written: PAGE,
+        said: "",
+    },
+    Run {
+        words: "example.com +tries=6",
+        answers: true,
+        status: 2,
+        written: "",
+        said: "dns_lookup: +tries=6 gives no number of tries from 0 to 5; see dns_lookup --help\n",
+    },
+    Run {
+        words: "example.com +bufsize=65536",
+        answers: true,
+        status: 2,
+        written: "",
+        said: "dns_lookup: +bufsize=65536 gives no payload size from 0 to 65535; see dns_lookup --help\n",
+    },
+    Run {
+        words: "example.com +nobufsize",
+        answers: true,
+        status: 2,
+        written: "",
+        said: "dns_lookup: +nobufsize gives no payload size from 0 to 65535; see dns_lookup --help\n",
+    },
+    Run {
+        words: "example.com +edns=1",
+        answers: true,
+        status: 2,
+        written: "",
+        said: "dns_lookup: +edns=1 asks for another version, flag or option of EDNS than +dnssec, +nsid and +expire ask for; see dns_lookup --help\n",
+    },
     Run {
         words: "@192.0.2.53 +domain=com +ndots=2 example A",
         answers: true,

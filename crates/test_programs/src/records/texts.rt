@@ -5,8 +5,9 @@ use script_printing::{Untold, script_text};
 use std::alloc::Global;
 use std::test::Fail;
 
-/// Scripts as they are printed: `examples/first.script`, the first lines of `examples/use_vc.script`, and one with settings.
-const SCRIPTS: [&str; 3] = [
+/// Scripts as they are printed: `examples/first.script`, the first lines of `examples/use_vc.script`, one with settings, and one with those
+/// of transports.
+const SCRIPTS: [&str; 4] = [
     "conf nameserver 192.0.2.53
 words 4660
 at 0 ask 000001000001000000000000076578616d706c6503636f6d0000010001 00000100 -
@@ -29,6 +30,17 @@ set max-validity 60
 set stale-for 86400
 set cache-truncated on
 words 1 18446744073709551615
+at 7 ended 0
+",
+    "conf nameserver 192.0.2.53
+set dgram-max-parallel 7
+set dgram-max-retries 0
+set dgram-recv-size 4096
+set dgram-udp-payload-size none
+set dgram-read-timeout 1
+set stream-response-timeout 1500
+set stream-idle-timeout 0
+set multi-stream-response-timeout 600000
 at 7 ended 0
 ",
 ];

@@ -1,7 +1,7 @@
 //! A client that is recorded over an edge in memory, turn by turn.
 
 use client_core::{
-    Client, Event, ListClock, ListEdge, Moment, Rows, Trace, What, cache, redundant,
+    Client, Event, ListClock, ListEdge, Moment, Rows, Settings, Trace, What, cache, redundant,
 };
 use client_request::{ListWords, RequestMessage, WordList};
 use dns_base::{IpAddr, Message, NoMemory, Octets, SocketAddr};
@@ -169,11 +169,16 @@ fn replayed(alloc: Global, sink: &MemSink) -> Result<Vec<u8>, Fail> {
         conf,
         redundant,
         cache,
-        transports: _,
+        transports,
         words,
         lanes,
     } = read_script(alloc, sink.as_slice(), false)?;
-    let mut client = Client::new(alloc, &conf, redundant, cache)?;
+    let settings = Settings {
+        redundant,
+        cache,
+        transports,
+    };
+    let mut client = Client::with_settings(alloc, &conf, settings, 0)?;
     let mut words = ListWords::new(words);
     let mut rows = Rows::new(alloc);
     for lane in lanes.into_vec() {

@@ -37,7 +37,7 @@ loop-one-preserved g c =
           (world (g.A.Asks.stream c.args.rng.now) (g.E.Edge.deeds c.args.edge.now.edge) (g.E.Edge.polls c.args.edge.now.edge) (g.C.Clock.given c.args.clock.now.clock)) c.args.rng.now c.in-Some.one.now c.in-Some.later.now c.loop-one.number c.loop-one.lack c.loop-one.rng c.asked-came.new.words
           (scene c.loop-one.client (g.A.Asks.stream c.loop-one.rng) (g.E.Edge.deeds c.loop-one.edge.edge) (g.E.Edge.waits c.loop-one.edge.edge) (g.E.Edge.polls c.loop-one.edge.edge) (g.C.Clock.given c.loop-one.clock.clock))
           (scene c.asked-came.new.client (g.A.Asks.stream c.asked-came.new.words) (g.E.Edge.deeds c.asked-came.new.edge.edge) (g.E.Edge.waits c.asked-came.new.edge.edge) (g.E.Edge.polls c.asked-came.new.edge.edge) (g.C.Clock.given c.asked-came.new.clock.clock))
-          (at_first _ _ _ _ _ c.loop-one.rest.now c.in-Some.one.now c.in-Some.later.now _ _ _ _ (search rules) c.loop-one.invariant.so)
+          (at_first _ _ _ _ _ _ c.loop-one.rest.now c.in-Some.one.now c.in-Some.later.now _ _ _ _ (search rules) c.loop-one.invariant.so)
           c.or_lack-lack.result c.behind_tries-rest.result.now c.asked-came.result (c.tell-status.ensures.good (inl zero)) c.asked-came.ensures.made
           (sym c.passes_by.ensures ∙ c.if-passes_by.false) (c.or_lack-lack.ensures ∙ ap (λ (l : Option Lacking). or_lack c.loop-one.lack l) c.lack_in.ensures) c.behind_tries-rest.ensures;
       counted = one_less_behind c.loop-one.number _ c.loop-one.rest.now c.in-Some.one.now c.in-Some.later.now c.behind_tries-rest.result.now (search rules) c.behind_tries-rest.ensures c.loop-one.invariant.counted;
@@ -54,7 +54,7 @@ returns-then-status-gt0-clause-ends g c =
     (scene c.loop-one.client (g.A.Asks.stream c.loop-one.rng) (g.E.Edge.deeds c.loop-one.edge.edge) (g.E.Edge.waits c.loop-one.edge.edge) (g.E.Edge.polls c.loop-one.edge.edge) (g.C.Clock.given c.loop-one.clock.clock)) c.asked-came.new.client
     (world (g.A.Asks.stream c.asked-came.new.words) (g.E.Edge.deeds c.asked-came.new.edge.edge) (g.E.Edge.polls c.asked-came.new.edge.edge) (g.C.Clock.given c.asked-came.new.clock.clock)) (g.E.Edge.waits c.asked-came.new.edge.edge) c.tell-status.result.0
     (tells g.L.Sink.held g.L.Sink.faults c.args.conf.now.servers c.args.errors.now c.tell-status.new.errors) c.asked-came.result
-    (at_first _ _ _ _ _ c.loop-one.rest.now c.in-Some.one.now c.in-Some.later.now _ _ _ _ (search rules) c.loop-one.invariant.so)
+    (at_first _ _ _ _ _ _ c.loop-one.rest.now c.in-Some.one.now c.in-Some.later.now _ _ _ _ (search rules) c.loop-one.invariant.so)
     (sym c.passes_by.ensures ∙ c.if-passes_by.false) c.asked-came.ensures.answered c.asked-came.ensures.numbers c.tell-status.ensures.statuses (omega arith) c.tell-status.ensures.good c.tell-status.ensures.bad
     (λ five. told_by g.L.Sink.held g.L.Sink.faults c.args.conf.now.servers c.opened.result.now c.args.errors.now c.tell-status.new.errors c.asked-came.result
     ((rw (c.as_slice-servers.ensures, c.loop-one.invariant.quiet, c.loop-one.invariant.no_fault) at c.tell-status.ensures.said) five))
@@ -66,7 +66,7 @@ returns-then-status-gt0-clause-made g c = λ no_six no_seven.
     (world (g.A.Asks.stream c.args.rng.now) (g.E.Edge.deeds c.args.edge.now.edge) (g.E.Edge.polls c.args.edge.now.edge) (g.C.Clock.given c.args.clock.now.clock)) c.args.rng.now c.in-Some.one.now c.in-Some.later.now c.loop-one.number c.loop-one.lack c.loop-one.rng c.asked-came.new.words
     (scene c.loop-one.client (g.A.Asks.stream c.loop-one.rng) (g.E.Edge.deeds c.loop-one.edge.edge) (g.E.Edge.waits c.loop-one.edge.edge) (g.E.Edge.polls c.loop-one.edge.edge) (g.C.Clock.given c.loop-one.clock.clock)) c.asked-came.new.client
     (world (g.A.Asks.stream c.asked-came.new.words) (g.E.Edge.deeds c.asked-came.new.edge.edge) (g.E.Edge.polls c.asked-came.new.edge.edge) (g.C.Clock.given c.asked-came.new.clock.clock)) (g.E.Edge.waits c.asked-came.new.edge.edge) c.tell-status.result.0 c.asked-came.result
-    (at_first _ _ _ _ _ c.loop-one.rest.now c.in-Some.one.now c.in-Some.later.now _ _ _ _ (search rules) c.loop-one.invariant.so)
+    (at_first _ _ _ _ _ _ c.loop-one.rest.now c.in-Some.one.now c.in-Some.later.now _ _ _ _ (search rules) c.loop-one.invariant.so)
     (sym c.passes_by.ensures ∙ c.if-passes_by.false) c.asked-came.ensures.made c.tell-status.ensures.statuses c.tell-status.ensures.good c.tell-status.ensures.bad no_six no_seven
 
 pub returns-then-status-gt0-clause-stops : goal.returns-then-status-gt0-clause-stops
@@ -128,7 +128,7 @@ loop-one-preserved-then-passes_by g c =
           (world (g.A.Asks.stream c.args.rng.now) (g.E.Edge.deeds c.args.edge.now.edge) (g.E.Edge.polls c.args.edge.now.edge) (g.C.Clock.given c.args.clock.now.clock)) c.args.rng.now c.in-Some.one.now c.in-Some.later.now c.loop-one.number c.loop-one.lack c.loop-one.rng c.asked-came.new.words
           (scene c.loop-one.client (g.A.Asks.stream c.loop-one.rng) (g.E.Edge.deeds c.loop-one.edge.edge) (g.E.Edge.waits c.loop-one.edge.edge) (g.E.Edge.polls c.loop-one.edge.edge) (g.C.Clock.given c.loop-one.clock.clock))
           (scene c.asked-came.new.client (g.A.Asks.stream c.asked-came.new.words) (g.E.Edge.deeds c.asked-came.new.edge.edge) (g.E.Edge.waits c.asked-came.new.edge.edge) (g.E.Edge.polls c.asked-came.new.edge.edge) (g.C.Clock.given c.asked-came.new.clock.clock))
-          (at_first _ _ _ _ _ c.loop-one.rest.now c.in-Some.one.now c.in-Some.later.now _ _ _ _ (search rules) c.loop-one.invariant.so)
+          (at_first _ _ _ _ _ _ c.loop-one.rest.now c.in-Some.one.now c.in-Some.later.now _ _ _ _ (search rules) c.loop-one.invariant.so)
           c.asked-came.result c.asked-came.ensures.made passes;
       counted = one_less c.loop-one.number _ c.loop-one.rest.now c.in-Some.one.now c.in-Some.later.now (search rules) c.loop-one.invariant.counted;
       quiet = c.loop-one.invariant.quiet;
@@ -146,7 +146,7 @@ loop-one-preserved-else-status-gt0 g c =
           (world (g.A.Asks.stream c.args.rng.now) (g.E.Edge.deeds c.args.edge.now.edge) (g.E.Edge.polls c.args.edge.now.edge) (g.C.Clock.given c.args.clock.now.clock)) c.args.rng.now c.in-Some.one.now c.in-Some.later.now c.loop-one.number c.loop-one.lack c.loop-one.rng c.asked-came.new.words
           (scene c.loop-one.client (g.A.Asks.stream c.loop-one.rng) (g.E.Edge.deeds c.loop-one.edge.edge) (g.E.Edge.waits c.loop-one.edge.edge) (g.E.Edge.polls c.loop-one.edge.edge) (g.C.Clock.given c.loop-one.clock.clock))
           (scene c.asked-came.new.client (g.A.Asks.stream c.asked-came.new.words) (g.E.Edge.deeds c.asked-came.new.edge.edge) (g.E.Edge.waits c.asked-came.new.edge.edge) (g.E.Edge.polls c.asked-came.new.edge.edge) (g.C.Clock.given c.asked-came.new.clock.clock))
-          (at_first _ _ _ _ _ c.loop-one.rest.now c.in-Some.one.now c.in-Some.later.now _ _ _ _ (search rules) c.loop-one.invariant.so)
+          (at_first _ _ _ _ _ _ c.loop-one.rest.now c.in-Some.one.now c.in-Some.later.now _ _ _ _ (search rules) c.loop-one.invariant.so)
           c.or_lack-lack.result c.behind_tries-rest.result.now c.asked-came.result (c.tell-status.ensures.good (inl zero)) c.asked-came.ensures.made
           (sym c.passes_by.ensures ∙ c.if-passes_by.false) (c.or_lack-lack.ensures ∙ ap (λ (l : Option Lacking). or_lack c.loop-one.lack l) c.lack_in.ensures) c.behind_tries-rest.ensures;
       counted = one_less_behind c.loop-one.number _ c.loop-one.rest.now c.in-Some.one.now c.in-Some.later.now c.behind_tries-rest.result.now (search rules) c.behind_tries-rest.ensures c.loop-one.invariant.counted;

@@ -8,7 +8,7 @@ use Rattle.dns_lookup_run.proofs.program.ask_all.Given as goal
 
 abbrev pub invariant-loop-one : goal.invariant-loop-one
 invariant-loop-one g l = record {
-  so : SoFar g.A.Asks.made (tries_of l.lookup.search l.conf.options l.lookup.asks) l.conf
+  so : SoFar g.A.Asks.made (tries_of l.lookup.search l.conf.options l.lookup.asks) l.lookup l.conf
       (world (g.A.Asks.stream l.fn.rng) (g.E.Edge.deeds l.fn.edge.edge) (g.E.Edge.polls l.fn.edge.edge) (g.C.Clock.given l.fn.clock.clock)) l.fn.rng l.rest l.number l.lack l.rng
       (scene l.client (g.A.Asks.stream l.rng) (g.E.Edge.deeds l.edge.edge) (g.E.Edge.waits l.edge.edge) (g.E.Edge.polls l.edge.edge) (g.C.Clock.given l.clock.clock));
   counted : l.number + length l.rest ≤ length l.initial.rest;

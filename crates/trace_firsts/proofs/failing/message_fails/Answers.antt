@@ -1,4 +1,4 @@
-use Rattle.trace_firsts.proofs.Failing.{tells_message_fails}
+use Rattle.trace_firsts.proofs.Failed.{tells_message_fails}
 use Rattle.trace_firsts.proofs.failing.message_fails.Goals as goal
 
 pub returns-clause-told : goal.returns-clause-told

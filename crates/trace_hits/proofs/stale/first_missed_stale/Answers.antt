@@ -16,7 +16,7 @@ returns-then-branch c =
     let rows = c.args.rows.now in
     let failures = c.in_ok-failures.failures in
     told_stale c.args.conf.now cache failures rows (Some c.loop-i.i)
-    (all_known cache c.args.conf.now c.new-settings.result.now failures rows c.new-settings.ensures c.in_ok-failures.ensures)
+    (all_known cache c.args.conf.now c.in_ok-settings.settings failures rows c.in_ok-settings.ensures c.in_ok-failures.ensures)
     (stops_at (Serve cache) (KnowFailures cache failures) cache rows c.loop-i.i c.index-rows-i.result c.loop-i.course c.step.new.course c.in_ok-step.field-0 c.loop-i-test.true c.index-rows-i.is c.if-branch.true c.in_ok-step.ensures c.loop-i.invariant)
 
 pub loop-i-preserved : goal.loop-i-preserved
@@ -31,5 +31,5 @@ returns c =
     let rows = c.args.rows.now in
     let failures = c.in_ok-failures.failures in
     told_stale c.args.conf.now cache failures rows None
-    (all_known cache c.args.conf.now c.new-settings.result.now failures rows c.new-settings.ensures c.in_ok-failures.ensures)
+    (all_known cache c.args.conf.now c.in_ok-settings.settings failures rows c.in_ok-settings.ensures c.in_ok-failures.ensures)
     (ends_at (Serve cache) (KnowFailures cache failures) cache rows c.loop-i.i c.loop-i.course c.loop-i-test.false c.loop-i.invariant)

@@ -17,7 +17,6 @@ use Rattle.trace_exchanges.specs.declared.coming.Coming.{Coming}
 use Rattle.trace_exchanges.specs.Coming.{AllComing}
 use Rattle.trace_promptness.specs.Prompt.{is_uncut, matches}
 use Rattle.trace_questions.specs.Outs.{Tells}
-use Rattle.trace_firsts.specs.declared.firsts.Arrived.{Arrived}
 use Rattle.trace_firsts.specs.Firsts.{Firsts, counted, FirstRow, Known}
 use Rattle.trace_firsts.specs.Failing.{MessageFails, fails_for, fails_now, failed_first, message_fails, TellsMessageFails}
 use Rattle.trace_firsts.proofs.Arriving.{coming_came, uncut_is}
@@ -26,8 +25,8 @@ use Rattle.trace_firsts.proofs.Telling.{earlier_so, so_earlier, none_at_first, n
 
 -- one of these passes
 any_so : {A : Type 0} (g : A → Bool) (xs : List A) → list_any g xs ≡ true → (z : A) × IsIn z xs × (g z ≡ true)
-any_so g [] e = absurd (cc)
-any_so g (x ∷ xs) e = go (either (g x) (list_any g xs) e) (any_so g xs)
+any_so {A = A} g [] e = absurd (cc)
+any_so {A = A} g (x ∷ xs) e = go (either (g x) (list_any g xs) e) (any_so g xs)
   where
     go : (g x ≡ true) ⊎ (list_any g xs ≡ true) → (list_any g xs ≡ true → (z : A) × IsIn z xs × (g z ≡ true)) → (z : A) × IsIn z (x ∷ xs) × (g z ≡ true)
     go (inl e) rest = (x, inl refl, e)

@@ -58,8 +58,8 @@ of_none false none = refl
 
 -- one of these passes
 any_so : {A : Type 0} (g : A → Bool) (xs : List A) → list_any g xs ≡ true → (z : A) × IsIn z xs × (g z ≡ true)
-any_so g [] e = absurd (cc)
-any_so g (x ∷ xs) e = go (either (g x) (list_any g xs) e) (any_so g xs)
+any_so {A = A} g [] e = absurd (cc)
+any_so {A = A} g (x ∷ xs) e = go (either (g x) (list_any g xs) e) (any_so g xs)
   where
     go : (g x ≡ true) ⊎ (list_any g xs ≡ true) → (list_any g xs ≡ true → (z : A) × IsIn z xs × (g z ≡ true)) → (z : A) × IsIn z (x ∷ xs) × (g z ≡ true)
     go (inl e) rest = (x, inl refl, e)
