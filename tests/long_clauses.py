@@ -14,7 +14,7 @@ import sys
 
 BEGIN = re.compile(r"\b(?:requires|ensures)\*?(?:[ \t]+\w+)?[ \t]*\{")
 MANY = {"forward_run": 400, "forward_record": 410, "forward_workers": 440, "zone_fetch_run": 330,
-        "dns_record": 245, "proof_right": 205, "trace_exchanges": 210, "trace_judge": 225}
+        "dns_record": 245, "proof_right": 205, "trace_points": 210, "trace_judge": 225}
 
 
 def clauses(text):

@@ -18,13 +18,13 @@ use Rattle.right_trace.specs.Hit.{AllHit}
 use Rattle.right_trace.specs.Settings.{Settings}
 use Rattle.right_trace.specs.StaleServed.{AllServeStale}
 use Rattle.right_trace.specs.Trace.{History, Conf, Use, after}
-use Rattle.trace_clauses.specs.Verdicts.{Verdict, Right, IsVerdict}
-use Rattle.trace_clauses.proofs.Verdicts.{kept_is_right, one_verdict}
-use Rattle.trace_questions.specs.Configured as configured
-use Rattle.trace_script.specs.Judged.{conf_of, settings_of}
-use Rattle.trace_script.specs.Judged as judged
+use Rattle.trace_judge.specs.clauses.Verdicts.{Verdict, Right, IsVerdict}
+use Rattle.trace_judge.proofs.lemmas.clauses.Verdicts.{kept_is_right, one_verdict}
+use Rattle.trace_points.specs.questions.Configured as configured
+use Rattle.trace_judge.specs.script.Judged.{conf_of, settings_of}
+use Rattle.trace_judge.specs.script.Judged as judged
 use Rattle.right_trace.specs.Timely.{Timely}
-use Rattle.trace_timely.proofs.Rows.{none_is_timely}
+use Rattle.trace_hits.proofs.lemmas.timely.Rows.{none_is_timely}
 use Rattle.trace_hits.specs.Hits.{IsMissedHit}
 use Rattle.trace_hits.specs.Stale.{IsMissedStale}
 use Rattle.trace_hits.specs.Row.{room_of, Hit}

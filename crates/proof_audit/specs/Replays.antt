@@ -7,9 +7,9 @@ use Rattle.client_settings.specs.declared.settings.Transports.{Transports}
 use Rattle.client_settings.specs.Settings.{CacheSettings, RedundantSettings}
 use Rattle.client_replay.specs.Replayed.{IsReplayWith}
 use Rattle.resolv_conf.specs.declared.conf.ResolvConf.{ResolvConf}
-use Rattle.trace_clauses.specs.Verdicts.{Verdict, Right, IsVerdict}
-use Rattle.trace_script.specs.Judged.{conf_of, settings_of}
-use Rattle.trace_timely.specs.Timely.{IsUntimely}
+use Rattle.trace_judge.specs.clauses.Verdicts.{Verdict, Right, IsVerdict}
+use Rattle.trace_judge.specs.script.Judged.{conf_of, settings_of}
+use Rattle.trace_hits.specs.timely.Timely.{IsUntimely}
 use Rattle.trace_hits.specs.Hits.{IsMissedHit}
 use Rattle.trace_hits.specs.Stale.{IsMissedStale}
 

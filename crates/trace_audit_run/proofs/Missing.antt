@@ -6,7 +6,7 @@ use Rattle.dns_script.specs.declared.script.Script.{Script}
 use Rattle.right_trace.specs.Trace.{Conf}
 use Rattle.trace_hits.specs.Hits.{TellsMissedHit}
 use Rattle.trace_hits.specs.Stale.{TellsMissedStale}
-use Rattle.trace_script.specs.Judged.{conf_of, settings_of}
+use Rattle.trace_judge.specs.script.Judged.{conf_of, settings_of}
 use Rattle.trace_audit_run.specs.declared.missed.Missed.{Missed}
 use Rattle.trace_audit_run.specs.Missed.{TellsMissed}
 

@@ -5,3 +5,4 @@ pub mod Stops
 pub mod Sentences
 pub mod Program
 pub mod Ends
+pub mod missing_line

@@ -6,7 +6,7 @@ use Rattle.trace_judge.specs.declared.verdict.Clause.{Clause}
 use Rattle.trace_judge.specs.declared.verdict.Clause.TheVariants.{Events, Messages, Firsts, Causes, Orders, Prompts}
 use Rattle.trace_judge.specs.declared.verdict.Verdict.{Verdict}
 use Rattle.trace_judge.specs.declared.verdict.Verdict.TheVariants.{Right, Wrong}
-use Rattle.trace_sentences.specs.Missing.{late, missing}
+use Rattle.trace_audit_run.specs.missing_line.Missing.{late, missing}
 
 abbrev pub usage_line : List ℕ
 usage_line = codes "usage: trace_audit SCRIPT TRACE\n"

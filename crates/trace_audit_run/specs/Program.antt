@@ -8,12 +8,12 @@ use Rattle.dns_values.specs.Source.{Rose}
 use Rattle.dns_script.specs.ScriptReading.{IsScript, RefusesLine}
 use Rattle.dns_script.specs.TraceReading.{IsTrace, RefusesTraceLine}
 use Rattle.dns_script.specs.declared.script.Script.{Script}
-use Rattle.trace_clauses.specs.Verdicts.{IsVerdict}
-use Rattle.trace_script.specs.Judged.{conf_of, settings_of}
+use Rattle.trace_judge.specs.clauses.Verdicts.{IsVerdict}
+use Rattle.trace_judge.specs.script.Judged.{conf_of, settings_of}
 use Rattle.trace_judge.specs.Verdict.{first_lane, verdict_of}
 use Rattle.trace_judge.specs.declared.verdict.Clause.{Clause}
 use Rattle.trace_judge.specs.declared.verdict.Verdict.TheVariants.{Right, Wrong}
-use Rattle.trace_timely.specs.Timely.{IsUntimely}
+use Rattle.trace_hits.specs.timely.Timely.{IsUntimely}
 use Rattle.trace_audit_run.specs.declared.missed.Missed.{Missed}
 use Rattle.trace_audit_run.specs.declared.stop.Stop.{Stop}
 use Rattle.trace_audit_run.specs.declared.stop.Stop.TheVariants.{Line, Long, NoMemory, Unread}

@@ -3,11 +3,11 @@
 ghost use Rattle.std.specs.Prelude.{◌≡◌, ◌++◌, OnOk, IfOk};
 ghost use Rattle.trace_audit_run.specs.Lines as plain;
 
+use crate::missing_line::{push_late, push_missing};
 use client_request::Row;
 use dns_values::NoMemory;
 use std::alloc::Global;
 use trace_judge::Verdict;
-use trace_sentences::{push_late, push_missing};
 
 /// Adds what is missing where a trace is wrong, or where it is not timely, as a line.
 fn push_explained(

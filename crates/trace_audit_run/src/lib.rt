@@ -1,4 +1,4 @@
-//! What the program `trace_audit` does, over two sources and two sinks.
+//! What the program `trace_audit` does, over two sources and two sinks. What is missing at a row, in words, stands in `missing_line`.
 //!
 //! What `trace_audit` writes, and with which status it ends: `right` where the texts are a script and a trace that is
 //! judged right (and timely where that is asked), the clause and the row where it is judged wrong, the row where it is not
@@ -50,6 +50,7 @@ mod explaining;
 mod help;
 mod lines;
 mod missed;
+pub mod missing_line;
 mod run;
 mod sentences;
 mod stop;

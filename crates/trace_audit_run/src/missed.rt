@@ -9,7 +9,7 @@ use dns_script::Script;
 use std::alloc::Global;
 use trace_hits::{first_missed_hit, first_missed_stale};
 use trace_judge::Verdict;
-use trace_script::conf_of;
+use trace_judge::script::conf_of;
 
 /// What a trace misses.
 #[derive(Clone, Copy, Debug, Drop)]

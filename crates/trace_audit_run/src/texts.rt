@@ -3,8 +3,8 @@
 ghost use Rattle.std.specs.Prelude.{◌≡◌, [], None, false, true, IfOk, IfErr, IfSome, MatchResult};
 ghost use Rattle.dns_script.specs.ScriptReading.{IsScript};
 ghost use Rattle.dns_script.specs.TraceReading.{IsTrace};
-ghost use Rattle.trace_script.specs.Judged.{conf_of};
-ghost use Rattle.trace_timely.specs.Timely.{IsUntimely};
+ghost use Rattle.trace_judge.specs.script.Judged.{conf_of};
+ghost use Rattle.trace_hits.specs.timely.Timely.{IsUntimely};
 ghost use Rattle.trace_audit_run.specs.Program as plain;
 
 use crate::explained::explained;

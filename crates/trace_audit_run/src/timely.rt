@@ -2,14 +2,14 @@
 
 ghost use Rattle.std.specs.Prelude.{◌≡◌, ◌↔◌, [], None, IfOk};
 ghost use Rattle.right_trace.specs.Timely.{Timely};
-ghost use Rattle.trace_script.specs.Judged.{conf_of};
-ghost use Rattle.trace_timely.specs.Timely.{IsUntimely};
+ghost use Rattle.trace_judge.specs.script.Judged.{conf_of};
+ghost use Rattle.trace_hits.specs.timely.Timely.{IsUntimely};
 
 use client_request::Trace;
 use dns_base::NoMemory;
 use dns_script::Script;
 use std::alloc::Global;
-use trace_timely::first_untimely;
+use trace_hits::timely::first_untimely;
 
 /// The first row of a trace at whose end a request waits past the timeout that its script says, counted from 0; none exactly where
 /// each request has its reply in the first row at or past its timeout, or before.

@@ -23,21 +23,21 @@ use Rattle.right_trace.specs.Errors.{CameWithoutValidity}
 use Rattle.trace_tables.specs.declared.places.Place.{Place}
 use Rattle.trace_tables.specs.Known.{site_seen}
 use Rattle.trace_tables.proofs.Tables.{at_puts}
-use Rattle.trace_frames.specs.declared.here.Here.{Here}
-use Rattle.trace_frames.specs.declared.ledger.Ledger.{Ledger}
-use Rattle.trace_frames.specs.Here.{closed_seen}
-use Rattle.trace_frames.specs.Ledger as ledger
-use Rattle.trace_frames.specs.Here as here_outs
-use Rattle.trace_due.specs.declared.timers.Timers.{Timers}
-use Rattle.trace_due.specs.Timers as timers
-use Rattle.trace_due.specs.Due.{read_due}
-use Rattle.trace_due.proofs.ReadTimers.{both, all, tells_read_timer}
-use Rattle.trace_exchanges.specs.declared.coming.Coming.{Coming}
-use Rattle.trace_exchanges.specs.Coming.{is_wanted, AllComing}
-use Rattle.trace_promptness.specs.Heard.{is_passed_over}
-use Rattle.trace_promptness.specs.Prompt.{is_uncut, matches, is_stream, excused_in}
-use Rattle.trace_promptness.proofs.Hearing.{before_row, brought_to}
-use Rattle.trace_promptness.proofs.Delaying.{not_true}
+use Rattle.trace_tables.specs.declared.frames.here.Here.{Here}
+use Rattle.trace_tables.specs.declared.frames.ledger.Ledger.{Ledger}
+use Rattle.trace_tables.specs.frames.Here.{closed_seen}
+use Rattle.trace_tables.specs.frames.Ledger as ledger
+use Rattle.trace_tables.specs.frames.Here as here_outs
+use Rattle.trace_points.specs.declared.due.timers.Timers.{Timers}
+use Rattle.trace_points.specs.due.Timers as timers
+use Rattle.trace_points.specs.due.Due.{read_due}
+use Rattle.trace_points.proofs.lemmas.due.ReadTimers.{both, all, tells_read_timer}
+use Rattle.trace_points.specs.declared.exchanges.coming.Coming.{Coming}
+use Rattle.trace_points.specs.exchanges.Coming.{is_wanted, AllComing}
+use Rattle.trace_errors.specs.promptness.Heard.{is_passed_over}
+use Rattle.trace_errors.specs.promptness.Prompt.{is_uncut, matches, is_stream, excused_in}
+use Rattle.trace_errors.proofs.lemmas.promptness.Hearing.{before_row, brought_to}
+use Rattle.trace_errors.proofs.lemmas.promptness.Delaying.{not_true}
 use Rattle.trace_errors.specs.declared.arrivals.Arrivals.{Arrivals}
 use Rattle.trace_errors.specs.Rows.{ByRow}
 use Rattle.trace_errors.specs.Arrivals.{Marked, marks_if, mark_all, come, lacks_validity, is_unkept, is_unkept_later, after_row, is_marked, UnkeptCame, Known, GoesOn}

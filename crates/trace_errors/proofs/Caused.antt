@@ -10,15 +10,15 @@ use Rattle.right_trace.specs.Messages.{base_is_read, passes_count}
 use Rattle.right_trace.specs.Causes.{FailedToOpen, TriesAreUp, CannotBeComposed, CameWrong, StreamIsSilent, ServerCause, NotOpened, NotSent, SentShort, NotReceived, NoAnswer, WrongReply, StreamSilence, NotRead, NotComposed}
 use Rattle.trace_tables.specs.declared.books.Books.{Books}
 use Rattle.trace_tables.specs.Books as books
-use Rattle.trace_questions.specs.Outs.{Tells}
-use Rattle.trace_questions.proofs.Failing.{opening_decides}
-use Rattle.trace_exchanges.specs.declared.coming.Coming.{Coming}
-use Rattle.trace_exchanges.specs.Coming.{is_wanted, AllComing}
-use Rattle.trace_causes.specs.Failing.{Fails, InSending, InPart, InReceiving, TellsFailure}
-use Rattle.trace_causes.proofs.Blaming.{tells_wrong}
-use Rattle.trace_promptness.specs.Heard.{Heards}
-use Rattle.trace_promptness.specs.Heard as heards
-use Rattle.trace_promptness.proofs.Delaying.{tells_tries, tells_silence}
+use Rattle.trace_points.specs.questions.Outs.{Tells}
+use Rattle.trace_points.proofs.lemmas.questions.Failing.{opening_decides}
+use Rattle.trace_points.specs.declared.exchanges.coming.Coming.{Coming}
+use Rattle.trace_points.specs.exchanges.Coming.{is_wanted, AllComing}
+use Rattle.trace_points.specs.causes.Failing.{Fails, InSending, InPart, InReceiving, TellsFailure}
+use Rattle.trace_points.proofs.lemmas.causes.Blaming.{tells_wrong}
+use Rattle.trace_errors.specs.promptness.Heard.{Heards}
+use Rattle.trace_errors.specs.promptness.Heard as heards
+use Rattle.trace_errors.proofs.lemmas.promptness.Delaying.{tells_tries, tells_silence}
 use Rattle.trace_errors.specs.Failures.{TellsFails, AnswersFor, TellsServer}
 
 pub tells_same : {P Q : Type 0} (b : Bool) → (P → Q) → (Q → P) → Tells P b → Tells Q b

@@ -16,12 +16,12 @@ use Rattle.right_trace.specs.Validity.{is_deferred}
 use Rattle.trace_tables.specs.declared.books.Books.{Books}
 use Rattle.trace_tables.specs.Books as books
 use Rattle.trace_tables.proofs.Asking.{deadline_decides}
-use Rattle.trace_questions.specs.Outs.{Tells}
-use Rattle.trace_questions.proofs.Deciding.{both, all}
-use Rattle.trace_exchanges.specs.declared.coming.Coming.{Coming}
-use Rattle.trace_exchanges.specs.Coming.{is_wanted, AllComing}
-use Rattle.trace_promptness.specs.Heard.{Heards}
-use Rattle.trace_promptness.specs.Heard as heards
+use Rattle.trace_points.specs.questions.Outs.{Tells}
+use Rattle.trace_points.proofs.lemmas.questions.Deciding.{both, all}
+use Rattle.trace_points.specs.declared.exchanges.coming.Coming.{Coming}
+use Rattle.trace_points.specs.exchanges.Coming.{is_wanted, AllComing}
+use Rattle.trace_errors.specs.promptness.Heard.{Heards}
+use Rattle.trace_errors.specs.promptness.Heard as heards
 use Rattle.trace_errors.specs.declared.earlier.Earlier.{Earlier}
 use Rattle.trace_errors.specs.Rows.{ByRow, IsCaused, WasCaused}
 use Rattle.trace_errors.specs.Arrivals.{is_unkept}

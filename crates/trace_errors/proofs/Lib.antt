@@ -8,3 +8,4 @@ pub mod Noting
 pub mod Arriving
 pub mod Telling
 pub mod Directing
+pub mod lemmas

@@ -28,15 +28,15 @@ use Rattle.trace_tables.specs.Lists.{listed}
 use Rattle.trace_tables.specs.Sends.{names_of}
 use Rattle.trace_tables.specs.Books as books
 use Rattle.trace_tables.proofs.Listing.{listed_adds}
-use Rattle.trace_exchanges.specs.declared.coming.Coming.{Coming}
-use Rattle.trace_exchanges.specs.Coming.{AllComing}
-use Rattle.trace_causes.specs.Failing.{failure, Fails, InSending, InPart, InReceiving}
-use Rattle.trace_causes.proofs.Blaming.{tells_failure}
-use Rattle.trace_promptness.specs.Heard.{Heards, heard_seen, WasHeard}
-use Rattle.trace_promptness.specs.Heard as heards
-use Rattle.trace_promptness.specs.Overdue.{tries_are_up, stream_is_silent}
-use Rattle.trace_promptness.proofs.Hearing.{before_row, row_event, rows_before}
-use Rattle.trace_promptness.proofs.Delaying.{tells_tries, tells_silence}
+use Rattle.trace_points.specs.declared.exchanges.coming.Coming.{Coming}
+use Rattle.trace_points.specs.exchanges.Coming.{AllComing}
+use Rattle.trace_points.specs.causes.Failing.{failure, Fails, InSending, InPart, InReceiving}
+use Rattle.trace_points.proofs.lemmas.causes.Blaming.{tells_failure}
+use Rattle.trace_errors.specs.promptness.Heard.{Heards, heard_seen, WasHeard}
+use Rattle.trace_errors.specs.promptness.Heard as heards
+use Rattle.trace_errors.specs.promptness.Overdue.{tries_are_up, stream_is_silent}
+use Rattle.trace_errors.proofs.lemmas.promptness.Hearing.{before_row, row_event, rows_before}
+use Rattle.trace_errors.proofs.lemmas.promptness.Delaying.{tells_tries, tells_silence}
 use Rattle.trace_errors.proofs.Caused.{cause_of, of_cause}
 use Rattle.trace_errors.specs.Rows.{IsCaused, WasCaused}
 use Rattle.trace_errors.specs.Noted.{Noted, notes, note_all, lost, wrong_of, silent_of, failed_place, unopened_place, closed_place, note_failed, note_lost, note_closed, after_row, IsNoted, Known, GoesOn}

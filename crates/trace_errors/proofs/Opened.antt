@@ -26,9 +26,9 @@ use Rattle.trace_tables.specs.Requests.{started_seen}
 use Rattle.trace_tables.specs.Books as books
 use Rattle.trace_tables.proofs.Listing.{listed_adds}
 use Rattle.trace_tables.proofs.Tables.{at_puts}
-use Rattle.trace_questions.specs.Causes.{was_opening, fault_at, opening_fault}
-use Rattle.trace_questions.proofs.Failing.{opening_decides}
-use Rattle.trace_promptness.proofs.Hearing.{before_row, row_event}
+use Rattle.trace_points.specs.questions.Causes.{was_opening, fault_at, opening_fault}
+use Rattle.trace_points.proofs.lemmas.questions.Failing.{opening_decides}
+use Rattle.trace_errors.proofs.lemmas.promptness.Hearing.{before_row, row_event}
 use Rattle.trace_errors.proofs.Caused.{cause_of}
 use Rattle.trace_errors.specs.declared.openings.Begun.{Begun}
 use Rattle.trace_errors.specs.declared.openings.Refused.{Refused}

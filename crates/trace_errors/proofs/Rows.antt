@@ -5,7 +5,7 @@ use Rattle.client_request.specs.declared.event.Row.{Row}
 use Rattle.right_trace.specs.Trace.{History, Came, Put, after}
 use Rattle.right_trace.specs.Time.{row_before, EarlierRow}
 use Rattle.right_trace.specs.Parts.{IsIn}
-use Rattle.trace_promptness.proofs.Hearing.{rows_before, before_rows}
+use Rattle.trace_errors.proofs.lemmas.promptness.Hearing.{rows_before, before_rows}
 use Rattle.trace_errors.specs.Rows.{ByRow}
 
 pub same_number : (a b : ℕ) → (a == b) ≡ true → a ≡ b

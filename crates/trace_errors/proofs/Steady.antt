@@ -16,7 +16,7 @@ use Rattle.right_trace.specs.Places.{is_at, Stand, Unused, Opening, Alive, Gone,
 use Rattle.right_trace.specs.Causes.{sends, last_try}
 use Rattle.right_trace.specs.Orderly.{MayStart, FirstDatagram, FirstStream, AfterCutAnswer}
 use Rattle.right_trace.specs.Right.{OutRight, OutsRight, RowRight}
-use Rattle.trace_promptness.proofs.Hearing.{row_moment}
+use Rattle.trace_errors.proofs.lemmas.promptness.Hearing.{row_moment}
 use Rattle.trace_errors.specs.Noted.{unopened_place, closed_place}
 use Rattle.trace_errors.proofs.Rows.{same_number}
 

@@ -14,11 +14,11 @@ use Rattle.right_trace.specs.Causes.{CannotBeComposed, TriesAreUp, StreamIsSilen
 use Rattle.right_trace.proofs.Asked.{asking_came}
 use Rattle.trace_tables.specs.declared.books.Books.{Books}
 use Rattle.trace_tables.specs.Books as books
-use Rattle.trace_questions.specs.Outs.{Tells}
-use Rattle.trace_promptness.specs.Heard.{Heards}
-use Rattle.trace_promptness.specs.Heard as heards
-use Rattle.trace_promptness.specs.Overdue.{tries_are_up, stream_is_silent}
-use Rattle.trace_promptness.proofs.Delaying.{tells_tries, tells_silence}
+use Rattle.trace_points.specs.questions.Outs.{Tells}
+use Rattle.trace_errors.specs.promptness.Heard.{Heards}
+use Rattle.trace_errors.specs.promptness.Heard as heards
+use Rattle.trace_errors.specs.promptness.Overdue.{tries_are_up, stream_is_silent}
+use Rattle.trace_errors.proofs.lemmas.promptness.Delaying.{tells_tries, tells_silence}
 use Rattle.trace_errors.proofs.Caused.{CauseOf, tells_same, cause_of, of_cause}
 use Rattle.trace_errors.specs.declared.earlier.Earlier.{Earlier}
 use Rattle.trace_errors.specs.Rows.{ByRow, IsCaused, WasCaused}

@@ -4,7 +4,7 @@ use Rattle.client_request.specs.declared.fault.Fault.{Fault}
 use Rattle.client_request.specs.declared.error.Error.{Error}
 use Rattle.client_request.specs.declared.error.Error.TheVariants as errors
 use Rattle.client_request.specs.declared.error.QueryError.TheVariants as query
-use Rattle.trace_questions.specs.Outs.{Tells}
+use Rattle.trace_points.specs.questions.Outs.{Tells}
 
 pub sending_told : (a f : Fault) (b : Bool) → Tells (a ≡ f) b → Tells (errors.Dgram (query.Send a) ≡ errors.Dgram (query.Send f)) b
 sending_told a f b t = ((λ u. ap (λ f. errors.Dgram (query.Send f)) (t.0 u)), (λ q. t.1 (let z : a ≡ f = cc in z)))

@@ -11,15 +11,15 @@ use Rattle.right_trace.specs.Keys.{is_cacheable}
 use Rattle.right_trace.specs.Validity.{validity_of_message, is_deferred}
 use Rattle.right_trace.specs.Coming.{SomeCame}
 use Rattle.right_trace.specs.Errors.{CameWithoutValidity}
-use Rattle.trace_frames.specs.declared.here.Here.{Here}
-use Rattle.trace_frames.specs.declared.ledger.Ledger.{Ledger}
-use Rattle.trace_frames.specs.Ledger as ledger
-use Rattle.trace_frames.specs.Here as here_outs
-use Rattle.trace_due.specs.declared.timers.Timers.{Timers}
-use Rattle.trace_due.specs.Timers as timers
-use Rattle.trace_exchanges.specs.declared.coming.Coming.{Coming}
-use Rattle.trace_exchanges.specs.Coming.{AllComing}
-use Rattle.trace_promptness.specs.Prompt.{matches, excused_in}
+use Rattle.trace_tables.specs.declared.frames.here.Here.{Here}
+use Rattle.trace_tables.specs.declared.frames.ledger.Ledger.{Ledger}
+use Rattle.trace_tables.specs.frames.Ledger as ledger
+use Rattle.trace_tables.specs.frames.Here as here_outs
+use Rattle.trace_points.specs.declared.due.timers.Timers.{Timers}
+use Rattle.trace_points.specs.due.Timers as timers
+use Rattle.trace_points.specs.declared.exchanges.coming.Coming.{Coming}
+use Rattle.trace_points.specs.exchanges.Coming.{AllComing}
+use Rattle.trace_errors.specs.promptness.Prompt.{matches, excused_in}
 use Rattle.trace_errors.specs.declared.arrivals.Arrivals.{Arrivals}
 use Rattle.trace_errors.specs.Rows.{ByRow}
 

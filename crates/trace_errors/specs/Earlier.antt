@@ -9,19 +9,19 @@ use Rattle.right_trace.specs.Settings.{Settings}
 use Rattle.right_trace.specs.Right.{RowRight}
 use Rattle.trace_tables.specs.declared.books.Books.{Books}
 use Rattle.trace_tables.specs.Books as books
-use Rattle.trace_frames.specs.declared.here.Here.{Here}
-use Rattle.trace_frames.specs.declared.ledger.Ledger.{Ledger}
-use Rattle.trace_frames.specs.Ledger as ledger
-use Rattle.trace_frames.specs.Here as here_outs
-use Rattle.trace_due.specs.declared.timers.Timers.{Timers}
-use Rattle.trace_due.specs.Timers as timers
-use Rattle.trace_questions.specs.Outs.{Tells}
-use Rattle.trace_exchanges.specs.declared.coming.Coming.{Coming}
-use Rattle.trace_exchanges.specs.Coming.{AllComing}
-use Rattle.trace_causes.specs.Failing.{TellsUnread, TellsTooMany}
-use Rattle.trace_promptness.specs.Heard.{Heards}
-use Rattle.trace_promptness.specs.Heard as heards
-use Rattle.trace_promptness.specs.Overdue.{tries_are_up, stream_is_silent}
+use Rattle.trace_tables.specs.declared.frames.here.Here.{Here}
+use Rattle.trace_tables.specs.declared.frames.ledger.Ledger.{Ledger}
+use Rattle.trace_tables.specs.frames.Ledger as ledger
+use Rattle.trace_tables.specs.frames.Here as here_outs
+use Rattle.trace_points.specs.declared.due.timers.Timers.{Timers}
+use Rattle.trace_points.specs.due.Timers as timers
+use Rattle.trace_points.specs.questions.Outs.{Tells}
+use Rattle.trace_points.specs.declared.exchanges.coming.Coming.{Coming}
+use Rattle.trace_points.specs.exchanges.Coming.{AllComing}
+use Rattle.trace_points.specs.causes.Failing.{TellsUnread, TellsTooMany}
+use Rattle.trace_errors.specs.promptness.Heard.{Heards}
+use Rattle.trace_errors.specs.promptness.Heard as heards
+use Rattle.trace_errors.specs.promptness.Overdue.{tries_are_up, stream_is_silent}
 use Rattle.trace_errors.specs.declared.earlier.Earlier.{Earlier}
 use Rattle.trace_errors.specs.Rows.{WasCaused}
 use Rattle.trace_errors.specs.Openings.{IsRefused}

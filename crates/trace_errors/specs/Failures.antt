@@ -9,14 +9,14 @@ use Rattle.right_trace.specs.Time.{newest}
 use Rattle.right_trace.specs.Causes.{ServerCause}
 use Rattle.trace_tables.specs.declared.books.Books.{Books}
 use Rattle.trace_tables.specs.Books as books
-use Rattle.trace_questions.specs.Causes.{opening_fault}
-use Rattle.trace_questions.specs.Outs.{Tells}
-use Rattle.trace_exchanges.specs.declared.coming.Coming.{Coming}
-use Rattle.trace_exchanges.specs.Coming.{is_wanted, AllComing}
-use Rattle.trace_causes.specs.Failing.{Fails, some_wrong, TellsUnread, TellsTooMany}
-use Rattle.trace_promptness.specs.Heard.{Heards}
-use Rattle.trace_promptness.specs.Heard as heards
-use Rattle.trace_promptness.specs.Overdue.{tries_are_up, stream_is_silent}
+use Rattle.trace_points.specs.questions.Causes.{opening_fault}
+use Rattle.trace_points.specs.questions.Outs.{Tells}
+use Rattle.trace_points.specs.declared.exchanges.coming.Coming.{Coming}
+use Rattle.trace_points.specs.exchanges.Coming.{is_wanted, AllComing}
+use Rattle.trace_points.specs.causes.Failing.{Fails, some_wrong, TellsUnread, TellsTooMany}
+use Rattle.trace_errors.specs.promptness.Heard.{Heards}
+use Rattle.trace_errors.specs.promptness.Heard as heards
+use Rattle.trace_errors.specs.promptness.Overdue.{tries_are_up, stream_is_silent}
 
 -- an event tells a request of this error in sending or receiving
 abbrev pub TellsFails : (c : Conf) (past : Books) → (k : ℕ) → What → Error → Bool → Type 0

@@ -6,3 +6,6 @@ pub mod Noted
 pub mod Arrivals
 pub mod Earlier
 pub mod Direct
+pub mod promptness
+pub mod owed
+pub mod deferred

@@ -20,12 +20,12 @@ use Rattle.right_trace.specs.Right.{RowRight}
 use Rattle.trace_tables.specs.declared.books.Books.{Books}
 use Rattle.trace_tables.specs.Books as books
 use Rattle.trace_tables.specs.Lists.{listed, adds}
-use Rattle.trace_exchanges.specs.declared.coming.Coming.{Coming}
-use Rattle.trace_exchanges.specs.Coming.{AllComing}
-use Rattle.trace_causes.specs.Failing.{failure}
-use Rattle.trace_promptness.specs.Heard.{Heards}
-use Rattle.trace_promptness.specs.Heard as heards
-use Rattle.trace_promptness.specs.Overdue.{tries_are_up, stream_is_silent}
+use Rattle.trace_points.specs.declared.exchanges.coming.Coming.{Coming}
+use Rattle.trace_points.specs.exchanges.Coming.{AllComing}
+use Rattle.trace_points.specs.causes.Failing.{failure}
+use Rattle.trace_errors.specs.promptness.Heard.{Heards}
+use Rattle.trace_errors.specs.promptness.Heard as heards
+use Rattle.trace_errors.specs.promptness.Overdue.{tries_are_up, stream_is_silent}
 use Rattle.trace_errors.specs.Rows.{WasCaused}
 
 -- by request, the newest first

@@ -19,7 +19,7 @@ use Rattle.trace_tables.specs.Tables.{Table}
 use Rattle.trace_tables.specs.Lists.{listed, adds}
 use Rattle.trace_tables.specs.Books as books
 use Rattle.trace_tables.specs.declared.books.Books.{Books}
-use Rattle.trace_questions.specs.Causes.{was_opening}
+use Rattle.trace_points.specs.questions.Causes.{was_opening}
 use Rattle.trace_errors.specs.declared.openings.Begun.{Begun}
 use Rattle.trace_errors.specs.declared.openings.Refused.{Refused}
 use Rattle.trace_errors.specs.declared.openings.Openings.{Openings}

@@ -2,19 +2,19 @@
 
 ghost use Rattle.std.specs.Prelude.{◌≡◌, IfOk, OnOk};
 ghost use Rattle.number_table.specs.Entries.{entry_at};
-ghost use Rattle.trace_promptness.specs.Prompt.{is_stream, matches, excused_in};
+ghost use Rattle.trace_errors.specs.promptness.Prompt.{is_stream, matches, excused_in};
 ghost use Rattle.trace_errors.specs.Arrivals as plain;
 
+use crate::promptness::{TraceSettings, is_passed_over};
 use client_request::Via;
 use dns_base::{Message, NoMemory};
+use message_judging::validity::RequestValidity;
 use number_table::NumberTable;
-use request_validity::RequestValidity;
 use std::alloc::Global;
-use trace_due::Timers;
-use trace_exchanges::Coming;
-use trace_frames::{Here, Ledger};
-use trace_promptness::{TraceSettings, is_passed_over};
-use trace_questions::TraceConf;
+use trace_points::due::Timers;
+use trace_points::exchanges::Coming;
+use trace_points::questions::TraceConf;
+use trace_tables::frames::{Here, Ledger};
 use trace_tables::{Asked, Place};
 
 /// Requests that messages came for, each with nothing.

@@ -1,18 +1,18 @@
 //! Whether an error has a cause that is no kept error.
 
 ghost use Rattle.std.specs.Prelude.{◌≡◌, IfOk};
-ghost use Rattle.trace_questions.specs.Outs.{Tells};
+ghost use Rattle.trace_points.specs.questions.Outs.{Tells};
 ghost use Rattle.trace_errors.specs.Direct as plain;
 
 use crate::arrivals::is_unkept;
 use crate::earlier::Earlier;
 use crate::failures::server_cause;
+use crate::promptness::{Heards, TraceSettings};
 use client_request::{Error, What};
 use dns_base::NoMemory;
 use number_table::NumberTable;
-use trace_exchanges::Coming;
-use trace_promptness::{Heards, TraceSettings};
-use trace_questions::TraceConf;
+use trace_points::exchanges::Coming;
+use trace_points::questions::TraceConf;
 use trace_tables::{Asked, Books};
 
 /// Whether a row with this event asks a request: `past` is what was known before it.

@@ -1,24 +1,24 @@
 //! Errors that a server gave a request in a row that is done.
 
 ghost use Rattle.std.specs.Prelude.{◌≡◌, OnOk};
-ghost use Rattle.trace_questions.specs.Outs.{Tells};
+ghost use Rattle.trace_points.specs.questions.Outs.{Tells};
 ghost use Rattle.trace_errors.specs.Earlier as plain;
 
 use crate::arrivals::Arrivals;
 use crate::failing::Failing;
 use crate::noted::{Noted, is_noted, note_row};
 use crate::openings::Openings;
+use crate::promptness::{Heards, TraceSettings, are_tries_up, is_stream_silent};
 use client_request::{Error, QueryError, Row};
 use dns_base::NoMemory;
 use number_table::NumberTable;
 use std::alloc::Global;
-use trace_causes::{has_too_many, is_unread};
-use trace_due::Timers;
-use trace_exchanges::Coming;
-use trace_frames::{Here, Ledger};
-use trace_promptness::{Heards, TraceSettings, are_tries_up, is_stream_silent};
-use trace_questions::TraceConf;
+use trace_points::causes::{has_too_many, is_unread};
+use trace_points::due::Timers;
+use trace_points::exchanges::Coming;
+use trace_points::questions::TraceConf;
 use trace_tables::Books;
+use trace_tables::frames::{Here, Ledger};
 
 /// What is known of rows that are done, for causes of errors.
 pub struct Earlier {

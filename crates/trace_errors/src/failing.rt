@@ -3,7 +3,7 @@
 ghost use Rattle.std.specs.Prelude.{◌≡◌, Option, Some};
 ghost use Rattle.client_request.specs.declared.error.Error.TheVariants as errors;
 ghost use Rattle.client_request.specs.declared.error.QueryError.TheVariants as query;
-ghost use Rattle.trace_questions.specs.Outs.{Tells};
+ghost use Rattle.trace_points.specs.questions.Outs.{Tells};
 ghost use Rattle.trace_errors.specs.Failing as plain;
 
 use client_request::{Error, Fault, QueryError};

@@ -1,18 +1,18 @@
 //! The cause of each error that a server may give.
 
 ghost use Rattle.std.specs.Prelude.{◌≡◌, Option, Some, IfOk};
-ghost use Rattle.trace_questions.specs.Causes.{opening_fault};
-ghost use Rattle.trace_questions.specs.Outs.{Tells};
+ghost use Rattle.trace_points.specs.questions.Causes.{opening_fault};
+ghost use Rattle.trace_points.specs.questions.Outs.{Tells};
 ghost use Rattle.trace_errors.specs.Failing.{error_of};
 ghost use Rattle.trace_errors.specs.Failures as plain;
 
 use crate::failing::Failing;
+use crate::promptness::{Heards, are_tries_up, is_stream_silent};
 use client_request::{Error, Fault, QueryError, What};
 use dns_base::NoMemory;
-use trace_causes::{came_wrong, failure, has_too_many, is_unread};
-use trace_exchanges::Coming;
-use trace_promptness::{Heards, are_tries_up, is_stream_silent};
-use trace_questions::{TraceConf, opening_fault};
+use trace_points::causes::{came_wrong, failure, has_too_many, is_unread};
+use trace_points::exchanges::Coming;
+use trace_points::questions::{TraceConf, opening_fault};
 use trace_tables::Books;
 
 /// Whether this error is found.

@@ -1,5 +1,8 @@
 //! Causes of errors in a trace: why a request gets each error, in a row or in one before, and what a forward pass keeps for that.
 //!
+//! Whether the first final message that comes and matches is the reply at once stands in `promptness`; what servers still owe a request in `owed`;
+//! whether an error has a cause of its own, where it may be deferred, in `deferred`.
+//!
 //! Whether an error of a request has a cause that is no kept error, in a row or, where it is deferred, in a row before, is
 //! decided both ways for every error; what is kept for that of rows that are right is what the definitions say. By
 //! `direct_cause`, `server_cause`, `Earlier`, `earlier_goes_on`.
@@ -16,6 +19,7 @@
 #![tactic(auto)]
 
 mod arrivals;
+pub mod deferred;
 mod direct;
 mod earlier;
 mod failing;
@@ -23,6 +27,8 @@ mod failures;
 mod laws;
 mod noted;
 mod openings;
+pub mod owed;
+pub mod promptness;
 
 pub use arrivals::{Arrivals, is_excused, is_unkept, matches};
 pub use direct::{direct_cause, is_asked_here};

@@ -2,20 +2,20 @@
 
 ghost use Rattle.std.specs.Prelude.{◌≡◌, OnOk, Option};
 ghost use Rattle.right_trace.specs.Parts.{IsIn};
-ghost use Rattle.trace_causes.specs.Failing.{failure};
+ghost use Rattle.trace_points.specs.causes.Failing.{failure};
 ghost use Rattle.trace_errors.specs.Failing.{error_of};
-ghost use Rattle.trace_questions.specs.Outs.{Tells};
+ghost use Rattle.trace_points.specs.questions.Outs.{Tells};
 ghost use Rattle.trace_errors.specs.Noted as plain;
 
 use crate::failing::Failing;
+use crate::promptness::{Heards, are_tries_up, is_stream_silent};
 use client_request::{Error, Out, QueryError, Row, Via, What};
 use dns_base::NoMemory;
 use number_table::NumberTable;
 use std::alloc::Global;
-use trace_causes::failure;
-use trace_exchanges::Coming;
-use trace_promptness::{Heards, are_tries_up, is_stream_silent};
-use trace_questions::TraceConf;
+use trace_points::causes::failure;
+use trace_points::exchanges::Coming;
+use trace_points::questions::TraceConf;
 use trace_tables::{Books, Newest, Sent, add};
 
 /// The errors, by request.

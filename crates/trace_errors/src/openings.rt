@@ -2,8 +2,8 @@
 
 ghost use Rattle.std.specs.Prelude.{◌≡◌, ◌<◌, OnOk};
 ghost use Rattle.number_table.specs.Entries.{entry_at};
-ghost use Rattle.trace_questions.specs.Causes.{was_opening};
-ghost use Rattle.trace_questions.specs.Outs.{Tells};
+ghost use Rattle.trace_points.specs.questions.Causes.{was_opening};
+ghost use Rattle.trace_points.specs.questions.Outs.{Tells};
 ghost use Rattle.trace_errors.specs.Openings as plain;
 
 use client_request::{Fault, Out, Row, Via, What};

@@ -18,7 +18,7 @@ use Rattle.right_trace.specs.Replies.{IsFresh, InThisRow, Deferred, IsFreshReply
 use Rattle.right_trace.specs.Stale.{MessageIsRight, Unmarked, Marked}
 use Rattle.right_trace.specs.Right.{IsAsked, IsFirst, OutRight, OutsRight, RowRight}
 use Rattle.right_trace.proofs.Asked.{asking_below, asking_came, here_asks, earlier_known}
-use Rattle.trace_exchanges.proofs.Asking.{right_rows_ask}
+use Rattle.trace_points.proofs.lemmas.exchanges.Asking.{right_rows_ask}
 use Rattle.trace_hits.specs.Known.{BehindRight}
 
 pub same_number : (a b : ℕ) → (a == b) ≡ true → a ≡ b

@@ -20,19 +20,19 @@ use Rattle.right_trace.specs.Errors.{is_failure, CameWithoutValidity}
 use Rattle.right_trace.specs.StaleServed.{CameUnread, FailsBy, NoneFails}
 use Rattle.cache_rules.specs.Validity.{cached_by}
 use Rattle.trace_tables.specs.Requests.{marked_seen}
-use Rattle.trace_questions.specs.Outs.{Tells}
-use Rattle.trace_questions.proofs.Deciding.{both, all, not_true}
-use Rattle.trace_exchanges.specs.declared.coming.Coming.{Coming}
-use Rattle.trace_exchanges.specs.Coming.{coming, AllComing}
-use Rattle.trace_exchanges.proofs.Telling.{tells_coming}
-use Rattle.trace_promptness.specs.Prompt.{matches}
+use Rattle.trace_points.specs.questions.Outs.{Tells}
+use Rattle.trace_points.proofs.lemmas.questions.Deciding.{both, all, not_true}
+use Rattle.trace_points.specs.declared.exchanges.coming.Coming.{Coming}
+use Rattle.trace_points.specs.exchanges.Coming.{coming, AllComing}
+use Rattle.trace_points.proofs.lemmas.exchanges.Telling.{tells_coming}
+use Rattle.trace_errors.specs.promptness.Prompt.{matches}
 use Rattle.trace_errors.specs.Arrivals.{lacks_validity, is_unkept}
 use Rattle.trace_errors.specs.Direct.{asked_here}
 use Rattle.trace_errors.proofs.Arriving.{unkept_so, so_unkept}
 use Rattle.trace_errors.proofs.Directing.{asked_is}
-use Rattle.trace_pass.specs.declared.pass.Pass.{Pass}
-use Rattle.trace_pass.specs.Pass as pass
-use Rattle.trace_pass.proofs.Taking as passes
+use Rattle.trace_points.specs.declared.pass.pass.Pass.{Pass}
+use Rattle.trace_points.specs.pass.Pass as pass
+use Rattle.trace_points.proofs.lemmas.pass.Taking as passes
 use Rattle.trace_hits.specs.Known.{HasCache}
 use Rattle.trace_hits.specs.Point.{is_number}
 use Rattle.trace_hits.specs.Failing.{is_unread, came_unread, message_fails, is_unreadable, error_fails, fails_by}

@@ -31,7 +31,7 @@ use Rattle.right_trace.proofs.Valid.{valid_is_known}
 use Rattle.cache_rules.specs.Validity.{cached_by}
 use Rattle.cache_rules.proofs.Saying.{what_is_known}
 use Rattle.trace_tables.specs.Requests as requests
-use Rattle.trace_questions.proofs.Deciding.{both, all, not_true}
+use Rattle.trace_points.proofs.lemmas.questions.Deciding.{both, all, not_true}
 use Rattle.trace_hits.specs.declared.course.Course.{Course}
 use Rattle.trace_hits.specs.declared.failures.Failures.{Failures}
 use Rattle.trace_hits.specs.declared.kept.Kept.{Kept}

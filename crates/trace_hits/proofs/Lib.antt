@@ -11,3 +11,4 @@ pub mod Never
 pub mod Judging
 pub mod Stepping
 pub mod Telling
+pub mod lemmas

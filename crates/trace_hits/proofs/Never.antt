@@ -15,9 +15,9 @@ use Rattle.right_trace.specs.Right.{OutsRight, RowRight, RightAfter}
 use Rattle.right_trace.specs.StaleServed.{NeverFails}
 use Rattle.right_trace.proofs.Asked.{asking_below}
 use Rattle.cache_rules.specs.Validity.{cached_by}
-use Rattle.trace_pass.specs.declared.pass.Pass.{Pass}
-use Rattle.trace_pass.specs.Pass as pass
-use Rattle.trace_pass.proofs.Taking as passes
+use Rattle.trace_points.specs.declared.pass.pass.Pass.{Pass}
+use Rattle.trace_points.specs.pass.Pass as pass
+use Rattle.trace_points.proofs.lemmas.pass.Taking as passes
 use Rattle.trace_hits.specs.declared.failures.Failures.{Failures}
 use Rattle.trace_hits.specs.Known.{HasCache, BehindRight}
 use Rattle.trace_hits.specs.Point.{is_number}

@@ -16,7 +16,7 @@ use Rattle.right_trace.specs.Keys.{Key, key_of, is_cacheable}
 use Rattle.right_trace.specs.Right.{OutsRight}
 use Rattle.right_trace.specs.Hit.{IsViewOf, OutIsView, AllAreViews}
 use Rattle.cache_rules.specs.Key.{same_key, same_itself, same_is_equal}
-use Rattle.trace_questions.proofs.Deciding.{both, all}
+use Rattle.trace_points.proofs.lemmas.questions.Deciding.{both, all}
 use Rattle.trace_hits.specs.Point.{is_number, has_key}
 use Rattle.trace_hits.specs.Outs.{mark_of, spares, all_spare}
 use Rattle.trace_hits.proofs.Among.{mark_is}

@@ -9,8 +9,8 @@ use Rattle.client_request.specs.declared.event.Row.{Row}
 use Rattle.right_trace.specs.Trace.{Conf}
 use Rattle.right_trace.specs.Settings.{Settings}
 use Rattle.trace_tables.proofs.Tables.{at_puts}
-use Rattle.trace_pass.specs.declared.pass.Pass.{Pass}
-use Rattle.trace_pass.specs.Pass as pass
+use Rattle.trace_points.specs.declared.pass.pass.Pass.{Pass}
+use Rattle.trace_points.specs.pass.Pass as pass
 use Rattle.trace_hits.specs.declared.failures.Failures.{Failures}
 use Rattle.trace_hits.specs.Point.{is_number}
 use Rattle.trace_hits.specs.Failures.{nothing, clock_of, failing, noted, noted_of, has_put, have_put, begins, after_row, after_rows, fails_in, first_failure}

@@ -11,11 +11,11 @@ use Rattle.right_trace.specs.Parts.{Parts, known_parts, Says}
 use Rattle.right_trace.specs.Validity.{second}
 use Rattle.right_trace.specs.Views.{viewed, view_of}
 use Rattle.cache_rules.specs.Key.{flag_class}
-use Rattle.message_views.specs.declared.serving.Flags.{Flags}
-use Rattle.message_views.specs.Serving.{HasFlags, seconds_of, TellsAged}
-use Rattle.trace_given.specs.declared.asks.Asks.{Asks}
-use Rattle.trace_given.specs.Asks.{common}
-use Rattle.trace_given.specs.Asks as given
+use Rattle.message_judging.specs.declared.views.serving.Flags.{Flags}
+use Rattle.message_judging.specs.views.Serving.{HasFlags, seconds_of, TellsAged}
+use Rattle.trace_replies.specs.declared.given.asks.Asks.{Asks}
+use Rattle.trace_replies.specs.given.Asks.{common}
+use Rattle.trace_replies.specs.given.Asks as given
 use Rattle.trace_hits.specs.declared.question.Question.{Question}
 use Rattle.trace_hits.specs.Question.{whole, IsAsked}
 use Rattle.trace_hits.specs.Views.{TellsGiven}

@@ -11,9 +11,9 @@ use Rattle.right_trace.specs.Requests.{Asking}
 use Rattle.right_trace.specs.Views.{is_failing_message}
 use Rattle.right_trace.specs.Errors.{is_failure}
 use Rattle.trace_tables.specs.Requests.{marked_seen}
-use Rattle.trace_exchanges.specs.declared.coming.Coming.{Coming}
-use Rattle.trace_exchanges.specs.Coming.{coming}
-use Rattle.trace_pass.specs.declared.pass.Pass.{Pass}
+use Rattle.trace_points.specs.declared.exchanges.coming.Coming.{Coming}
+use Rattle.trace_points.specs.exchanges.Coming.{coming}
+use Rattle.trace_points.specs.declared.pass.pass.Pass.{Pass}
 use Rattle.trace_errors.specs.Arrivals.{is_unkept}
 use Rattle.trace_errors.specs.Direct.{asked_here}
 

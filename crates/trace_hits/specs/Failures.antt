@@ -8,8 +8,8 @@ use Rattle.client_request.specs.declared.event.Out.TheVariants.{Reply}
 use Rattle.client_request.specs.declared.event.Row.{Row}
 use Rattle.right_trace.specs.Trace.{Conf}
 use Rattle.right_trace.specs.Settings.{Settings}
-use Rattle.trace_pass.specs.declared.pass.Pass.{Pass}
-use Rattle.trace_pass.specs.Pass as pass
+use Rattle.trace_points.specs.declared.pass.pass.Pass.{Pass}
+use Rattle.trace_points.specs.pass.Pass as pass
 use Rattle.trace_hits.specs.declared.failures.Failures.{Failures}
 use Rattle.trace_hits.specs.Failing.{fails_by}
 use Rattle.trace_hits.specs.Point.{is_number}

@@ -13,7 +13,7 @@ use Rattle.right_trace.specs.Replies.{IsFreshReply}
 use Rattle.right_trace.specs.Right.{IsAsked}
 use Rattle.right_trace.specs.Hit.{asks_since, replies_since, AllAreViews}
 use Rattle.cache_rules.specs.Validity.{with_cache}
-use Rattle.trace_exchanges.specs.Asked.{AskedFirst}
+use Rattle.trace_points.specs.exchanges.Asked.{AskedFirst}
 use Rattle.trace_hits.specs.declared.course.Course.{Course}
 use Rattle.trace_hits.specs.declared.kept.Kept.{Kept}
 use Rattle.trace_hits.specs.Point as point

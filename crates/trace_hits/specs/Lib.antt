@@ -13,3 +13,4 @@ pub mod Failing
 pub mod Failures
 pub mod Serving
 pub mod Stale
+pub mod timely

@@ -3,8 +3,8 @@ use Rattle.std.specs.Prelude.{◌≡◌, false, true, Option, Some, None}
 use Rattle.client_request.specs.Request.{Request}
 use Rattle.right_trace.specs.Keys.{Key, key_of, spelled_name, is_cacheable}
 use Rattle.cache_rules.specs.Key.{flag_class}
-use Rattle.message_views.specs.declared.serving.Flags.{Flags}
-use Rattle.message_views.specs.Serving.{HasFlags}
+use Rattle.message_judging.specs.declared.views.serving.Flags.{Flags}
+use Rattle.message_judging.specs.views.Serving.{HasFlags}
 use Rattle.trace_hits.specs.declared.question.Question.{Question}
 
 -- a key with these flags

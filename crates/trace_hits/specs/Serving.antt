@@ -15,8 +15,8 @@ use Rattle.right_trace.specs.Views.{tells_of_name}
 use Rattle.right_trace.specs.StaleServed.{ServesStale}
 use Rattle.right_trace.specs.Right.{RightAfter}
 use Rattle.cache_rules.specs.Validity.{cached_by}
-use Rattle.trace_pass.specs.declared.pass.Pass.{Pass}
-use Rattle.trace_pass.specs.Pass as pass
+use Rattle.trace_points.specs.declared.pass.pass.Pass.{Pass}
+use Rattle.trace_points.specs.pass.Pass as pass
 use Rattle.trace_hits.specs.declared.course.Course.{Course}
 use Rattle.trace_hits.specs.declared.failures.Failures.{Failures}
 use Rattle.trace_hits.specs.declared.kept.Kept.{Kept}

@@ -7,9 +7,9 @@ use Rattle.right_trace.specs.Messages.{Octets}
 use Rattle.right_trace.specs.Keys.{key_of, spelled_name}
 use Rattle.right_trace.specs.Parts.{Parts, known_parts, Says}
 use Rattle.right_trace.specs.Views.{view_of}
-use Rattle.message_views.specs.declared.serving.Flags.{Flags}
-use Rattle.message_views.specs.Serving.{HasFlags}
-use Rattle.trace_questions.specs.Outs.{Tells}
+use Rattle.message_judging.specs.declared.views.serving.Flags.{Flags}
+use Rattle.message_judging.specs.views.Serving.{HasFlags}
+use Rattle.trace_points.specs.questions.Outs.{Tells}
 
 -- the answer, of all requests with these flags of which the second spells this name
 abbrev pub TellsGiven : (kept : Octets) (from to : Flags) → Labels → (age : ℕ) (given : Octets) → Bool → Type 0

@@ -8,11 +8,11 @@ ghost use Rattle.trace_hits.specs.Failing as plain;
 use client_request::{Error, What};
 use dns_base::{Message, NoMemory};
 use number_table::NumberTable;
+use trace_errors::promptness::{TraceSettings, is_failing};
 use trace_errors::{is_asked_here, is_unkept};
-use trace_exchanges::{Coming, all_coming};
-use trace_pass::Pass;
-use trace_promptness::{TraceSettings, is_failing};
-use trace_questions::TraceConf;
+use trace_points::exchanges::{Coming, all_coming};
+use trace_points::pass::Pass;
+use trace_points::questions::TraceConf;
 use trace_tables::Asked;
 
 /// Whether an error is that of the deadline.

@@ -8,9 +8,9 @@ use crate::failing::fails_by;
 use client_request::{Out, Row, What};
 use dns_base::NoMemory;
 use number_table::NumberTable;
-use trace_pass::Pass;
-use trace_promptness::TraceSettings;
-use trace_questions::TraceConf;
+use trace_errors::promptness::TraceSettings;
+use trace_points::pass::Pass;
+use trace_points::questions::TraceConf;
 
 /// When requests failed, up to a point of a trace.
 pub(crate) struct Failures {

@@ -12,7 +12,7 @@ use crate::question::Question;
 use crate::views::says_view;
 use client_settings::cache;
 use dns_base::{Duration, Message, NoMemory};
-use message_views::{Served, validity_of};
+use message_judging::views::{Served, validity_of};
 use std::alloc::Global;
 
 /// The last fresh reply to a question, where each reply to it since then was its view, or stale.

@@ -1,5 +1,5 @@
 //! What the cache of a right trace owes: whether each request is answered from the cache that must be, and whether what has expired
-//! serves where servers fail.
+//! serves where servers fail. Whether a trace is timely stands in `timely`.
 //!
 //! Of a right trace a row is named exactly where a request should have been answered from the cache, and was not: the first
 //! such row; and the first whose request failed, in it or later, where what has expired should have served it. Both are
@@ -43,6 +43,7 @@ mod replies;
 mod row;
 mod serving;
 mod stale;
+pub mod timely;
 mod views;
 
 pub use hits::first_missed_hit;

@@ -6,9 +6,9 @@ ghost use Rattle.trace_hits.specs.Question as plain;
 use cache_rules::Key;
 use client_request::RequestMessage;
 use dns_base::{Name, NoMemory};
-use message_views::Flags;
+use message_judging::views::Flags;
 use std::alloc::Global;
-use trace_given::{Asks, asks_of};
+use trace_replies::given::{Asks, asks_of};
 
 /// What a request asks whose results are kept.
 #[derive(Drop)]

@@ -11,8 +11,8 @@ use client_request::Row;
 use client_settings::cache;
 use dns_base::NoMemory;
 use std::alloc::Global;
-use trace_promptness::TraceSettings;
-use trace_questions::TraceConf;
+use trace_errors::promptness::TraceSettings;
+use trace_points::questions::TraceConf;
 
 /// The settings of a client with this cache that defers nothing.
 fn with_cache(cache: &cache::Config) -> Result<TraceSettings, NoMemory>

@@ -2,13 +2,13 @@
 
 ghost use Rattle.std.specs.Prelude.{◌≡◌, IfOk};
 ghost use Rattle.cache_rules.specs.declared.copying.Ttls.TheVariants.{Lessened};
-ghost use Rattle.message_views.specs.Serving as serving;
+ghost use Rattle.message_judging.specs.views.Serving as serving;
 ghost use Rattle.trace_hits.specs.Views as plain;
 
 use cache_rules::{is_viewable, view};
 use client_request::Error;
 use dns_base::{Message, NoMemory};
-use message_views::{Served, is_same_message};
+use message_judging::views::{Served, is_same_message};
 use std::alloc::Global;
 
 /// Microseconds in a second.

@@ -2,18 +2,18 @@
 use Rattle.std.proofs.Common.{◌≡◌, ◌≤◌, ◌&&◌, ◌||◌, ◌==◌, ℕ, not, Bool, true, false, List, [], ◌∷◌, length, map, refl, sym, ap, ◌∙◌, subst, arith}
 use Rattle.client_request.specs.declared.event.Out.{Out}
 use Rattle.right_trace.specs.Right.{HasServer, MarksStand, faults}
-use Rattle.trace_busy.specs.declared.busy.Scene.{Scene}
-use Rattle.trace_busy.specs.Backs as backs
-use Rattle.trace_busy.specs.Waits as waits
+use Rattle.trace_outs.specs.declared.busy.busy.Scene.{Scene}
+use Rattle.trace_outs.specs.busy.Backs as backs
+use Rattle.trace_outs.specs.busy.Waits as waits
 use Rattle.trace_errors.proofs.Rows.{same_number}
-use Rattle.trace_exchanges.specs.Open as open_sends
-use Rattle.trace_frames.specs.Ledger as ledger
-use Rattle.trace_loads.specs.Loads as loads
-use Rattle.trace_writes.specs.Writing as writing
-use Rattle.trace_busy.specs.Busy as busy
-use Rattle.trace_loads.specs.Loads.{TellsMet}
-use Rattle.trace_questions.specs.Outs.{Tells}
-use Rattle.trace_questions.specs.Configured.{use_of}
+use Rattle.trace_points.specs.exchanges.Open as open_sends
+use Rattle.trace_tables.specs.frames.Ledger as ledger
+use Rattle.trace_outs.specs.loads.Loads as loads
+use Rattle.trace_tables.specs.writes.Writing as writing
+use Rattle.trace_outs.specs.busy.Busy as busy
+use Rattle.trace_outs.specs.loads.Loads.{TellsMet}
+use Rattle.trace_points.specs.questions.Outs.{Tells}
+use Rattle.trace_points.specs.questions.Configured.{use_of}
 use Rattle.trace_judge.specs.declared.course.Course.{Course}
 use Rattle.trace_judge.specs.declared.outs.Kept.{Kept}
 use Rattle.trace_judge.specs.declared.rules.Rules.{Rules}

@@ -11,14 +11,14 @@ use Rattle.right_trace.specs.Messages.{Octets}
 use Rattle.right_trace.specs.Owed.{AllAreDone}
 use Rattle.right_trace.specs.Settings.{Settings}
 use Rattle.right_trace.specs.Errors.{is_failing, is_failure, FailsSo}
-use Rattle.trace_exchanges.specs.declared.coming.Coming.{Coming}
-use Rattle.trace_exchanges.specs.Coming.{AllComing, TellsComing}
-use Rattle.trace_firsts.specs.Failing.{MessageFails, TellsMessageFails}
-use Rattle.trace_firsts.specs.Firsts as firsts
-use Rattle.trace_deferred.specs.Own.{TellsOwn}
+use Rattle.trace_points.specs.declared.exchanges.coming.Coming.{Coming}
+use Rattle.trace_points.specs.exchanges.Coming.{AllComing, TellsComing}
+use Rattle.trace_replies.specs.firsts.Failing.{MessageFails, TellsMessageFails}
+use Rattle.trace_replies.specs.firsts.Firsts as firsts
+use Rattle.trace_errors.specs.deferred.Own.{TellsOwn}
 use Rattle.trace_errors.proofs.Rows.{own}
-use Rattle.trace_messages.specs.Message.{FailsHere}
-use Rattle.trace_questions.specs.Outs.{Tells}
+use Rattle.trace_replies.specs.messages.Message.{FailsHere}
+use Rattle.trace_points.specs.questions.Outs.{Tells}
 use Rattle.trace_judge.specs.declared.case.Case.{Case}
 use Rattle.trace_judge.specs.declared.course.Course.{Course}
 use Rattle.trace_judge.specs.Known.{conf_in, settings_in, event_in}

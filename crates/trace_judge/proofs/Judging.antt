@@ -7,23 +7,23 @@ use Rattle.right_trace.specs.Trace.{History, Conf, Came, after}
 use Rattle.right_trace.specs.Time.{now}
 use Rattle.right_trace.specs.Settings.{Settings}
 use Rattle.right_trace.specs.Right.{RowRight}
-use Rattle.trace_clauses.specs.Clauses.{Keeps}
-use Rattle.trace_clauses.specs.Clauses as clauses
-use Rattle.trace_clauses.specs.Verdicts.{KeepsAll}
-use Rattle.trace_clauses.proofs.Rows.{row_right}
-use Rattle.trace_exchanges.specs.declared.coming.Coming.{Coming}
-use Rattle.trace_exchanges.specs.Coming.{AllComing}
-use Rattle.trace_exchanges.specs.Coming as comings
-use Rattle.trace_exchanges.proofs.Asking.{right_rows_ask}
+use Rattle.trace_judge.specs.clauses.Clauses.{Keeps}
+use Rattle.trace_judge.specs.clauses.Clauses as clauses
+use Rattle.trace_judge.specs.clauses.Verdicts.{KeepsAll}
+use Rattle.trace_judge.proofs.lemmas.clauses.Rows.{row_right}
+use Rattle.trace_points.specs.declared.exchanges.coming.Coming.{Coming}
+use Rattle.trace_points.specs.exchanges.Coming.{AllComing}
+use Rattle.trace_points.specs.exchanges.Coming as comings
+use Rattle.trace_points.proofs.lemmas.exchanges.Asking.{right_rows_ask}
 use Rattle.trace_errors.proofs.Telling as erring
-use Rattle.trace_firsts.proofs.Arriving as arriving
-use Rattle.trace_given.proofs.Keeping as giving
-use Rattle.trace_given.specs.Earlier as replies
-use Rattle.trace_pass.proofs.Taking as passing
-use Rattle.trace_promptness.proofs.Hearing.{before_row}
-use Rattle.trace_promptness.proofs.Hearing as hearing
-use Rattle.trace_promptness.specs.Prompt as prompts
-use Rattle.trace_questions.specs.Outs.{Tells}
+use Rattle.trace_replies.proofs.lemmas.firsts.Arriving as arriving
+use Rattle.trace_replies.proofs.lemmas.given.Keeping as giving
+use Rattle.trace_replies.specs.given.Earlier as replies
+use Rattle.trace_points.proofs.lemmas.pass.Taking as passing
+use Rattle.trace_errors.proofs.lemmas.promptness.Hearing.{before_row}
+use Rattle.trace_errors.proofs.lemmas.promptness.Hearing as hearing
+use Rattle.trace_errors.specs.promptness.Prompt as prompts
+use Rattle.trace_points.specs.questions.Outs.{Tells}
 use Rattle.trace_judge.specs.declared.case.Case.{Case}
 use Rattle.trace_judge.specs.declared.course.Course.{Course}
 use Rattle.trace_judge.specs.declared.judge.Judge.{Judge}

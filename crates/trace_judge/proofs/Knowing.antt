@@ -8,21 +8,21 @@ use Rattle.right_trace.specs.Time.{newest}
 use Rattle.right_trace.specs.Settings.{Settings, defers_nothing}
 use Rattle.trace_tables.specs.declared.places.Place.{Place}
 use Rattle.trace_tables.specs.Known as places_seen
-use Rattle.trace_frames.specs.Here as here_outs
-use Rattle.trace_frames.proofs.Opening as opening
-use Rattle.trace_exchanges.specs.Asked.{AskedFirst}
-use Rattle.trace_busy.specs.Backs.{TellsEnd}
-use Rattle.trace_busy.proofs.Backing as backing
-use Rattle.trace_busy.proofs.Waiting as waiting
-use Rattle.trace_loads.proofs.Holding as holding
-use Rattle.trace_loads.proofs.Meeting as loading
-use Rattle.trace_owed.proofs.Exchanging as exchanging
-use Rattle.trace_pass.specs.Pass as pass
-use Rattle.trace_pass.proofs.Taking as passing
-use Rattle.trace_given.specs.Earlier.{Keeps, Outcome, Steps, Table, Gives, Others}
-use Rattle.trace_given.specs.Earlier as replies
+use Rattle.trace_tables.specs.frames.Here as here_outs
+use Rattle.trace_tables.proofs.lemmas.frames.Opening as opening
+use Rattle.trace_points.specs.exchanges.Asked.{AskedFirst}
+use Rattle.trace_outs.specs.busy.Backs.{TellsEnd}
+use Rattle.trace_outs.proofs.lemmas.busy.Backing as backing
+use Rattle.trace_outs.proofs.lemmas.busy.Waiting as waiting
+use Rattle.trace_outs.proofs.lemmas.loads.Holding as holding
+use Rattle.trace_outs.proofs.lemmas.loads.Meeting as loading
+use Rattle.trace_errors.proofs.lemmas.owed.Exchanging as exchanging
+use Rattle.trace_points.specs.pass.Pass as pass
+use Rattle.trace_points.proofs.lemmas.pass.Taking as passing
+use Rattle.trace_replies.specs.given.Earlier.{Keeps, Outcome, Steps, Table, Gives, Others}
+use Rattle.trace_replies.specs.given.Earlier as replies
 use Rattle.trace_tables.specs.declared.requests.Requests.{Requests}
-use Rattle.trace_given.proofs.Keeping as giving
+use Rattle.trace_replies.proofs.lemmas.given.Keeping as giving
 use Rattle.trace_judge.specs.declared.case.Case.{Case}
 use Rattle.trace_judge.specs.declared.course.Course.{Course}
 use Rattle.trace_judge.specs.declared.outs.Said.{Said}

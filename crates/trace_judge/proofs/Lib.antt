@@ -8,3 +8,4 @@ pub mod Stepping
 pub mod Ending
 pub mod Judging
 pub mod Verdicts
+pub mod lemmas

@@ -10,18 +10,18 @@ use Rattle.right_trace.specs.Validity.{is_deferred}
 use Rattle.right_trace.specs.Errors.{OwnCause, HasCause, IsKeptError, Own, Kept}
 use Rattle.trace_errors.proofs.Rows.{own}
 use Rattle.trace_errors.specs.Direct as direct
-use Rattle.trace_exchanges.specs.declared.coming.Coming.{Coming}
-use Rattle.trace_exchanges.specs.Coming.{TellsComing}
-use Rattle.trace_firsts.specs.Firsts.{TellsEarlier, TellsFirst}
-use Rattle.trace_firsts.specs.Firsts as firsts
-use Rattle.trace_given.specs.Coming.{TellsCame}
-use Rattle.trace_messages.specs.declared.message.Told.{Told}
-use Rattle.trace_messages.specs.declared.message.Judged.{Judged}
-use Rattle.trace_messages.specs.Message.{FailsHere, IsTold, IsLast}
-use Rattle.trace_messages.specs.Message as messages
-use Rattle.trace_owed.specs.Owed as owed
-use Rattle.trace_questions.specs.Outs.{Tells}
-use Rattle.trace_views.specs.Errors as kept_errors
+use Rattle.trace_points.specs.declared.exchanges.coming.Coming.{Coming}
+use Rattle.trace_points.specs.exchanges.Coming.{TellsComing}
+use Rattle.trace_replies.specs.firsts.Firsts.{TellsEarlier, TellsFirst}
+use Rattle.trace_replies.specs.firsts.Firsts as firsts
+use Rattle.trace_replies.specs.given.Coming.{TellsCame}
+use Rattle.trace_replies.specs.declared.messages.message.Told.{Told}
+use Rattle.trace_replies.specs.declared.messages.message.Judged.{Judged}
+use Rattle.trace_replies.specs.messages.Message.{FailsHere, IsTold, IsLast}
+use Rattle.trace_replies.specs.messages.Message as messages
+use Rattle.trace_errors.specs.owed.Owed as owed
+use Rattle.trace_points.specs.questions.Outs.{Tells}
+use Rattle.trace_replies.specs.views.Errors as kept_errors
 use Rattle.trace_judge.specs.declared.case.Case.{Case}
 use Rattle.trace_judge.specs.declared.course.Course.{Course}
 use Rattle.trace_judge.specs.declared.case.Mark.{Mark}

@@ -11,24 +11,24 @@ use Rattle.right_trace.specs.Settings.{Settings}
 use Rattle.right_trace.specs.Errors.{DirectCause}
 use Rattle.right_trace.specs.Stale.{MessageIsRight}
 use Rattle.client_request.specs.declared.event.Row.{Row}
-use Rattle.trace_busy.specs.Backs.{TellsEnd}
-use Rattle.trace_due.specs.Timers as timers
-use Rattle.trace_exchanges.specs.Coming.{AllComing}
-use Rattle.trace_frames.specs.declared.ledger.Ledger.{Ledger}
-use Rattle.trace_frames.specs.Ledger as ledger
-use Rattle.trace_frames.specs.Here as here_outs
-use Rattle.trace_questions.specs.Configured.{use_of}
-use Rattle.trace_clauses.specs.Clauses.{MessageOwes, ReplyOwesFirst, ErrorOwes, OtherOwes}
-use Rattle.trace_given.specs.Earlier.{Outcome, IsGivenHere}
-use Rattle.trace_given.specs.Earlier as replies
-use Rattle.trace_messages.specs.declared.message.Judged.{Judged}
-use Rattle.trace_messages.specs.Message.{FailsHere}
+use Rattle.trace_outs.specs.busy.Backs.{TellsEnd}
+use Rattle.trace_points.specs.due.Timers as timers
+use Rattle.trace_points.specs.exchanges.Coming.{AllComing}
+use Rattle.trace_tables.specs.declared.frames.ledger.Ledger.{Ledger}
+use Rattle.trace_tables.specs.frames.Ledger as ledger
+use Rattle.trace_tables.specs.frames.Here as here_outs
+use Rattle.trace_points.specs.questions.Configured.{use_of}
+use Rattle.trace_judge.specs.clauses.Clauses.{MessageOwes, ReplyOwesFirst, ErrorOwes, OtherOwes}
+use Rattle.trace_replies.specs.given.Earlier.{Outcome, IsGivenHere}
+use Rattle.trace_replies.specs.given.Earlier as replies
+use Rattle.trace_replies.specs.declared.messages.message.Judged.{Judged}
+use Rattle.trace_replies.specs.messages.Message.{FailsHere}
 use Rattle.trace_outs.specs.Outs.{OutOwes}
 use Rattle.trace_outs.specs.Outs as outs
-use Rattle.trace_questions.specs.Outs.{Tells, TellsFirst}
-use Rattle.trace_reasons.specs.declared.point.Point.{Point}
-use Rattle.trace_reasons.specs.Point as points
-use Rattle.trace_reasons.specs.Closing as closing
+use Rattle.trace_points.specs.questions.Outs.{Tells, TellsFirst}
+use Rattle.trace_outs.specs.declared.reasons.point.Point.{Point}
+use Rattle.trace_outs.specs.reasons.Point as points
+use Rattle.trace_outs.specs.reasons.Closing as closing
 use Rattle.trace_judge.specs.declared.case.Case.{Case}
 use Rattle.trace_judge.specs.declared.course.Course.{Course}
 use Rattle.trace_judge.specs.declared.case.Mark.{Mark}

@@ -2,9 +2,9 @@
 use Rattle.std.proofs.Common.{◌≡◌, ◌∷◌, ◌&&◌, Bool, true, List, [], refl, subst}
 use Rattle.client_request.specs.declared.event.Out.{Out}
 use Rattle.right_trace.specs.Trace.{History, Put, put_all, after}
-use Rattle.trace_clauses.specs.Clauses.{EachOwes, MessageOwes, ReplyOwesFirst, ErrorOwes, OtherOwes}
-use Rattle.trace_questions.specs.Outs.{Tells}
-use Rattle.trace_questions.proofs.Deciding.{both, all}
+use Rattle.trace_judge.specs.clauses.Clauses.{EachOwes, MessageOwes, ReplyOwesFirst, ErrorOwes, OtherOwes}
+use Rattle.trace_points.specs.questions.Outs.{Tells}
+use Rattle.trace_points.proofs.lemmas.questions.Deciding.{both, all}
 use Rattle.trace_judge.specs.declared.case.Case.{Case}
 use Rattle.trace_judge.specs.declared.course.Course.{Course}
 use Rattle.trace_judge.specs.declared.outs.Kept.{Kept}

@@ -1,6 +1,6 @@
 -- Answers that tell of two things, of either or of one that is had only where another is.
 use Rattle.std.proofs.Common.{◌≡◌, ◌&&◌, ◌||◌, ◌⊎◌, inl, inr, not, Bool, true, false, Result, Ok, Err, IfOk, OnOk, refl}
-use Rattle.trace_questions.specs.Outs.{Tells}
+use Rattle.trace_points.specs.questions.Outs.{Tells}
 
 pub either_told : {P Q : Type 0} (a b : Bool) → Tells P a → Tells Q b → Tells (P ⊎ Q) (a || b)
 either_told {P} {Q} true b p q = (λ e. inl (p.0 refl), λ r. refl)

@@ -5,8 +5,8 @@ use Rattle.client_request.specs.declared.event.Event.{Event}
 use Rattle.client_request.specs.declared.event.Row.{Row}
 use Rattle.right_trace.specs.Trace.{History, Conf, after}
 use Rattle.right_trace.specs.Settings.{Settings}
-use Rattle.trace_clauses.specs.Clauses as clauses
-use Rattle.trace_clauses.specs.Verdicts.{Verdict, Right, Wrong, IsVerdict, KeepsAll}
+use Rattle.trace_judge.specs.clauses.Clauses as clauses
+use Rattle.trace_judge.specs.clauses.Verdicts.{Verdict, Right, Wrong, IsVerdict, KeepsAll}
 use Rattle.trace_judge.specs.declared.judge.Judge.{Judge}
 use Rattle.trace_judge.specs.declared.rules.Rules.{Rules}
 use Rattle.trace_judge.specs.declared.verdict.Clause.{Clause}
@@ -17,8 +17,8 @@ use Rattle.trace_judge.specs.Verdict.{clause_of, verdict_of}
 use Rattle.trace_judge.specs.declared.verdict.Verdict.{Verdict as Said}
 use Rattle.trace_judge.specs.declared.verdict.Verdict.TheVariants as said
 use Rattle.right_trace.specs.Right as right
-use Rattle.trace_clauses.specs.Laws.{HaveEvents}
-use Rattle.trace_clauses.proofs.Verdicts.{kept_is_right, one_verdict}
+use Rattle.trace_judge.specs.clauses.Laws.{HaveEvents}
+use Rattle.trace_judge.proofs.lemmas.clauses.Verdicts.{kept_is_right, one_verdict}
 use Rattle.trace_judge.proofs.Judging.{judge_begins, nothing_behind}
 use Rattle.trace_judge.proofs.Listing.{none_left, some_left}
 

@@ -7,10 +7,10 @@ use Rattle.right_trace.specs.Trace.{History, Conf, Put, put_all, after}
 use Rattle.right_trace.specs.Settings.{Settings, defers_nothing}
 use Rattle.right_trace.specs.Orderly.{PlacesAreMet}
 use Rattle.right_trace.specs.Right.{HasServer, WaitingIsBusy, MarksStand, faults}
-use Rattle.trace_frames.specs.Here as here_outs
-use Rattle.trace_questions.specs.Outs.{Tells}
-use Rattle.trace_given.specs.Earlier.{Steps}
-use Rattle.trace_clauses.specs.Clauses.{EachOwes, MessageOwes, ReplyOwesFirst, ErrorOwes, OtherOwes}
+use Rattle.trace_tables.specs.frames.Here as here_outs
+use Rattle.trace_points.specs.questions.Outs.{Tells}
+use Rattle.trace_replies.specs.given.Earlier.{Steps}
+use Rattle.trace_judge.specs.clauses.Clauses.{EachOwes, MessageOwes, ReplyOwesFirst, ErrorOwes, OtherOwes}
 use Rattle.trace_judge.specs.declared.case.Case.{Case}
 use Rattle.trace_judge.specs.declared.course.Course.{Course}
 use Rattle.trace_judge.specs.declared.outs.Kept.{Kept}

@@ -6,11 +6,11 @@ use Rattle.right_trace.specs.Trace.{History, Conf, Came, after}
 use Rattle.right_trace.specs.Time.{row_before}
 use Rattle.right_trace.specs.Settings.{Settings, defers_nothing}
 use Rattle.right_trace.specs.Right.{Prompt}
-use Rattle.trace_exchanges.specs.declared.coming.Coming.{Coming}
-use Rattle.trace_exchanges.specs.Coming.{AllComing}
-use Rattle.trace_questions.specs.Outs.{Tells}
-use Rattle.trace_given.specs.Earlier as replies
-use Rattle.trace_clauses.specs.Verdicts.{KeepsAll, BreaksFirst}
+use Rattle.trace_points.specs.declared.exchanges.coming.Coming.{Coming}
+use Rattle.trace_points.specs.exchanges.Coming.{AllComing}
+use Rattle.trace_points.specs.questions.Outs.{Tells}
+use Rattle.trace_replies.specs.given.Earlier as replies
+use Rattle.trace_judge.specs.clauses.Verdicts.{KeepsAll, BreaksFirst}
 use Rattle.trace_judge.specs.declared.judge.Judge.{Judge}
 use Rattle.trace_judge.specs.declared.outs.Kept.{Kept}
 use Rattle.trace_judge.specs.declared.rules.Rules.{Rules}

@@ -7,17 +7,17 @@ use Rattle.right_trace.specs.Trace.{History, Conf, Came, Put}
 use Rattle.right_trace.specs.Time.{now, newest, row_before}
 use Rattle.right_trace.specs.Settings.{Settings, defers_nothing}
 use Rattle.trace_tables.specs.declared.places.Place.{Place}
-use Rattle.trace_frames.specs.Here as here_outs
-use Rattle.trace_exchanges.specs.Asked.{AskedFirst}
-use Rattle.trace_exchanges.specs.Coming.{AllComing}
-use Rattle.trace_questions.specs.Outs.{Tells}
-use Rattle.trace_promptness.specs.Heard as heards
-use Rattle.trace_pass.specs.Pass as pass
+use Rattle.trace_tables.specs.frames.Here as here_outs
+use Rattle.trace_points.specs.exchanges.Asked.{AskedFirst}
+use Rattle.trace_points.specs.exchanges.Coming.{AllComing}
+use Rattle.trace_points.specs.questions.Outs.{Tells}
+use Rattle.trace_errors.specs.promptness.Heard as heards
+use Rattle.trace_points.specs.pass.Pass as pass
 use Rattle.trace_errors.specs.Earlier as errors
-use Rattle.trace_firsts.specs.Firsts as firsts
-use Rattle.trace_given.specs.Earlier.{EachWasAsked}
-use Rattle.trace_given.specs.Earlier as replies
-use Rattle.trace_messages.specs.Message.{FailsHere}
+use Rattle.trace_replies.specs.firsts.Firsts as firsts
+use Rattle.trace_replies.specs.given.Earlier.{EachWasAsked}
+use Rattle.trace_replies.specs.given.Earlier as replies
+use Rattle.trace_replies.specs.messages.Message.{FailsHere}
 use Rattle.trace_judge.specs.declared.past.Past.{Past}
 use Rattle.trace_judge.specs.declared.case.Case.{Case}
 use Rattle.trace_judge.specs.declared.course.Course.{Course}

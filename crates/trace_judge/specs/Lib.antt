@@ -6,3 +6,5 @@ pub mod Outs
 pub mod Course
 pub mod Verdict
 pub mod Judge
+pub mod script
+pub mod clauses

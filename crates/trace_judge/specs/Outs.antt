@@ -6,11 +6,11 @@ use Rattle.client_request.specs.declared.event.What.{What}
 use Rattle.right_trace.specs.Trace.{History, Conf, Put, after}
 use Rattle.right_trace.specs.Settings.{Settings}
 use Rattle.right_trace.specs.Busy.{EndsBadly}
-use Rattle.trace_questions.specs.Outs.{Tells}
-use Rattle.trace_busy.specs.Backs.{TellsEnd}
-use Rattle.trace_given.specs.Earlier as replies
+use Rattle.trace_points.specs.questions.Outs.{Tells}
+use Rattle.trace_outs.specs.busy.Backs.{TellsEnd}
+use Rattle.trace_replies.specs.given.Earlier as replies
 use Rattle.trace_outs.specs.Outs.{OutOwes}
-use Rattle.trace_clauses.specs.Clauses.{MessageOwes, ReplyOwesFirst, ErrorOwes, OtherOwes}
+use Rattle.trace_judge.specs.clauses.Clauses.{MessageOwes, ReplyOwesFirst, ErrorOwes, OtherOwes}
 use Rattle.trace_judge.specs.declared.case.Case.{Case}
 use Rattle.trace_judge.specs.declared.course.Course.{Course}
 use Rattle.trace_judge.specs.declared.case.Mark.{Mark}

@@ -10,11 +10,11 @@ use Rattle.right_trace.specs.Messages.{Octets}
 use Rattle.right_trace.specs.Coming.{CameFirst}
 use Rattle.right_trace.specs.Owed.{AllAreDone}
 use Rattle.right_trace.specs.Errors.{OwnCause, HasCause, IsKeptError, DirectCause}
-use Rattle.trace_questions.specs.Outs.{Tells}
-use Rattle.trace_firsts.specs.Failing.{MessageFails}
-use Rattle.trace_messages.specs.declared.message.Told.{Told}
-use Rattle.trace_messages.specs.declared.message.Judged.{Judged}
-use Rattle.trace_messages.specs.Message.{FailsHere, IsTold, IsJudged}
+use Rattle.trace_points.specs.questions.Outs.{Tells}
+use Rattle.trace_replies.specs.firsts.Failing.{MessageFails}
+use Rattle.trace_replies.specs.declared.messages.message.Told.{Told}
+use Rattle.trace_replies.specs.declared.messages.message.Judged.{Judged}
+use Rattle.trace_replies.specs.messages.Message.{FailsHere, IsTold, IsJudged}
 use Rattle.trace_judge.specs.declared.case.Case.{Case}
 use Rattle.trace_judge.specs.declared.course.Course.{Course}
 use Rattle.trace_judge.specs.declared.case.Mark.{Mark}

@@ -4,12 +4,12 @@ use Rattle.client_request.specs.declared.event.Event.{Event}
 use Rattle.client_request.specs.declared.event.Out.{Out}
 use Rattle.client_request.specs.declared.event.What.{What}
 use Rattle.right_trace.specs.Trace.{History, Conf}
-use Rattle.trace_pass.specs.Pass as pass
-use Rattle.trace_loads.specs.Loads as loads
-use Rattle.trace_loads.specs.Held as held
-use Rattle.trace_busy.specs.Waits as waits
-use Rattle.trace_busy.specs.Backs as backs
-use Rattle.trace_owed.specs.Exchanged as exchanged
+use Rattle.trace_points.specs.pass.Pass as pass
+use Rattle.trace_outs.specs.loads.Loads as loads
+use Rattle.trace_outs.specs.loads.Held as held
+use Rattle.trace_outs.specs.busy.Waits as waits
+use Rattle.trace_outs.specs.busy.Backs as backs
+use Rattle.trace_errors.specs.owed.Exchanged as exchanged
 use Rattle.trace_judge.specs.declared.tables.Tables.{Tables}
 
 abbrev pub nothing : (exact : Bool) → Tables

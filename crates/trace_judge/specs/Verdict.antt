@@ -1,8 +1,8 @@
 -- What is said of a trace, as clauses and verdicts of the definitions.
 use Rattle.client_request.specs.declared.event.Event.{Event}
 use Rattle.std.specs.Prelude.{List, [], ◌∷◌}
-use Rattle.trace_clauses.specs.Clauses as clauses
-use Rattle.trace_clauses.specs.Verdicts as verdicts
+use Rattle.trace_judge.specs.clauses.Clauses as clauses
+use Rattle.trace_judge.specs.clauses.Verdicts as verdicts
 use Rattle.trace_judge.specs.declared.verdict.Clause.{Clause}
 use Rattle.trace_judge.specs.declared.verdict.Clause.TheVariants.{Events, Messages, Firsts, Causes, Orders, Prompts}
 use Rattle.trace_judge.specs.declared.verdict.Verdict.{Verdict}

@@ -2,9 +2,9 @@
 
 ghost use Rattle.std.specs.Prelude.{◌≡◌, ◌↔◌, [], IfOk};
 ghost use Rattle.right_trace.specs.Right.{Right};
-ghost use Rattle.trace_clauses.specs.Laws.{HaveEvents};
-ghost use Rattle.trace_clauses.specs.Verdicts.{IsVerdict};
-ghost use Rattle.trace_script.specs.Judged.{conf_of, settings_of};
+ghost use Rattle.trace_judge.specs.clauses.Laws.{HaveEvents};
+ghost use Rattle.trace_judge.specs.clauses.Verdicts.{IsVerdict};
+ghost use Rattle.trace_judge.specs.script.Judged.{conf_of, settings_of};
 ghost use Rattle.trace_judge.specs.Verdict.{first_lane, verdict_of};
 
 use crate::judge::Judge;

@@ -3,7 +3,7 @@
 use crate::past::Past;
 use crate::rules::Rules;
 use client_request::Row;
-use trace_exchanges::Coming;
+use trace_points::exchanges::Coming;
 
 /// A row that is judged: by what, what was known before it, and which messages came in it.
 pub struct Case<'a> {

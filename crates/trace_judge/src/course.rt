@@ -11,10 +11,10 @@ use crate::tables::Tables;
 use client_request::{Event, Out};
 use dns_base::NoMemory;
 use std::alloc::Global;
-use trace_busy::Scene;
-use trace_frames::Here;
-use trace_given::Earliers;
-use trace_questions::{TraceConf, has_one_fault_at_most, marks_stand};
+use trace_outs::busy::Scene;
+use trace_points::questions::{TraceConf, has_one_fault_at_most, marks_stand};
+use trace_replies::given::Earliers;
+use trace_tables::frames::Here;
 
 /// What is known at a point within a row, or behind one.
 pub struct Course {

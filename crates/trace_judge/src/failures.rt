@@ -9,9 +9,9 @@ use crate::replies::is_done;
 use client_request::{Error, Fault, QueryError};
 use dns_base::NoMemory;
 use std::alloc::Global;
-use trace_deferred::own_cause;
-use trace_exchanges::find_coming;
-use trace_firsts::message_fails;
+use trace_errors::deferred::own_cause;
+use trace_points::exchanges::find_coming;
+use trace_replies::firsts::message_fails;
 
 /// Whether an error of a request has its own cause where it would be given.
 pub(crate) fn has_own_cause(

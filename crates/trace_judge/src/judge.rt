@@ -12,9 +12,9 @@ use crate::verdict::Clause;
 use client_request::{Event, Row};
 use dns_base::{NoMemory, Seq};
 use std::alloc::Global;
-use trace_events::is_same_event;
-use trace_exchanges::{Coming, find_coming};
-use trace_promptness::is_prompt;
+use trace_errors::promptness::is_prompt;
+use trace_points::events::is_same_event;
+use trace_points::exchanges::{Coming, find_coming};
 
 /// What is known of the rows that are done, and within one.
 pub struct Judge {

@@ -1,5 +1,7 @@
 //! Whether a trace is right, decided in one pass over its rows.
 //!
+//! By what a trace is judged stands in `script`; what a verdict says, mathematics alone, in `clauses`.
+//!
 //! A trace is judged right exactly where its events are its script's and it is right; else the least row that is not is
 //! named, and the first clause that fails there. By `audit`.
 //!
@@ -10,16 +12,16 @@
 //!
 //! | Clause | Asked of | By |
 //! |---|---|---|
-//! | its event | the row | `trace_events` |
-//! | messages | each reply that is one | `trace_messages`, with what `trace_firsts`, `trace_owed` and `trace_deferred` tell |
-//! | firsts | each reply | `trace_questions` |
-//! | causes | each reply that is an error, and all together | `trace_deferred`, `trace_views` |
-//! | orders | each other out; who waits, places and marks when the row is done | `trace_outs`, `trace_busy`, `trace_loads` |
-//! | prompts | what came in the row | `trace_promptness` |
+//! | its event | the row | `trace_points::events` |
+//! | messages | each reply that is one | `trace_replies::messages`, with what `firsts` there, `trace_errors::owed` and `deferred` tell |
+//! | firsts | each reply | `trace_points::questions` |
+//! | causes | each reply that is an error, and all together | `trace_errors::deferred`, `trace_replies::views` |
+//! | orders | each other out; who waits, places and marks when the row is done | `trace_outs`, its `busy` and `loads` |
+//! | prompts | what came in the row | `trace_errors::promptness` |
 //!
 //! These decide what a right trace is. No client stands below them; `audit` of `trace_judge` gives the verdict.
 //!
-//! `audit` judges the rows of a trace by a script. What it says is so (`IsVerdict` of `trace_clauses`): all clauses are
+//! `audit` judges the rows of a trace by a script. What it says is so (`IsVerdict` of `clauses`): all clauses are
 //! kept, or this row is the first that does not keep all, and this clause the first that it does not keep. It is `Right`
 //! exactly where the rows have the script's events and the trace is right (`right`). The first lane's events count.
 //!
@@ -33,6 +35,7 @@
 
 mod auditing;
 mod case;
+pub mod clauses;
 mod course;
 mod failures;
 mod judge;
@@ -40,6 +43,7 @@ mod outs;
 mod past;
 mod replies;
 mod rules;
+pub mod script;
 mod tables;
 mod verdict;
 

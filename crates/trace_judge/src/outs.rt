@@ -11,8 +11,8 @@ use client_request::{Error, Out};
 use dns_base::{Message, NoMemory};
 use std::alloc::Global;
 use trace_outs::is_out_right;
-use trace_questions::is_first;
-use trace_reasons::{Point, ends_badly};
+use trace_outs::reasons::{Point, ends_badly};
+use trace_points::questions::is_first;
 
 /// Which clauses outs keep.
 #[derive(Clone, Copy, Debug, Drop)]

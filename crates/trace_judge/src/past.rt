@@ -8,12 +8,12 @@ use dns_base::NoMemory;
 use number_table::NumberTable;
 use std::alloc::Global;
 use trace_errors::Earlier;
-use trace_exchanges::Coming;
-use trace_firsts::{Firsts, note_arrivals};
-use trace_frames::{Here, Ledger};
-use trace_pass::Pass;
-use trace_promptness::{Heards, TraceSettings, hear};
-use trace_questions::TraceConf;
+use trace_errors::promptness::{Heards, TraceSettings, hear};
+use trace_points::exchanges::Coming;
+use trace_points::pass::Pass;
+use trace_points::questions::TraceConf;
+use trace_replies::firsts::{Firsts, note_arrivals};
+use trace_tables::frames::{Here, Ledger};
 
 /// What is known before a row.
 pub struct Past {

@@ -10,12 +10,12 @@ use client_request::Error;
 use dns_base::{Message, NoMemory};
 use std::alloc::Global;
 use trace_errors::direct_cause;
-use trace_exchanges::find_coming;
-use trace_firsts::{came_earlier, came_first};
-use trace_given::came_for;
-use trace_messages::{Judged, Place, Told};
-use trace_owed::are_all_done;
-use trace_views::is_kept_error;
+use trace_errors::owed::are_all_done;
+use trace_points::exchanges::find_coming;
+use trace_replies::firsts::{came_earlier, came_first};
+use trace_replies::given::came_for;
+use trace_replies::messages::{Judged, Place, Told};
+use trace_replies::views::is_kept_error;
 
 /// Whether a mark says that a result of the request failed.
 fn is_marked_as_failing(mark: &Option<Mark>, request: u64) -> bool

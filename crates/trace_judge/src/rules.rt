@@ -2,16 +2,16 @@
 
 ghost use Rattle.std.specs.Prelude.{◌≡◌, map, IfOk};
 ghost use Rattle.right_trace.specs.Settings as right_settings;
-ghost use Rattle.trace_questions.specs.Configured.{use_of};
-ghost use Rattle.trace_script.specs.Judged as judged;
+ghost use Rattle.trace_points.specs.questions.Configured.{use_of};
+ghost use Rattle.trace_judge.specs.script.Judged as judged;
 
+use crate::script::{conf_of, uses_of};
 use client_settings::cache;
 use dns_base::NoMemory;
 use dns_script::Script;
 use std::alloc::Global;
-use trace_questions::{ServerUse, TraceConf};
-use trace_script::{conf_of, uses_of};
-use trace_views::ReplySettings;
+use trace_points::questions::{ServerUse, TraceConf};
+use trace_replies::views::ReplySettings;
 
 /// The configuration and the settings of a script.
 pub struct Rules {

@@ -7,11 +7,11 @@ use client_request::{Event, Out, What};
 use dns_base::NoMemory;
 use number_table::NumberTable;
 use std::alloc::Global;
-use trace_busy::{Backs, Waits, meet_backs, note_used, put_backs};
-use trace_loads::{Held, Loads};
-use trace_owed::{Exchanged, put_exchange};
-use trace_pass::Pass;
-use trace_questions::TraceConf;
+use trace_errors::owed::{Exchanged, put_exchange};
+use trace_outs::busy::{Backs, Waits, meet_backs, note_used, put_backs};
+use trace_outs::loads::{Held, Loads};
+use trace_points::pass::Pass;
+use trace_points::questions::TraceConf;
 
 /// What is known at a point of a trace.
 pub struct Tables {

@@ -8,19 +8,19 @@ use Rattle.client_request.specs.declared.event.Out.TheVariants.{Start, OpenDgram
 use Rattle.right_trace.specs.Trace.{History, Conf}
 use Rattle.right_trace.specs.Messages.{Octets}
 use Rattle.right_trace.specs.Right.{HasServer}
-use Rattle.trace_questions.specs.declared.configured.ServerUse.{ServerUse}
-use Rattle.trace_questions.specs.Configured.{use_of}
-use Rattle.trace_questions.specs.Outs.{OpenIsRight, opens_seen, TellsSend, TellsOpening}
-use Rattle.trace_questions.specs.Streams.{TellsWrite}
-use Rattle.trace_questions.proofs.Deciding.{both, all, tells_opening}
-use Rattle.trace_reasons.specs.declared.point.Point.{Point}
-use Rattle.trace_reasons.specs.Point.{Known, has_server_seen}
-use Rattle.trace_reasons.specs.Starting.{TellsStart}
-use Rattle.trace_reasons.specs.Closing.{TellsClose}
-use Rattle.trace_reasons.proofs.Shutting.{server_so, so_server}
-use Rattle.trace_loads.specs.declared.loads.Loads.{Loads}
-use Rattle.trace_loads.specs.declared.held.Held.{Held}
-use Rattle.trace_loads.specs.Opening.{TellsOpenStream}
+use Rattle.trace_points.specs.declared.questions.configured.ServerUse.{ServerUse}
+use Rattle.trace_points.specs.questions.Configured.{use_of}
+use Rattle.trace_points.specs.questions.Outs.{OpenIsRight, opens_seen, TellsSend, TellsOpening}
+use Rattle.trace_points.specs.questions.Streams.{TellsWrite}
+use Rattle.trace_points.proofs.lemmas.questions.Deciding.{both, all, tells_opening}
+use Rattle.trace_outs.specs.declared.reasons.point.Point.{Point}
+use Rattle.trace_outs.specs.reasons.Point.{Known, has_server_seen}
+use Rattle.trace_outs.specs.reasons.Starting.{TellsStart}
+use Rattle.trace_outs.specs.reasons.Closing.{TellsClose}
+use Rattle.trace_outs.proofs.lemmas.reasons.Shutting.{server_so, so_server}
+use Rattle.trace_outs.specs.declared.loads.loads.Loads.{Loads}
+use Rattle.trace_outs.specs.declared.loads.held.Held.{Held}
+use Rattle.trace_outs.specs.loads.Opening.{TellsOpenStream}
 use Rattle.trace_outs.specs.Outs.{may_open_seen, TellsOut}
 
 as_long : (us : List ServerUse) → length (map use_of us) ≡ length us

@@ -1,1 +1,4 @@
 pub mod Outs
+pub mod loads
+pub mod reasons
+pub mod busy

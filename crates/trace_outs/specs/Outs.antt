@@ -6,13 +6,13 @@ use Rattle.client_request.specs.declared.event.Out.{Out}
 use Rattle.client_request.specs.declared.event.Out.TheVariants.{Reply, Stale}
 use Rattle.right_trace.specs.Trace.{History, Conf}
 use Rattle.right_trace.specs.Right.{HasServer, ServerOutRight}
-use Rattle.trace_questions.specs.Outs.{Tells}
-use Rattle.trace_reasons.specs.declared.point.Point.{Point}
-use Rattle.trace_reasons.specs.Point.{Known}
-use Rattle.trace_loads.specs.declared.loads.Loads.{Loads}
-use Rattle.trace_loads.specs.declared.held.Held.{Held}
-use Rattle.trace_loads.specs.Loads as loads
-use Rattle.trace_loads.specs.Held as held
+use Rattle.trace_points.specs.questions.Outs.{Tells}
+use Rattle.trace_outs.specs.declared.reasons.point.Point.{Point}
+use Rattle.trace_outs.specs.reasons.Point.{Known}
+use Rattle.trace_outs.specs.declared.loads.loads.Loads.{Loads}
+use Rattle.trace_outs.specs.declared.loads.held.Held.{Held}
+use Rattle.trace_outs.specs.loads.Loads as loads
+use Rattle.trace_outs.specs.loads.Held as held
 
 -- what an out owes; what a reply owes is not asked
 abbrev pub OutOwes : Conf → (past : History) → What → (h end : History) → Out → Type 0

@@ -2,15 +2,15 @@
 
 ghost use Rattle.std.specs.Prelude.{◌≡◌, ◌&&◌, IfOk};
 ghost use Rattle.client_request.specs.declared.event.Out.TheVariants as outs;
-ghost use Rattle.trace_reasons.specs.Point.{has_server_seen};
+ghost use Rattle.trace_outs.specs.reasons.Point.{has_server_seen};
 ghost use Rattle.trace_outs.specs.Outs as plain;
 
+use crate::loads::{Held, Loads, may_open_stream};
+use crate::reasons::{Point, may_close, may_start};
 use client_request::{Out, Via};
 use dns_base::{NoMemory, Octets};
 use std::alloc::Global;
-use trace_loads::{Held, Loads, may_open_stream};
-use trace_questions::{may_send, may_write};
-use trace_reasons::{Point, may_close, may_start};
+use trace_points::questions::{may_send, may_write};
 
 /// Whether a place is unopened, and of a server.
 fn may_open(point: &Point<'_>, place: u64, server: u32) -> bool

@@ -4,22 +4,16 @@ use Rattle.std.specs.Prelude.{if◌then◌else◌, is_some, nat_le, max}
 use Rattle.std.proofs.lemmas.Bool.Decides.{nat_tests}
 use Rattle.number_table.specs.Entries.{puts, entry_at}
 use Rattle.client_request.specs.Request.{Request}
-use Rattle.client_request.specs.declared.event.Event.{Event}
-use Rattle.client_request.specs.declared.event.What.{What}
+use Rattle.client_request.specs.declared.event.{Event.Event, What.What, Out.Out, Via.Via}
 use Rattle.client_request.specs.declared.event.What.TheVariants.{Ask, Opened, OpenFailed, SendFailed, ShortSend, Datagram, RecvFailed, Wrote, WriteFailed, Bytes, ReadFailed, Ended, Tick}
-use Rattle.client_request.specs.declared.event.Out.{Out}
 use Rattle.client_request.specs.declared.event.Out.TheVariants.{Start, OpenDgram, OpenStream, Send, Write, Resume, Close, Stale, Reply}
-use Rattle.client_request.specs.declared.event.Via.{Via}
 use Rattle.right_trace.specs.Trace.{History, Conf, Came, Put}
-use Rattle.right_trace.specs.Time.{now}
+use Rattle.right_trace.specs.{Time.now, Causes.DeadlineHasPassed}
 use Rattle.right_trace.specs.Requests.{Asking, asking, asking_of, asks, is_ask, same_via, start, replied, is_marked}
-use Rattle.right_trace.specs.Causes.{DeadlineHasPassed}
-use Rattle.trace_tables.specs.declared.requests.Requests.{Requests}
-use Rattle.trace_tables.specs.declared.requests.Started.{Started}
+use Rattle.trace_tables.specs.declared.requests.{Requests.Requests, Started.Started}
 use Rattle.trace_tables.specs.Lists.{adds, listed}
 use Rattle.trace_tables.specs.Requests.{Known, met, told, is_asked, has_put, start_of, start_seen, replied_seen, past_at, deadline_seen}
-use Rattle.trace_tables.proofs.Tables.{at_puts}
-use Rattle.trace_tables.proofs.Listing.{listed_adds}
+use Rattle.trace_tables.proofs.{Tables.at_puts, Listing.listed_adds}
 
 -- an event that asks nothing
 module _ (h : History) (r : Requests) (e : Event) (is : Known h r) where

@@ -4,3 +4,4 @@ pub mod Knowing
 pub mod Asking
 pub mod Sending
 pub mod Keeping
+pub mod lemmas

@@ -2,20 +2,15 @@
 use Rattle.std.proofs.Common.{◌≡◌, ℕ, suc, ◌==◌, ◌&&◌, Bool, true, false, Option, Some, None, List, [], ◌∷◌, refl, sym, ap, ◌∙◌}
 use Rattle.std.specs.Prelude.{if◌then◌else◌}
 use Rattle.number_table.specs.Entries.{entry_at}
-use Rattle.client_request.specs.declared.event.Event.{Event}
-use Rattle.client_request.specs.declared.event.Out.{Out}
+use Rattle.client_request.specs.declared.event.{Event.Event, Out.Out, Via.TheVariants.Dgram}
 use Rattle.client_request.specs.declared.event.Out.TheVariants.{Start, OpenDgram, OpenStream, Send, Write, Resume, Close, Stale, Reply}
-use Rattle.client_request.specs.declared.event.Via.TheVariants.{Dgram}
 use Rattle.right_trace.specs.Trace.{History, Came, Put}
-use Rattle.right_trace.specs.Time.{now}
-use Rattle.right_trace.specs.Requests.{same_via}
+use Rattle.right_trace.specs.{Time.now, Requests.same_via}
 use Rattle.right_trace.specs.Places.{is_site, site}
 use Rattle.right_trace.specs.Causes.{Try, Named, sends, last_try, named}
 use Rattle.right_trace.specs.Orderly.{Sending, sending}
 use Rattle.trace_tables.specs.declared.places.Place.{Place}
-use Rattle.trace_tables.specs.declared.sends.Sends.{Sends}
-use Rattle.trace_tables.specs.declared.sends.Sent.{Sent}
-use Rattle.trace_tables.specs.declared.sends.Tried.{Tried}
+use Rattle.trace_tables.specs.declared.sends.{Sends.Sends, Sent.Sent, Tried.Tried}
 use Rattle.trace_tables.specs.Lists.{adds, listed}
 use Rattle.trace_tables.specs.Known.{Known as PlacesKnown, site_seen}
 use Rattle.trace_tables.specs.Sends.{Known, tried_at, has_put, count_at, last_at, names_of, last_of}

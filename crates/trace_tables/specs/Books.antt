@@ -1,9 +1,6 @@
 -- All that a forward pass keeps, and that it is what the definitions of a right trace say.
 use Rattle.std.specs.Prelude.{List, [], ◌∷◌}
-use Rattle.client_request.specs.declared.event.Event.{Event}
-use Rattle.client_request.specs.declared.event.Out.{Out}
-use Rattle.client_request.specs.declared.event.Row.{Row}
-use Rattle.client_request.specs.declared.event.What.{What}
+use Rattle.client_request.specs.declared.event.{Event.Event, Out.Out, Row.Row, What.What}
 use Rattle.right_trace.specs.Trace.{History, Came, Put, after}
 use Rattle.right_trace.specs.Time.{newest}
 use Rattle.trace_tables.specs.declared.books.Books.{Books}

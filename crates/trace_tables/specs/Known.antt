@@ -3,9 +3,8 @@ use Rattle.std.specs.Prelude.{◌≡◌, ℕ, Option, Some, None}
 use Rattle.number_table.specs.Entries.{entry_at}
 use Rattle.right_trace.specs.Trace.{History}
 use Rattle.right_trace.specs.Places.{Site, Stand, Unused, Opening, Alive, Gone, site, stand}
-use Rattle.trace_tables.specs.declared.places.Place.{Place}
+use Rattle.trace_tables.specs.declared.places.{Place.Place, Stand.Stand as Seen}
 use Rattle.trace_tables.specs.declared.places.Stand.TheVariants as seen
-use Rattle.trace_tables.specs.declared.places.Stand.{Stand as Seen}
 use Rattle.trace_tables.specs.Tables.{Table}
 
 abbrev pub stand_of : Seen → Stand

@@ -4,3 +4,8 @@ pub mod Known
 pub mod Requests
 pub mod Sends
 pub mod Books
+pub mod frames
+pub mod writes
+pub mod timers
+pub mod idle
+pub mod sets

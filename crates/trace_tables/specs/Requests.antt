@@ -2,18 +2,13 @@
 use Rattle.std.specs.Prelude.{◌≡◌, ℕ, ◌+◌, ◌==◌, ◌&&◌, nat_le, max, Bool, true, false, if◌then◌else◌, is_some, List, [], ◌∷◌, Option, Some, None, option_and_then}
 use Rattle.number_table.specs.Entries.{puts, entry_at}
 use Rattle.client_request.specs.Request.{Request}
-use Rattle.client_request.specs.declared.event.Event.{Event}
-use Rattle.client_request.specs.declared.event.What.{What}
-use Rattle.client_request.specs.declared.event.What.TheVariants.{Ask}
-use Rattle.client_request.specs.declared.event.Out.{Out}
+use Rattle.client_request.specs.declared.event.{Event.Event, What.What, What.TheVariants.Ask, Out.Out, Via.Via}
 use Rattle.client_request.specs.declared.event.Out.TheVariants.{Start, Stale, Reply}
-use Rattle.client_request.specs.declared.event.Via.{Via}
 use Rattle.right_trace.specs.Trace.{History, Conf}
 use Rattle.right_trace.specs.Time as time
 use Rattle.right_trace.specs.Requests.{Asking, asking, asks, same_via, start, replied, is_marked}
 use Rattle.right_trace.specs.Causes.{DeadlineHasPassed}
-use Rattle.trace_tables.specs.declared.requests.Requests.{Requests}
-use Rattle.trace_tables.specs.declared.requests.Started.{Started}
+use Rattle.trace_tables.specs.declared.requests.{Requests.Requests, Started.Started}
 use Rattle.trace_tables.specs.Lists.{adds, listed}
 
 abbrev pub nothing : Requests

@@ -1,17 +1,12 @@
 -- What a forward pass keeps of what was sent by datagrams.
 use Rattle.std.specs.Prelude.{◌≡◌, ℕ, suc, ◌==◌, Bool, true, false, if◌then◌else◌, not, length, List, [], ◌∷◌, Option, Some, None}
 use Rattle.number_table.specs.Entries.{entry_at}
-use Rattle.client_request.specs.declared.event.Out.{Out}
-use Rattle.client_request.specs.declared.event.Out.TheVariants.{Send}
-use Rattle.client_request.specs.declared.event.Via.TheVariants.{Dgram}
-use Rattle.right_trace.specs.Trace.{History}
-use Rattle.right_trace.specs.Requests.{same_via}
+use Rattle.client_request.specs.declared.event.{Out.Out, Out.TheVariants.Send, Via.TheVariants.Dgram}
+use Rattle.right_trace.specs.{Trace.History, Requests.same_via}
 use Rattle.right_trace.specs.Causes.{Try, Named, sends, last_try, named}
 use Rattle.right_trace.specs.Orderly.{Sending, sending}
 use Rattle.trace_tables.specs.declared.places.Place.{Place}
-use Rattle.trace_tables.specs.declared.sends.Sends.{Sends}
-use Rattle.trace_tables.specs.declared.sends.Sent.{Sent}
-use Rattle.trace_tables.specs.declared.sends.Tried.{Tried}
+use Rattle.trace_tables.specs.declared.sends.{Sends.Sends, Sent.Sent, Tried.Tried}
 use Rattle.trace_tables.specs.Lists.{adds, listed}
 
 abbrev pub nothing : Sends

@@ -1,15 +1,12 @@
 -- The table of places that a forward pass keeps.
 use Rattle.std.specs.Prelude.{ℕ, ◌==◌, if◌then◌else◌, List, Option, Some, None}
 use Rattle.number_table.specs.Entries.{puts, entry_at}
-use Rattle.client_request.specs.declared.event.What.{What}
+use Rattle.client_request.specs.declared.event.{What.What, Out.Out, Via.Via}
 use Rattle.client_request.specs.declared.event.What.TheVariants.{Opened, OpenFailed}
-use Rattle.client_request.specs.declared.event.Out.{Out}
 use Rattle.client_request.specs.declared.event.Out.TheVariants.{OpenDgram, OpenStream, Close}
-use Rattle.client_request.specs.declared.event.Via.{Via}
 use Rattle.client_request.specs.declared.event.Via.TheVariants.{Dgram, Stream}
-use Rattle.trace_tables.specs.declared.places.Stand.{Stand}
+use Rattle.trace_tables.specs.declared.places.{Stand.Stand, Place.Place}
 use Rattle.trace_tables.specs.declared.places.Stand.TheVariants.{Opening, Alive, Gone}
-use Rattle.trace_tables.specs.declared.places.Place.{Place}
 
 abbrev pub Table : Type 0
 Table = List (ℕ × Place)

@@ -1,5 +1,8 @@
-//! What a forward pass over a trace keeps, by number: its places, its requests, and what was sent. It is what the definitions
-//! of a right trace say of the history so far.
+//! What a forward pass over a trace keeps, by number: its places, its requests, what was sent and written, and what came. It is what the
+//! definitions of a right trace say of the history so far.
+//!
+//! Places, requests and sends stand in the crate itself; what came, and what was written and waits, in `frames`; the last write at each place
+//! in `writes`; since when a stream place is quiet in `timers`, and how long it may be idle in `idle`; sets of numbers under keys in `sets`.
 //!
 //! What a pass over a trace keeps of places, requests and sends is, after each event and out, what the definitions of a
 //! right trace say. By `Books`, `books_go_on`, `deadlines_are_decided`.
@@ -18,11 +21,16 @@
 #![tactic(auto)]
 
 mod books;
+pub mod frames;
+pub mod idle;
 mod laws;
 mod lists;
 mod places;
 mod requests;
 mod sends;
+pub mod sets;
+pub mod timers;
+pub mod writes;
 
 pub use books::Books;
 pub use laws::{books_go_on, deadlines_are_decided};

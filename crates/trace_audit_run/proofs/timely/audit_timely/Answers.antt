@@ -1,6 +1,6 @@
-use Rattle.trace_script.specs.Judged.{conf_of}
+use Rattle.trace_judge.specs.script.Judged.{conf_of}
 use Rattle.std.proofs.Common.{refl}
-use Rattle.trace_timely.proofs.Rows.{if_ok, told, none_is_timely}
+use Rattle.trace_hits.proofs.lemmas.timely.Rows.{if_ok, told, none_is_timely}
 use Rattle.trace_audit_run.proofs.timely.audit_timely.Goals as goal
 
 pub returns : goal.returns

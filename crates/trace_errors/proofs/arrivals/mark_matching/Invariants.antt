@@ -1,6 +1,6 @@
 -- the messages that are left mark what all mark
 use Rattle.std.proofs.Common.{◌≡◌, drop}
-use Rattle.trace_promptness.specs.Prompt.{matches}
+use Rattle.trace_errors.specs.promptness.Prompt.{matches}
 use Rattle.trace_errors.specs.Arrivals.{mark_all}
 use Rattle.trace_errors.proofs.arrivals.mark_matching.Given as goal
 

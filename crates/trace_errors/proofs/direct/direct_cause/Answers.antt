@@ -1,4 +1,4 @@
-use Rattle.trace_questions.proofs.Deciding.{if_ok}
+use Rattle.trace_points.proofs.lemmas.questions.Deciding.{if_ok}
 use Rattle.trace_errors.proofs.Directing.{tells_direct}
 use Rattle.trace_errors.proofs.direct.direct_cause.Goals as goal
 

@@ -1,4 +1,4 @@
-use Rattle.trace_questions.proofs.Deciding.{if_ok}
+use Rattle.trace_points.proofs.lemmas.questions.Deciding.{if_ok}
 use Rattle.trace_errors.proofs.Caused.{tells_server}
 use Rattle.trace_errors.proofs.failures.server_cause.Goals as goal
 

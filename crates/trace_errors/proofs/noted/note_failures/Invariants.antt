@@ -1,6 +1,6 @@
 -- the sends that are left note what all note
 use Rattle.std.proofs.Common.{◌≡◌}
-use Rattle.trace_causes.specs.Failing.{failure}
+use Rattle.trace_points.specs.causes.Failing.{failure}
 use Rattle.trace_errors.specs.Noted.{note_all}
 use Rattle.trace_errors.proofs.noted.note_failures.Given as goal
 

@@ -1,4 +1,4 @@
-use Rattle.trace_questions.proofs.Deciding.{if_ok}
+use Rattle.trace_points.proofs.lemmas.questions.Deciding.{if_ok}
 use Rattle.trace_hits.proofs.Telling.{hit_none, hit_told}
 use Rattle.trace_hits.proofs.row.is_missed.Goals as goal
 

@@ -1,4 +1,4 @@
-use Rattle.trace_questions.proofs.Deciding.{if_ok}
+use Rattle.trace_points.proofs.lemmas.questions.Deciding.{if_ok}
 use Rattle.trace_hits.proofs.Telling.{hit_row}
 use Rattle.trace_hits.proofs.row.misses_hit.Goals as goal
 

@@ -1,4 +1,4 @@
-use Rattle.trace_questions.proofs.Deciding.{if_ok}
+use Rattle.trace_points.proofs.lemmas.questions.Deciding.{if_ok}
 use Rattle.trace_hits.proofs.Telling.{stale_row}
 use Rattle.trace_hits.proofs.serving.misses_stale.Goals as goal
 

@@ -1,5 +1,5 @@
 use Rattle.trace_judge.specs.Verdict.{first_lane}
-use Rattle.trace_script.specs.Judged.{conf_of, settings_of}
+use Rattle.trace_judge.specs.script.Judged.{conf_of, settings_of}
 use Rattle.trace_judge.proofs.Telling.{if_ok}
 use Rattle.trace_judge.proofs.Verdicts.{audited, right_said}
 use Rattle.trace_judge.proofs.auditing.audit.Goals as goal

@@ -1,5 +1,5 @@
 use Rattle.std.proofs.Common.{Some, sym, subst}
-use Rattle.trace_exchanges.specs.Coming.{TellsComing}
+use Rattle.trace_points.specs.exchanges.Coming.{TellsComing}
 use Rattle.trace_judge.specs.Known.{conf_in}
 use Rattle.trace_judge.proofs.Failing.{by_message}
 use Rattle.trace_judge.proofs.failures.fails_by_message.Goals as goal

@@ -1,5 +1,5 @@
 use Rattle.std.proofs.Common.{Some, sym, subst}
-use Rattle.trace_exchanges.specs.Coming.{TellsComing}
+use Rattle.trace_points.specs.exchanges.Coming.{TellsComing}
 use Rattle.trace_judge.specs.Known.{conf_in}
 use Rattle.trace_judge.proofs.Replying.{direct_cause}
 use Rattle.trace_judge.proofs.Telling.{if_ok}

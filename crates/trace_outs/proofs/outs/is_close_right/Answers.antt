@@ -1,4 +1,4 @@
-use Rattle.trace_questions.proofs.Deciding.{if_ok}
+use Rattle.trace_points.proofs.lemmas.questions.Deciding.{if_ok}
 use Rattle.trace_outs.proofs.Judging.{tells_close}
 use Rattle.trace_outs.proofs.outs.is_close_right.Goals as goal
 

@@ -1,5 +1,5 @@
 use Rattle.std.proofs.Common.{◌-◌}
-use Rattle.trace_questions.proofs.Deciding.{if_ok}
+use Rattle.trace_points.proofs.lemmas.questions.Deciding.{if_ok}
 use Rattle.trace_hits.proofs.Viewing.{given_to}
 use Rattle.trace_hits.proofs.kept.Kept.is_given.Goals as goal
 

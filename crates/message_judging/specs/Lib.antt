@@ -1,0 +1,3 @@
+pub mod matching
+pub mod validity
+pub mod views

@@ -1,5 +1,0 @@
-use Rattle.message_views.proofs.Sameness.{tells_same}
-use Rattle.message_views.proofs.same.is_same_message.Goals as goal
-
-pub returns : goal.returns
-returns c = tells_same c.args.a.now c.args.b.now c.compare.result c.compare.ensures.first c.compare.ensures.second c.compare.ensures.same

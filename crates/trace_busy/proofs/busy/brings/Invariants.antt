@@ -1,7 +1,0 @@
--- the frames that are left bring what all bring
-use Rattle.std.proofs.Common.{◌≡◌, drop}
-use Rattle.trace_due.specs.Loose.{brings_seen}
-use Rattle.trace_busy.proofs.busy.brings.Given as goal
-
-abbrev pub invariant-loop-frame : goal.invariant-loop-frame
-invariant-loop-frame l = brings_seen l.id (drop l.frame-index l.frames) ≡ brings_seen l.id l.frames

@@ -1,7 +1,0 @@
--- those that are left tell what all tell
-use Rattle.std.proofs.Common.{◌≡◌, drop}
-use Rattle.trace_causes.specs.Failing.{some_wrong}
-use Rattle.trace_causes.proofs.failing.some_wrong.Given as goal
-
-abbrev pub invariant-loop-coming : goal.invariant-loop-coming
-invariant-loop-coming l = some_wrong l.request (drop l.coming-index l.comings) ≡ some_wrong l.request l.comings

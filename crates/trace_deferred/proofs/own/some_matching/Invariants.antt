@@ -1,7 +1,0 @@
--- those that are left tell what all tell
-use Rattle.std.proofs.Common.{◌≡◌, drop}
-use Rattle.trace_deferred.specs.Own.{some_matching}
-use Rattle.trace_deferred.proofs.own.some_matching.Given as goal
-
-abbrev pub invariant-loop-coming : goal.invariant-loop-coming
-invariant-loop-coming l = some_matching l.request (drop l.coming-index l.comings) ≡ some_matching l.request l.comings

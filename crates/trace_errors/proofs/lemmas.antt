@@ -1,0 +1,3 @@
+pub mod promptness
+pub mod owed
+pub mod deferred

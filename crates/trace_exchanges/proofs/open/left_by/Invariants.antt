@@ -1,7 +1,0 @@
--- what is left of those that were looked at
-use Rattle.std.proofs.Common.{◌≡◌}
-use Rattle.trace_exchanges.specs.Open.{left_open}
-use Rattle.trace_exchanges.proofs.open.left_by.Given as goal
-
-abbrev pub invariant-loop-send : goal.invariant-loop-send
-invariant-loop-send l = l.left ≡ left_open l.messages l.askings l.yielded

@@ -1,5 +1,0 @@
-use Rattle.trace_firsts.proofs.Failed.{tells_message_fails}
-use Rattle.trace_firsts.proofs.failing.message_fails.Goals as goal
-
-pub returns-clause-told : goal.returns-clause-told
-returns-clause-told c = let a = c.args in tells_message_fails a.settings.now a.request a.done a.comings.now a.firsts.now c.find_failing.result c.find_failing.ensures

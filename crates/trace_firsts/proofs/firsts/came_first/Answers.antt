@@ -1,5 +1,0 @@
-use Rattle.trace_firsts.proofs.Telling.{tells_first}
-use Rattle.trace_firsts.proofs.firsts.came_first.Goals as goal
-
-pub returns-clause-told : goal.returns-clause-told
-returns-clause-told c d = tells_first d c.args.request c.args.message.now c.args.came c.args.firsts.now c.find_first.result c.find_first.ensures

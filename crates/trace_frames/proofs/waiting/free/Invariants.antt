@@ -1,7 +1,0 @@
--- the frames that are left free what all free
-use Rattle.std.proofs.Common.{◌≡◌, drop}
-use Rattle.trace_frames.specs.Waiting.{freed_by}
-use Rattle.trace_frames.proofs.waiting.free.Given as goal
-
-abbrev pub invariant-loop-frame : goal.invariant-loop-frame
-invariant-loop-frame l = freed_by (drop l.frame-index l.frames) l.waiting ≡ freed_by l.frames l.fn.waiting

@@ -1,7 +1,0 @@
--- those that are left bring what all bring
-use Rattle.std.proofs.Common.{◌≡◌, drop}
-use Rattle.trace_given.specs.Coming.{some_brings}
-use Rattle.trace_given.proofs.coming.some_brings.Given as goal
-
-abbrev pub invariant-loop-coming : goal.invariant-loop-coming
-invariant-loop-coming l = some_brings l.request l.message (drop l.coming-index l.comings) ≡ some_brings l.request l.message l.comings

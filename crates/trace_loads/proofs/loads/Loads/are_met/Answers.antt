@@ -1,5 +1,0 @@
-use Rattle.trace_loads.proofs.Meeting.{tells_met}
-use Rattle.trace_loads.proofs.loads.Loads.are_met.Goals as goal
-
-pub returns-clause-told : goal.returns-clause-told
-returns-clause-told c = tells_met c.args.self.now c.is_empty.result c.is_empty.ensures

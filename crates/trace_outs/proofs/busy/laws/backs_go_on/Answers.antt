@@ -1,0 +1,5 @@
+use Rattle.trace_outs.proofs.lemmas.busy.Backing.{goes_on}
+use Rattle.trace_outs.proofs.busy.laws.backs_go_on.Goals as goal
+
+pub returns : goal.returns
+returns c = goes_on

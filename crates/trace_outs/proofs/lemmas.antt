@@ -1,0 +1,3 @@
+pub mod loads
+pub mod reasons
+pub mod busy

@@ -1,0 +1,6 @@
+pub mod questions
+pub mod exchanges
+pub mod due
+pub mod pass
+pub mod events
+pub mod causes

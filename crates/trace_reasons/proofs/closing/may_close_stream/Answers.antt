@@ -1,5 +1,0 @@
-use Rattle.trace_reasons.proofs.Streams.{tells_stream}
-use Rattle.trace_reasons.proofs.closing.may_close_stream.Goals as goal
-
-pub returns : goal.returns
-returns c = let a = c.args in tells_stream a.place a.point.now c.in_ok-is_idle.is_idle c.stream_closes_or.result c.in_ok-is_idle.ensures c.stream_closes_or.ensures

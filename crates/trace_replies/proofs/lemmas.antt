@@ -1,0 +1,4 @@
+pub mod firsts
+pub mod given
+pub mod views
+pub mod messages

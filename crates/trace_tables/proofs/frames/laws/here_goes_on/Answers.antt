@@ -1,0 +1,5 @@
+use Rattle.trace_tables.proofs.lemmas.frames.Opening.{goes_on}
+use Rattle.trace_tables.proofs.frames.laws.here_goes_on.Goals as goal
+
+pub returns : goal.returns
+returns c = goes_on

@@ -1,7 +1,0 @@
--- the rows that are left give what all give
-use Rattle.std.proofs.Common.{◌≡◌, drop}
-use Rattle.trace_timely.specs.Waiting.{after_rows}
-use Rattle.trace_timely.proofs.waiting.Waiting.take_all.Given as goal
-
-abbrev pub invariant-loop-row : goal.invariant-loop-row
-invariant-loop-row l = after_rows (drop l.row-index l.rows) l.self ≡ after_rows l.rows l.fn.self

@@ -1,8 +1,0 @@
-//! Which request is late where a row is not timely.
-
-ghost use Rattle.trace_timely.specs.Longest.{LateAreNamed};
-
-/// At the first row that is not timely the request that waits longest is at its timeout or past it. It does nothing.
-pub fn late_requests_are_named()
-    ensures { LateAreNamed }
-{}
