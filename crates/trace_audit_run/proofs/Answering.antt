@@ -7,9 +7,8 @@ use Rattle.dns_values.specs.Source.{Rose}
 use Rattle.dns_script.specs.ScriptReading.{IsScript, RefusesLine}
 use Rattle.dns_script.specs.TraceReading.{RefusesTraceLine}
 use Rattle.dns_script.specs.declared.script.Script.{Script}
-use Rattle.trace_audit_run.specs.declared.stop.Stop.{Stop}
+use Rattle.trace_audit_run.specs.declared.stop.{Stop.Stop, Text.Text}
 use Rattle.trace_audit_run.specs.declared.stop.Stop.TheVariants.{Line, Long, NoMemory, Unread}
-use Rattle.trace_audit_run.specs.declared.stop.Text.{Text}
 use Rattle.trace_audit_run.specs.declared.stop.Text.TheVariants as texts
 use Rattle.trace_audit_run.specs.declared.texts.Answer.{Answer}
 use Rattle.trace_audit_run.specs.declared.words.Asked.{Asked}

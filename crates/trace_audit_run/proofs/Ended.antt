@@ -5,8 +5,7 @@ use Rattle.dns_values.specs.declared.numbers.Status.{Status}
 use Rattle.trace_audit_run.specs.Ends.{AuditEnds, End, is_approved, is_denied, is_misused, is_stopped, is_unwritten, out_of_memory}
 use Rattle.trace_audit_run.specs.Ends as ends
 use Rattle.trace_audit_run.specs.Program.{IsAudited, IsGood, IsStop}
-use Rattle.trace_audit_run.specs.Sentences.{Names}
-use Rattle.trace_audit_run.specs.Stops.{status_of}
+use Rattle.trace_audit_run.specs.{Sentences.Names, Stops.status_of}
 use Rattle.trace_audit_run.specs.Words.{are_two, asked_by, names_among}
 use Rattle.trace_audit_run.specs.declared.stop.Stop.{Stop}
 use Rattle.trace_audit_run.specs.declared.texts.Answer.{Answer}

@@ -4,8 +4,7 @@ use Rattle.std.specs.Prelude.{ℕ}
 use Rattle.client_request.specs.declared.event.Row.{Row}
 use Rattle.dns_script.specs.declared.script.Script.{Script}
 use Rattle.right_trace.specs.Trace.{Conf}
-use Rattle.trace_hits.specs.Hits.{TellsMissedHit}
-use Rattle.trace_hits.specs.Stale.{TellsMissedStale}
+use Rattle.trace_hits.specs.{Hits.TellsMissedHit, Stale.TellsMissedStale}
 use Rattle.trace_judge.specs.script.Judged.{conf_of, settings_of}
 use Rattle.trace_audit_run.specs.declared.missed.Missed.{Missed}
 use Rattle.trace_audit_run.specs.Missed.{TellsMissed}

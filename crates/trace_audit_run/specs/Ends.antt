@@ -1,8 +1,7 @@
 -- How the program ends, and what is told then.
 use Rattle.std.specs.Prelude.{◌≡◌, ℕ, false, List, Option, codes}
 use Rattle.command_parts.specs.Ends.{IsBegun, IsSaid}
-use Rattle.dns_values.specs.Sink.{with_octets}
-use Rattle.dns_values.specs.Source.{Rose}
+use Rattle.dns_values.specs.{Sink.with_octets, Source.Rose}
 use Rattle.program_words.specs.Pages.{version_line}
 use Rattle.program_words.specs.declared.page.Page.{Page}
 use Rattle.program_words.specs.declared.page.Page.TheVariants.{Help, Version}

@@ -3,8 +3,7 @@ use Rattle.std.specs.Prelude.{List, [], None}
 use Rattle.client_request.specs.declared.event.Row.{Row}
 use Rattle.right_trace.specs.Right.{Right}
 use Rattle.dns_script.specs.declared.script.Script.{Script}
-use Rattle.trace_hits.specs.Hits.{IsMissedHit}
-use Rattle.trace_hits.specs.Stale.{IsMissedStale}
+use Rattle.trace_hits.specs.{Hits.IsMissedHit, Stale.IsMissedStale}
 use Rattle.trace_judge.specs.script.Judged.{conf_of, settings_of}
 use Rattle.trace_audit_run.specs.declared.missed.Missed.{Missed}
 

@@ -15,9 +15,8 @@ use Rattle.trace_judge.specs.declared.verdict.Clause.{Clause}
 use Rattle.trace_judge.specs.declared.verdict.Verdict.TheVariants.{Right, Wrong}
 use Rattle.trace_hits.specs.timely.Timely.{IsUntimely}
 use Rattle.trace_audit_run.specs.declared.missed.Missed.{Missed}
-use Rattle.trace_audit_run.specs.declared.stop.Stop.{Stop}
+use Rattle.trace_audit_run.specs.declared.stop.{Stop.Stop, Text.Text}
 use Rattle.trace_audit_run.specs.declared.stop.Stop.TheVariants.{Line, Long, NoMemory, Unread}
-use Rattle.trace_audit_run.specs.declared.stop.Text.{Text}
 use Rattle.trace_audit_run.specs.declared.stop.Text.TheVariants as texts
 use Rattle.trace_audit_run.specs.declared.texts.Answer.{Answer}
 use Rattle.trace_audit_run.specs.declared.words.Asked.{Asked}

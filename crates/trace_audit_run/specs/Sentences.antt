@@ -5,9 +5,8 @@ use Rattle.std.specs.declared.alloc.Global.{Global}
 use Rattle.trace_judge.specs.declared.verdict.Verdict.{Verdict}
 use Rattle.trace_judge.specs.declared.verdict.Verdict.TheVariants.{Right, Wrong}
 use Rattle.trace_audit_run.specs.declared.missed.Missed.{Missed}
-use Rattle.trace_audit_run.specs.declared.stop.Stop.{Stop}
+use Rattle.trace_audit_run.specs.declared.stop.{Stop.Stop, Text.Text}
 use Rattle.trace_audit_run.specs.declared.stop.Stop.TheVariants as stops
-use Rattle.trace_audit_run.specs.declared.stop.Text.{Text}
 use Rattle.trace_audit_run.specs.declared.stop.Text.TheVariants as texts
 use Rattle.trace_audit_run.specs.declared.texts.Answer.{Answer}
 use Rattle.trace_audit_run.specs.Lines.{name_of}

@@ -1,10 +1,8 @@
 -- The words of the command line: options, and behind them the names of a script and of a trace.
 use Rattle.std.specs.Prelude.{ℕ, Bool, true, false, if◌then◌else◌, List, [], ◌∷◌, Option, Some, None, String, codes}
 use Rattle.std.specs.declared.alloc.Global.{Global}
-use Rattle.std.specs.Str.{bytes_eq}
-use Rattle.std.specs.String.{string_bytes}
-use Rattle.trace_audit_run.specs.declared.words.Asked.{Asked}
-use Rattle.trace_audit_run.specs.declared.words.Choice.{Choice}
+use Rattle.std.specs.{Str.bytes_eq, String.string_bytes}
+use Rattle.trace_audit_run.specs.declared.words.{Asked.Asked, Choice.Choice}
 use Rattle.trace_audit_run.specs.declared.words.Choice.TheVariants.{Timely, All, Explain}
 
 -- what a word asks for, if it is an option

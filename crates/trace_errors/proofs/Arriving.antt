@@ -3,23 +3,17 @@ use Rattle.std.proofs.Common.{◌≡◌, ℕ, ◌==◌, ◌&&◌, ◌⊎◌, inl
 use Rattle.std.specs.Prelude.{is_some}
 use Rattle.number_table.specs.Entries.{puts, entry_at}
 use Rattle.client_request.specs.Request.{Request}
-use Rattle.client_request.specs.declared.event.Row.{Row}
-use Rattle.client_request.specs.declared.event.Via.{Via}
+use Rattle.client_request.specs.declared.event.{Row.Row, Via.Via}
 use Rattle.client_request.specs.declared.event.Via.TheVariants.{Dgram, Stream}
 use Rattle.right_trace.specs.Trace.{History, Conf, after}
 use Rattle.right_trace.specs.Time.{now, newest, row_before, OfRow}
-use Rattle.right_trace.specs.Settings.{Settings}
+use Rattle.right_trace.specs.{Settings.Settings, Parts.IsIn, Frames.came, Keys.is_cacheable, Timers.ReadTimerIsDue, Errors.CameWithoutValidity}
 use Rattle.right_trace.specs.Messages.{Octets, answers, truncated}
 use Rattle.right_trace.specs.Requests.{Asking, asking}
 use Rattle.right_trace.specs.Places.{site, is_of_kind}
-use Rattle.right_trace.specs.Parts.{IsIn}
-use Rattle.right_trace.specs.Frames.{came}
-use Rattle.right_trace.specs.Keys.{is_cacheable}
 use Rattle.right_trace.specs.Validity.{validity_of_message, is_deferred}
-use Rattle.right_trace.specs.Timers.{ReadTimerIsDue}
 use Rattle.right_trace.specs.Exchanges.{Matches, is_whole, first_of}
 use Rattle.right_trace.specs.Coming.{IsExcused, SomeCame}
-use Rattle.right_trace.specs.Errors.{CameWithoutValidity}
 use Rattle.trace_tables.specs.declared.places.Place.{Place}
 use Rattle.trace_tables.specs.Known.{site_seen}
 use Rattle.trace_tables.proofs.Tables.{at_puts}

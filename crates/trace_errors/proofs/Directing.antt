@@ -6,13 +6,10 @@ use Rattle.client_request.specs.declared.event.What.{What}
 use Rattle.client_request.specs.declared.event.What.TheVariants.{OpenFailed, SendFailed, ShortSend, RecvFailed, Tick}
 use Rattle.right_trace.specs.Trace.{History, Conf, Came, Put}
 use Rattle.right_trace.specs.Time.{newest, row_before, EarlierRow, OfRow, max_tries}
-use Rattle.right_trace.specs.Settings.{Settings}
-use Rattle.right_trace.specs.Messages.{Octets}
+use Rattle.right_trace.specs.{Settings.Settings, Messages.Octets, Parts.IsIn, Validity.is_deferred}
 use Rattle.right_trace.specs.Requests.{Asking, asks, is_ask, is_asked_here}
-use Rattle.right_trace.specs.Parts.{IsIn}
 use Rattle.right_trace.specs.Causes.{ServerCause, NotOpened, NotSent, SentShort, NotReceived, NoAnswer, WrongReply, StreamSilence, NotRead, NotComposed}
 use Rattle.right_trace.specs.Errors.{HereOrEarlier, Here as Now, Earlier as Before, CameWithoutValidity, DirectCause, Deadline, NoServer, ByServer, NoValidity}
-use Rattle.right_trace.specs.Validity.{is_deferred}
 use Rattle.trace_tables.specs.declared.books.Books.{Books}
 use Rattle.trace_tables.specs.Books as books
 use Rattle.trace_tables.proofs.Asking.{deadline_decides}

@@ -5,27 +5,17 @@ use Rattle.client_request.specs.declared.error.Error.TheVariants as errors
 use Rattle.client_request.specs.declared.error.QueryError.TheVariants as query
 use Rattle.client_request.specs.declared.fault.Fault.{Fault}
 use Rattle.client_request.specs.declared.fault.Fault.TheVariants as fault
-use Rattle.client_request.specs.declared.event.What.{What}
+use Rattle.client_request.specs.declared.event.{What.What, Out.Out, Row.Row, Via.Via}
 use Rattle.client_request.specs.declared.event.What.TheVariants.{SendFailed, ShortSend, RecvFailed, Tick}
-use Rattle.client_request.specs.declared.event.Out.{Out}
 use Rattle.client_request.specs.declared.event.Out.TheVariants.{Start, OpenDgram, OpenStream, Send, Write, Resume, Close, Stale, Reply}
-use Rattle.client_request.specs.declared.event.Row.{Row}
-use Rattle.client_request.specs.declared.event.Via.{Via}
 use Rattle.client_request.specs.declared.event.Via.TheVariants.{Dgram, Stream}
 use Rattle.right_trace.specs.Trace.{History, Conf, Came, Put, after}
 use Rattle.right_trace.specs.Time.{now, newest, max_tries}
-use Rattle.right_trace.specs.Messages.{answers}
-use Rattle.right_trace.specs.Settings.{Settings}
-use Rattle.right_trace.specs.Requests.{same_via}
-use Rattle.right_trace.specs.Places.{is_at}
-use Rattle.right_trace.specs.Parts.{IsIn}
-use Rattle.right_trace.specs.Exchanges.{Comes}
+use Rattle.right_trace.specs.{Messages.answers, Settings.Settings, Requests.same_via, Places.is_at, Parts.IsIn, Exchanges.Comes, Right.RowRight}
 use Rattle.right_trace.specs.Causes.{Try, Named, named, IsOneOf, last_try, FailedAt, TriesAreUp, StreamIsSilent, Heard, CameWrong, ServerCause, NoAnswer, WrongReply, StreamSilence}
-use Rattle.right_trace.specs.Right.{RowRight}
 use Rattle.trace_tables.specs.declared.books.Books.{Books}
 use Rattle.trace_tables.specs.declared.sends.Sent.{Sent}
-use Rattle.trace_tables.specs.Lists.{listed}
-use Rattle.trace_tables.specs.Sends.{names_of}
+use Rattle.trace_tables.specs.{Lists.listed, Sends.names_of}
 use Rattle.trace_tables.specs.Books as books
 use Rattle.trace_tables.proofs.Listing.{listed_adds}
 use Rattle.trace_points.specs.declared.exchanges.coming.Coming.{Coming}

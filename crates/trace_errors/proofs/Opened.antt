@@ -6,11 +6,9 @@ use Rattle.client_request.specs.declared.error.Error.TheVariants as errors
 use Rattle.client_request.specs.declared.error.QueryError.TheVariants as query
 use Rattle.client_request.specs.declared.fault.Fault.{Fault}
 use Rattle.client_request.specs.declared.fault.Fault.TheVariants as fault
-use Rattle.client_request.specs.declared.event.What.{What}
+use Rattle.client_request.specs.declared.event.{What.What, Out.Out, Row.Row}
 use Rattle.client_request.specs.declared.event.What.TheVariants.{Ask, Opened, OpenFailed, SendFailed, ShortSend, Datagram, RecvFailed, Wrote, WriteFailed, Bytes, ReadFailed, Ended, Tick}
-use Rattle.client_request.specs.declared.event.Out.{Out}
 use Rattle.client_request.specs.declared.event.Out.TheVariants.{Start, OpenDgram, OpenStream, Send, Write, Resume, Close, Stale, Reply}
-use Rattle.client_request.specs.declared.event.Row.{Row}
 use Rattle.client_request.specs.declared.event.Via.TheVariants.{Dgram, Stream}
 use Rattle.right_trace.specs.Trace.{History, Conf, Came, Put, put_all, after}
 use Rattle.right_trace.specs.Time.{now, newest, row_before}
@@ -21,18 +19,14 @@ use Rattle.trace_tables.specs.declared.books.Books.{Books}
 use Rattle.trace_tables.specs.declared.places.Place.{Place}
 use Rattle.trace_tables.specs.declared.requests.Requests.{Requests}
 use Rattle.trace_tables.specs.Lists.{listed, adds}
-use Rattle.trace_tables.specs.Tables.{Table}
-use Rattle.trace_tables.specs.Requests.{started_seen}
+use Rattle.trace_tables.specs.{Tables.Table, Requests.started_seen}
 use Rattle.trace_tables.specs.Books as books
-use Rattle.trace_tables.proofs.Listing.{listed_adds}
-use Rattle.trace_tables.proofs.Tables.{at_puts}
+use Rattle.trace_tables.proofs.{Listing.listed_adds, Tables.at_puts}
 use Rattle.trace_points.specs.questions.Causes.{was_opening, fault_at, opening_fault}
 use Rattle.trace_points.proofs.lemmas.questions.Failing.{opening_decides}
 use Rattle.trace_errors.proofs.lemmas.promptness.Hearing.{before_row, row_event}
 use Rattle.trace_errors.proofs.Caused.{cause_of}
-use Rattle.trace_errors.specs.declared.openings.Begun.{Begun}
-use Rattle.trace_errors.specs.declared.openings.Refused.{Refused}
-use Rattle.trace_errors.specs.declared.openings.Openings.{Openings}
+use Rattle.trace_errors.specs.declared.openings.{Begun.Begun, Refused.Refused, Openings.Openings}
 use Rattle.trace_errors.specs.Rows.{IsCaused, WasCaused}
 use Rattle.trace_errors.specs.Openings.{begins, begin_all, refused_at, refused_by, number_of, key_of, refuses, after_row, IsSince, IsRefusedAmong, Known, GoesOn}
 use Rattle.trace_errors.proofs.Rows.{same_number, own, more_so, more_kept, more_new, row_later, row_was}

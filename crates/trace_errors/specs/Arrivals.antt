@@ -3,14 +3,8 @@ use Rattle.std.specs.Prelude.{◌≡◌, ℕ, ◌&&◌, not, Bool, true, false, 
 use Rattle.number_table.specs.Entries.{puts, entry_at}
 use Rattle.client_request.specs.declared.event.Row.{Row}
 use Rattle.right_trace.specs.Trace.{History, Conf, after}
-use Rattle.right_trace.specs.Time.{OfRow}
-use Rattle.right_trace.specs.Settings.{Settings}
-use Rattle.right_trace.specs.Messages.{Octets}
-use Rattle.right_trace.specs.Requests.{Asking}
-use Rattle.right_trace.specs.Keys.{is_cacheable}
+use Rattle.right_trace.specs.{Time.OfRow, Settings.Settings, Messages.Octets, Requests.Asking, Keys.is_cacheable, Coming.SomeCame, Errors.CameWithoutValidity}
 use Rattle.right_trace.specs.Validity.{validity_of_message, is_deferred}
-use Rattle.right_trace.specs.Coming.{SomeCame}
-use Rattle.right_trace.specs.Errors.{CameWithoutValidity}
 use Rattle.trace_tables.specs.declared.frames.here.Here.{Here}
 use Rattle.trace_tables.specs.declared.frames.ledger.Ledger.{Ledger}
 use Rattle.trace_tables.specs.frames.Ledger as ledger

@@ -5,9 +5,8 @@ use Rattle.client_request.specs.declared.error.Error.TheVariants as errors
 use Rattle.client_request.specs.declared.event.What.{What}
 use Rattle.right_trace.specs.Trace.{History, Conf}
 use Rattle.right_trace.specs.Time.{newest, row_before}
-use Rattle.right_trace.specs.Settings.{Settings}
+use Rattle.right_trace.specs.{Settings.Settings, Errors.DirectCause}
 use Rattle.right_trace.specs.Requests.{Asking, is_ask}
-use Rattle.right_trace.specs.Errors.{DirectCause}
 use Rattle.trace_tables.specs.declared.books.Books.{Books}
 use Rattle.trace_tables.specs.Requests.{deadline_seen}
 use Rattle.trace_tables.specs.Books as books
@@ -16,10 +15,9 @@ use Rattle.trace_points.specs.declared.exchanges.coming.Coming.{Coming}
 use Rattle.trace_points.specs.exchanges.Coming.{is_wanted, AllComing}
 use Rattle.trace_errors.specs.promptness.Heard.{Heards}
 use Rattle.trace_errors.specs.promptness.Heard as heards
-use Rattle.trace_errors.specs.Failures.{TellsServer}
+use Rattle.trace_errors.specs.{Failures.TellsServer, Earlier.TellsEarlier}
 use Rattle.trace_errors.specs.declared.earlier.Earlier.{Earlier}
 use Rattle.trace_errors.specs.Arrivals.{is_unkept, is_marked}
-use Rattle.trace_errors.specs.Earlier.{TellsEarlier}
 use Rattle.trace_errors.specs.Earlier as earlier
 
 -- the row asks request k

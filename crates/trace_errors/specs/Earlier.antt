@@ -5,8 +5,7 @@ use Rattle.client_request.specs.declared.error.Error.TheVariants as errors
 use Rattle.client_request.specs.declared.error.QueryError.TheVariants as query
 use Rattle.client_request.specs.declared.event.Row.{Row}
 use Rattle.right_trace.specs.Trace.{History, Conf, after}
-use Rattle.right_trace.specs.Settings.{Settings}
-use Rattle.right_trace.specs.Right.{RowRight}
+use Rattle.right_trace.specs.{Settings.Settings, Right.RowRight}
 use Rattle.trace_tables.specs.declared.books.Books.{Books}
 use Rattle.trace_tables.specs.Books as books
 use Rattle.trace_tables.specs.declared.frames.here.Here.{Here}
@@ -23,8 +22,7 @@ use Rattle.trace_errors.specs.promptness.Heard.{Heards}
 use Rattle.trace_errors.specs.promptness.Heard as heards
 use Rattle.trace_errors.specs.promptness.Overdue.{tries_are_up, stream_is_silent}
 use Rattle.trace_errors.specs.declared.earlier.Earlier.{Earlier}
-use Rattle.trace_errors.specs.Rows.{WasCaused}
-use Rattle.trace_errors.specs.Openings.{IsRefused}
+use Rattle.trace_errors.specs.{Rows.WasCaused, Openings.IsRefused}
 use Rattle.trace_errors.specs.Openings as openings
 use Rattle.trace_errors.specs.Noted.{Noted, IsNoted}
 use Rattle.trace_errors.specs.Noted as noted

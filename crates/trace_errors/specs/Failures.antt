@@ -5,12 +5,10 @@ use Rattle.client_request.specs.declared.error.Error.TheVariants as errors
 use Rattle.client_request.specs.declared.error.QueryError.TheVariants as query
 use Rattle.client_request.specs.declared.event.What.{What}
 use Rattle.right_trace.specs.Trace.{History, Conf}
-use Rattle.right_trace.specs.Time.{newest}
-use Rattle.right_trace.specs.Causes.{ServerCause}
+use Rattle.right_trace.specs.{Time.newest, Causes.ServerCause}
 use Rattle.trace_tables.specs.declared.books.Books.{Books}
 use Rattle.trace_tables.specs.Books as books
-use Rattle.trace_points.specs.questions.Causes.{opening_fault}
-use Rattle.trace_points.specs.questions.Outs.{Tells}
+use Rattle.trace_points.specs.questions.{Causes.opening_fault, Outs.Tells}
 use Rattle.trace_points.specs.declared.exchanges.coming.Coming.{Coming}
 use Rattle.trace_points.specs.exchanges.Coming.{is_wanted, AllComing}
 use Rattle.trace_points.specs.causes.Failing.{Fails, some_wrong, TellsUnread, TellsTooMany}

@@ -4,19 +4,11 @@ use Rattle.client_request.specs.declared.error.Error.{Error}
 use Rattle.client_request.specs.declared.error.Error.TheVariants as errors
 use Rattle.client_request.specs.declared.error.QueryError.TheVariants as query
 use Rattle.client_request.specs.declared.fault.Fault.{Fault}
-use Rattle.client_request.specs.declared.event.What.{What}
+use Rattle.client_request.specs.declared.event.{What.What, Out.Out, Out.TheVariants.Close, Row.Row, Via.TheVariants.Stream}
 use Rattle.client_request.specs.declared.event.What.TheVariants.{OpenFailed, SendFailed, ShortSend, RecvFailed}
-use Rattle.client_request.specs.declared.event.Out.{Out}
-use Rattle.client_request.specs.declared.event.Out.TheVariants.{Close}
-use Rattle.client_request.specs.declared.event.Row.{Row}
-use Rattle.client_request.specs.declared.event.Via.TheVariants.{Stream}
 use Rattle.right_trace.specs.Trace.{History, Conf, after}
-use Rattle.right_trace.specs.Time.{now}
-use Rattle.right_trace.specs.Settings.{Settings}
-use Rattle.right_trace.specs.Requests.{same_via}
-use Rattle.right_trace.specs.Parts.{IsIn}
+use Rattle.right_trace.specs.{Time.now, Settings.Settings, Requests.same_via, Parts.IsIn, Right.RowRight}
 use Rattle.right_trace.specs.Causes.{TriesAreUp, StreamIsSilent}
-use Rattle.right_trace.specs.Right.{RowRight}
 use Rattle.trace_tables.specs.declared.books.Books.{Books}
 use Rattle.trace_tables.specs.Books as books
 use Rattle.trace_tables.specs.Lists.{listed, adds}

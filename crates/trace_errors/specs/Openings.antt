@@ -5,12 +5,7 @@ use Rattle.client_request.specs.declared.error.Error.TheVariants as errors
 use Rattle.client_request.specs.declared.error.QueryError.TheVariants as query
 use Rattle.client_request.specs.declared.fault.Fault.{Fault}
 use Rattle.client_request.specs.declared.fault.Fault.TheVariants as fault
-use Rattle.client_request.specs.declared.event.What.{What}
-use Rattle.client_request.specs.declared.event.What.TheVariants.{OpenFailed}
-use Rattle.client_request.specs.declared.event.Out.{Out}
-use Rattle.client_request.specs.declared.event.Out.TheVariants.{Start}
-use Rattle.client_request.specs.declared.event.Row.{Row}
-use Rattle.client_request.specs.declared.event.Via.TheVariants.{Dgram}
+use Rattle.client_request.specs.declared.event.{What.What, What.TheVariants.OpenFailed, Out.Out, Out.TheVariants.Start, Row.Row, Via.TheVariants.Dgram}
 use Rattle.right_trace.specs.Trace.{History, Conf, after}
 use Rattle.right_trace.specs.Requests.{same_via, started}
 use Rattle.right_trace.specs.Parts.{IsIn}
@@ -20,9 +15,7 @@ use Rattle.trace_tables.specs.Lists.{listed, adds}
 use Rattle.trace_tables.specs.Books as books
 use Rattle.trace_tables.specs.declared.books.Books.{Books}
 use Rattle.trace_points.specs.questions.Causes.{was_opening}
-use Rattle.trace_errors.specs.declared.openings.Begun.{Begun}
-use Rattle.trace_errors.specs.declared.openings.Refused.{Refused}
-use Rattle.trace_errors.specs.declared.openings.Openings.{Openings}
+use Rattle.trace_errors.specs.declared.openings.{Begun.Begun, Refused.Refused, Openings.Openings}
 use Rattle.trace_errors.specs.Rows.{WasCaused}
 
 abbrev pub nothing : Openings

@@ -3,17 +3,12 @@ use Rattle.std.proofs.Common.{◌≡◌, ℕ, ◌<◌, ◌==◌, ◌||◌, Bool,
 use Rattle.std.specs.Prelude.{Ok}
 use Rattle.std.proofs.lemmas.Bool.{or_right}
 use Rattle.std.proofs.lemmas.Bool.Decides.{nat_tests}
-use Rattle.client_request.specs.declared.event.Event.{Event}
-use Rattle.client_request.specs.declared.event.What.{What}
-use Rattle.client_request.specs.declared.event.Out.{Out}
+use Rattle.client_request.specs.declared.event.{Event.Event, What.What, Out.Out, Row.Row}
 use Rattle.client_request.specs.declared.event.Out.TheVariants.{Start, OpenDgram, OpenStream, Send, Write, Resume, Close, Stale, Reply}
-use Rattle.client_request.specs.declared.event.Row.{Row}
 use Rattle.right_trace.specs.Trace.{History, Conf, Came, Put, put_all, after}
 use Rattle.right_trace.specs.Time.{row_before, Ever, OfRow}
-use Rattle.right_trace.specs.Messages.{Octets}
-use Rattle.right_trace.specs.Settings.{Settings}
+use Rattle.right_trace.specs.{Messages.Octets, Settings.Settings, Coming.CameFor}
 use Rattle.right_trace.specs.Requests.{Asking, asks, asking, is_asked_here, is_reply, is_marked, replied}
-use Rattle.right_trace.specs.Coming.{CameFor}
 use Rattle.right_trace.specs.Replies.{IsFresh, InThisRow, Deferred, IsFreshReply, Fresh, View}
 use Rattle.right_trace.specs.Stale.{MessageIsRight, Unmarked, Marked}
 use Rattle.right_trace.specs.Right.{IsAsked, IsFirst, OutRight, OutsRight, RowRight}

@@ -4,18 +4,13 @@ use Rattle.std.specs.Prelude.{if◌then◌else◌, is_some, Result, Ok, Err}
 use Rattle.std.specs.List.{list_any}
 use Rattle.client_request.specs.declared.error.Error.{Error}
 use Rattle.client_request.specs.declared.error.Error.TheVariants as errors
-use Rattle.client_request.specs.declared.event.What.{What}
-use Rattle.client_request.specs.declared.event.Out.{Out}
+use Rattle.client_request.specs.declared.event.{What.What, Out.Out}
 use Rattle.client_request.specs.declared.event.Out.TheVariants.{Start, OpenDgram, OpenStream, Send, Write, Resume, Close, Stale, Reply}
 use Rattle.client_settings.specs.Settings.{CacheSettings}
 use Rattle.right_trace.specs.Trace.{History, Conf, Put}
 use Rattle.right_trace.specs.Time.{newest, row_before}
-use Rattle.right_trace.specs.Messages.{Octets}
-use Rattle.right_trace.specs.Settings.{Settings}
+use Rattle.right_trace.specs.{Messages.Octets, Settings.Settings, Parts.IsIn, Keys.is_cacheable, Views.is_failing_message}
 use Rattle.right_trace.specs.Requests.{Asking, asks, is_ask, is_asked_here}
-use Rattle.right_trace.specs.Parts.{IsIn}
-use Rattle.right_trace.specs.Keys.{is_cacheable}
-use Rattle.right_trace.specs.Views.{is_failing_message}
 use Rattle.right_trace.specs.Errors.{is_failure, CameWithoutValidity}
 use Rattle.right_trace.specs.StaleServed.{CameUnread, FailsBy, NoneFails}
 use Rattle.cache_rules.specs.Validity.{cached_by}
@@ -33,8 +28,7 @@ use Rattle.trace_errors.proofs.Directing.{asked_is}
 use Rattle.trace_points.specs.declared.pass.pass.Pass.{Pass}
 use Rattle.trace_points.specs.pass.Pass as pass
 use Rattle.trace_points.proofs.lemmas.pass.Taking as passes
-use Rattle.trace_hits.specs.Known.{HasCache}
-use Rattle.trace_hits.specs.Point.{is_number}
+use Rattle.trace_hits.specs.{Known.HasCache, Point.is_number}
 use Rattle.trace_hits.specs.Failing.{is_unread, came_unread, message_fails, is_unreadable, error_fails, fails_by}
 use Rattle.trace_hits.specs.Failures.{failing, fails_in}
 use Rattle.trace_hits.proofs.Behind.{same_number, own_number, clash}

@@ -3,27 +3,17 @@ use Rattle.std.proofs.Common.{◌≡◌, ℕ, suc, ◌+◌, ◌-◌, ◌*◌, �
 use Rattle.std.specs.Prelude.{if◌then◌else◌, nat_le, nat_lt, not, is_ok, Result, Ok, Err}
 use Rattle.std.proofs.lemmas.Bool.Decides.{nat_tests}
 use Rattle.number_table.specs.Entries.{entry_at}
-use Rattle.dns_base.specs.Data.{Data}
-use Rattle.dns_base.specs.OptRecord.{opt_rcode}
-use Rattle.client_request.specs.Request.{Request}
-use Rattle.client_request.specs.Composed.{composed}
+use Rattle.dns_base.specs.{Data.Data, OptRecord.opt_rcode}
+use Rattle.client_request.specs.{Request.Request, Composed.composed}
 use Rattle.client_request.specs.declared.error.Error.{Error}
-use Rattle.client_request.specs.declared.event.What.{What}
-use Rattle.client_request.specs.declared.event.What.TheVariants.{Ask}
-use Rattle.client_request.specs.declared.event.Out.TheVariants.{Stale}
-use Rattle.client_request.specs.declared.event.Row.{Row}
-use Rattle.client_request.specs.declared.event.Via.{Via}
+use Rattle.client_request.specs.declared.event.{What.What, What.TheVariants.Ask, Out.TheVariants.Stale, Row.Row, Via.Via}
 use Rattle.client_settings.specs.Settings.{CacheSettings}
 use Rattle.right_trace.specs.Trace.{History, Conf, Came, after}
 use Rattle.right_trace.specs.Time.{now, Ever}
-use Rattle.right_trace.specs.Messages.{Octets}
-use Rattle.right_trace.specs.Settings.{Settings}
+use Rattle.right_trace.specs.{Messages.Octets, Settings.Settings, Validity.validity_of_message, Views.tells_of_name, Replies.IsFreshReply}
 use Rattle.right_trace.specs.Requests.{Asking, asks, asking, is_ask, is_asked_here, start, handed}
 use Rattle.right_trace.specs.Keys.{Key, key_of, is_cacheable}
 use Rattle.right_trace.specs.Parts.{Parts, known_parts}
-use Rattle.right_trace.specs.Validity.{validity_of_message}
-use Rattle.right_trace.specs.Views.{tells_of_name}
-use Rattle.right_trace.specs.Replies.{IsFreshReply}
 use Rattle.right_trace.specs.Right.{Among, RowRight}
 use Rattle.right_trace.specs.Hit.{asks_since, replies_since, other_replies, AllAreViews, IsHit, Views, Hits}
 use Rattle.right_trace.specs.StaleServed.{ServesStale}
@@ -37,15 +27,11 @@ use Rattle.trace_hits.specs.declared.failures.Failures.{Failures}
 use Rattle.trace_hits.specs.declared.kept.Kept.{Kept}
 use Rattle.trace_hits.specs.declared.point.Point.{Point}
 use Rattle.trace_hits.specs.declared.question.Question.{Question}
-use Rattle.trace_hits.specs.Question.{IsAsked}
-use Rattle.trace_hits.specs.Point.{replies_in}
+use Rattle.trace_hits.specs.{Question.IsAsked, Point.replies_in, Replies.kept_of, Rows.IsAnswer, Failures.first_failure}
 use Rattle.trace_hits.specs.Point as point
 use Rattle.trace_hits.specs.Outs.{reply_to, others, is_handed, has_mark, all_spare}
-use Rattle.trace_hits.specs.Replies.{kept_of}
 use Rattle.trace_hits.specs.Known.{HasCache, BehindRight, IsKept, IsThere, Known}
 use Rattle.trace_hits.specs.Row.{room_of, age_of, is_few, must_hit, TellsViewed, misses, MissesBy}
-use Rattle.trace_hits.specs.Rows.{IsAnswer}
-use Rattle.trace_hits.specs.Failures.{first_failure}
 use Rattle.trace_hits.specs.Serving.{must_serve, fails_in_time, is_unserved, is_unserved_by, KnowFailures}
 use Rattle.trace_hits.proofs.Among.{others_are, reply_among, among_reply, marked_among, among_marked, none_handed, some_handed, not_handed, handed_none}
 use Rattle.trace_hits.proofs.Behind.{clash, ever_replied, next_unasked, next_unreplied}

@@ -6,25 +6,19 @@ use Rattle.number_table.specs.Entries.{entry_at}
 use Rattle.dns_base.specs.Data.{Data}
 use Rattle.client_request.specs.Request.{Request}
 use Rattle.client_request.specs.declared.error.Error.{Error}
-use Rattle.client_request.specs.declared.event.Event.{Event}
-use Rattle.client_request.specs.declared.event.What.{What}
-use Rattle.client_request.specs.declared.event.Out.{Out}
+use Rattle.client_request.specs.declared.event.{Event.Event, What.What, Out.Out}
 use Rattle.client_request.specs.declared.event.Out.TheVariants.{Start, OpenDgram, OpenStream, Send, Write, Resume, Close, Stale, Reply}
 use Rattle.client_settings.specs.Settings.{CacheSettings}
 use Rattle.right_trace.specs.Trace.{History, Conf, Came, Put, put_all}
 use Rattle.right_trace.specs.Time.{now, newest, one_if, row_before, Ever}
-use Rattle.right_trace.specs.Messages.{Octets}
-use Rattle.right_trace.specs.Settings.{Settings}
+use Rattle.right_trace.specs.{Messages.Octets, Settings.Settings, Validity.validity_of_message, Views.view_of}
 use Rattle.right_trace.specs.Requests.{Asking, asks, asking, is_ask, is_asked_here, is_reply, is_marked, replied}
 use Rattle.right_trace.specs.Keys.{Key, key_of, is_cacheable}
 use Rattle.right_trace.specs.Parts.{Parts, known_parts, Says}
-use Rattle.right_trace.specs.Validity.{validity_of_message}
-use Rattle.right_trace.specs.Views.{view_of}
 use Rattle.right_trace.specs.Replies.{IsFresh, IsFreshReply}
 use Rattle.right_trace.specs.Right.{IsFirst, OutRight, OutsRight}
 use Rattle.right_trace.specs.Hit.{asks_since, is_some_reply, replies_since, IsViewOf, OutIsView}
-use Rattle.right_trace.proofs.Asked.{asking_came}
-use Rattle.right_trace.proofs.Valid.{valid_is_known}
+use Rattle.right_trace.proofs.{Asked.asking_came, Valid.valid_is_known}
 use Rattle.cache_rules.specs.Key.{same_key, same_itself, same_is_equal}
 use Rattle.cache_rules.specs.Validity.{cached_by, with_cache}
 use Rattle.trace_tables.specs.Requests.{marked_seen}

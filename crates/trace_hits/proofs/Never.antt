@@ -2,17 +2,13 @@
 use Rattle.std.proofs.Common.{◌≡◌, ℕ, suc, ◌+◌, ◌<◌, ◌≤◌, ◌||◌, max, Bool, true, false, Option, Some, None, List, [], ◌∷◌, refl, sym, ap, ◌∙◌, subst, arith}
 use Rattle.std.specs.Prelude.{if◌then◌else◌}
 use Rattle.number_table.specs.Entries.{entry_at}
-use Rattle.client_request.specs.declared.event.What.{What}
-use Rattle.client_request.specs.declared.event.Out.{Out}
+use Rattle.client_request.specs.declared.event.{What.What, Out.Out, Row.Row}
 use Rattle.client_request.specs.declared.event.Out.TheVariants.{Start, OpenDgram, OpenStream, Send, Write, Resume, Close, Stale, Reply}
-use Rattle.client_request.specs.declared.event.Row.{Row}
 use Rattle.client_settings.specs.Settings.{CacheSettings}
 use Rattle.right_trace.specs.Trace.{History, Conf, Came, Put, put_all, after}
-use Rattle.right_trace.specs.Time.{now}
-use Rattle.right_trace.specs.Settings.{Settings}
+use Rattle.right_trace.specs.{Time.now, Settings.Settings, StaleServed.NeverFails}
 use Rattle.right_trace.specs.Requests.{asks, is_ask, is_reply}
 use Rattle.right_trace.specs.Right.{OutsRight, RowRight, RightAfter}
-use Rattle.right_trace.specs.StaleServed.{NeverFails}
 use Rattle.right_trace.proofs.Asked.{asking_below}
 use Rattle.cache_rules.specs.Validity.{cached_by}
 use Rattle.trace_points.specs.declared.pass.pass.Pass.{Pass}
@@ -20,10 +16,8 @@ use Rattle.trace_points.specs.pass.Pass as pass
 use Rattle.trace_points.proofs.lemmas.pass.Taking as passes
 use Rattle.trace_hits.specs.declared.failures.Failures.{Failures}
 use Rattle.trace_hits.specs.Known.{HasCache, BehindRight}
-use Rattle.trace_hits.specs.Point.{is_number}
-use Rattle.trace_hits.specs.Failing.{fails_by}
+use Rattle.trace_hits.specs.{Point.is_number, Failing.fails_by, Serving.KnowFailures}
 use Rattle.trace_hits.specs.Failures.{nothing, clock_of, failing, after_rows, fails_in, first_failure}
-use Rattle.trace_hits.specs.Serving.{KnowFailures}
 use Rattle.trace_hits.proofs.Behind.{reply_first, behind_row}
 use Rattle.trace_hits.proofs.Failed.{some_fails, none_fails}
 use Rattle.trace_hits.proofs.Tabling.{from_nothing}

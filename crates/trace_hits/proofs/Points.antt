@@ -1,10 +1,8 @@
 -- What is known at a point goes on over events and outs.
 use Rattle.std.proofs.Common.{◌≡◌, ℕ, suc, ◌+◌, ◌-◌, ◌≤◌, ◌==◌, ◌&&◌, Bool, true, false, Some, None, [], ◌∷◌, refl, ap, ◌∙◌, arith}
 use Rattle.std.specs.Prelude.{if◌then◌else◌, is_some}
-use Rattle.client_request.specs.declared.event.Event.{Event}
-use Rattle.client_request.specs.declared.event.What.{What}
+use Rattle.client_request.specs.declared.event.{Event.Event, What.What, Out.Out}
 use Rattle.client_request.specs.declared.event.What.TheVariants.{Ask, Opened, OpenFailed, SendFailed, ShortSend, Datagram, RecvFailed, Wrote, WriteFailed, Bytes, ReadFailed, Ended, Tick}
-use Rattle.client_request.specs.declared.event.Out.{Out}
 use Rattle.client_request.specs.declared.event.Out.TheVariants.{Start, OpenDgram, OpenStream, Send, Write, Resume, Close, Stale, Reply}
 use Rattle.right_trace.specs.Trace.{History, Came, Put}
 use Rattle.right_trace.specs.Time.{newest, one_if}

@@ -17,9 +17,8 @@ use Rattle.right_trace.specs.Messages.{Octets}
 use Rattle.right_trace.specs.Keys.{Key, is_signing}
 use Rattle.right_trace.specs.Parts.{Header, Item, Parts, typed, known_parts}
 use Rattle.right_trace.specs.Views.{with_name, leaves_out, lessened, mostly_lessened, without_signing, viewed}
-use Rattle.cache_rules.proofs.WhatIsMet.{some_inside}
+use Rattle.cache_rules.proofs.{WhatIsMet.some_inside, Saying.what_is_known}
 use Rattle.cache_rules.proofs.Carrying.{Each, section_good, as_read}
-use Rattle.cache_rules.proofs.Saying.{what_is_known}
 
 abbrev IsShort : Known → Type 0
 IsShort k = k.entry.ttl < 2 ^ 32

@@ -5,15 +5,12 @@ use Rattle.std.proofs.lemmas.Bool.{or_right}
 use Rattle.number_table.specs.Entries.{entry_at}
 use Rattle.client_request.specs.Request.{Request}
 use Rattle.client_request.specs.declared.error.Error.{Error}
-use Rattle.client_request.specs.declared.event.What.{What}
-use Rattle.client_request.specs.declared.event.Out.{Out}
+use Rattle.client_request.specs.declared.event.{What.What, Out.Out}
 use Rattle.client_request.specs.declared.event.Out.TheVariants.{Start, OpenDgram, OpenStream, Send, Write, Resume, Close, Stale, Reply}
 use Rattle.right_trace.specs.Trace.{History, Conf, Put, put_all}
-use Rattle.right_trace.specs.Messages.{Octets}
-use Rattle.right_trace.specs.Settings.{Settings}
+use Rattle.right_trace.specs.{Messages.Octets, Settings.Settings, Right.OutsRight}
 use Rattle.right_trace.specs.Requests.{Asking, asking, is_asked_here, is_reply, is_marked, replied}
 use Rattle.right_trace.specs.Keys.{Key, key_of, is_cacheable}
-use Rattle.right_trace.specs.Right.{OutsRight}
 use Rattle.right_trace.specs.Hit.{IsViewOf, OutIsView, AllAreViews}
 use Rattle.cache_rules.specs.Key.{same_key, same_itself, same_is_equal}
 use Rattle.trace_points.proofs.lemmas.questions.Deciding.{both, all}

@@ -1,25 +1,20 @@
 -- Rows, one after another, and which of them is the first that does not keep what it owes.
 use Rattle.std.proofs.Common.{◌≡◌, ℕ, zero, suc, ◌+◌, ◌<◌, ◌≤◌, Bool, true, false, Option, Some, None, List, [], ◌∷◌, length, get_or, drop, refl, sym, ap, ◌∙◌, subst, arith}
 use Rattle.client_request.specs.Composed.{composed}
-use Rattle.client_request.specs.declared.event.Out.{Out}
-use Rattle.client_request.specs.declared.event.Row.{Row}
+use Rattle.client_request.specs.declared.event.{Out.Out, Row.Row}
 use Rattle.client_settings.specs.Settings.{CacheSettings}
 use Rattle.right_trace.specs.Trace.{History, Conf, Came, after}
-use Rattle.right_trace.specs.Settings.{Settings}
+use Rattle.right_trace.specs.{Settings.Settings, Hit.AllHit, StaleServed.AllServeStale}
 use Rattle.right_trace.specs.Right.{RightAfter, RowRight}
-use Rattle.right_trace.specs.Hit.{AllHit}
-use Rattle.right_trace.specs.StaleServed.{AllServeStale}
 use Rattle.trace_hits.specs.declared.course.Course.{Course}
 use Rattle.trace_hits.specs.Course.{met, PutsAll}
 use Rattle.trace_hits.specs.Course as course
-use Rattle.trace_hits.specs.Replies.{kept_of}
+use Rattle.trace_hits.specs.{Replies.kept_of, Hits.TellsMissedHit, Stale.TellsMissedStale}
 use Rattle.trace_hits.specs.Known.{HasCache, BehindRight, Known}
 use Rattle.trace_hits.specs.Point as point
 use Rattle.trace_hits.specs.Rows.{Owed, Left, FailsAt, TellsAt, Steps}
 use Rattle.trace_hits.specs.Row.{room_of, Hit, Whatever}
-use Rattle.trace_hits.specs.Hits.{TellsMissedHit}
 use Rattle.trace_hits.specs.Serving.{Serve, KnowFailures}
-use Rattle.trace_hits.specs.Stale.{TellsMissedStale}
 use Rattle.trace_hits.specs.declared.failures.Failures.{Failures}
 use Rattle.trace_hits.proofs.Behind.{behind_nothing, behind_row}
 use Rattle.trace_hits.proofs.Keeping.{known_event, known_outs}

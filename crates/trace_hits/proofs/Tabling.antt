@@ -2,12 +2,9 @@
 use Rattle.std.proofs.Common.{◌≡◌, ℕ, ◌==◌, ◌||◌, Bool, true, false, Option, Some, None, List, [], ◌∷◌, refl, sym, ap, ap₂, ◌∙◌}
 use Rattle.std.specs.Prelude.{if◌then◌else◌, is_some}
 use Rattle.number_table.specs.Entries.{puts, entry_at}
-use Rattle.client_request.specs.declared.event.What.{What}
-use Rattle.client_request.specs.declared.event.Out.{Out}
+use Rattle.client_request.specs.declared.event.{What.What, Out.Out, Row.Row}
 use Rattle.client_request.specs.declared.event.Out.TheVariants.{Start, OpenDgram, OpenStream, Send, Write, Resume, Close, Stale, Reply}
-use Rattle.client_request.specs.declared.event.Row.{Row}
-use Rattle.right_trace.specs.Trace.{Conf}
-use Rattle.right_trace.specs.Settings.{Settings}
+use Rattle.right_trace.specs.{Trace.Conf, Settings.Settings}
 use Rattle.trace_tables.proofs.Tables.{at_puts}
 use Rattle.trace_points.specs.declared.pass.pass.Pass.{Pass}
 use Rattle.trace_points.specs.pass.Pass as pass

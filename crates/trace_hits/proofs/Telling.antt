@@ -4,12 +4,9 @@ use Rattle.std.specs.Prelude.{if◌then◌else◌, Result, Ok, Err, OnOk}
 use Rattle.number_table.specs.Entries.{entry_at}
 use Rattle.client_request.specs.Request.{Request}
 use Rattle.client_request.specs.declared.error.Error.{Error}
-use Rattle.client_request.specs.declared.event.Out.{Out}
-use Rattle.client_request.specs.declared.event.What.TheVariants.{Ask}
-use Rattle.client_request.specs.declared.event.Row.{Row}
+use Rattle.client_request.specs.declared.event.{Out.Out, What.TheVariants.Ask, Row.Row}
 use Rattle.client_settings.specs.Settings.{CacheSettings}
-use Rattle.right_trace.specs.Messages.{Octets}
-use Rattle.right_trace.specs.Requests.{Asking}
+use Rattle.right_trace.specs.{Messages.Octets, Requests.Asking}
 use Rattle.right_trace.specs.Keys.{Key, key_of, is_cacheable}
 use Rattle.cache_rules.specs.Key.{same_key, same_is_equal}
 use Rattle.trace_tables.specs.Requests.{marked_seen}
@@ -18,16 +15,12 @@ use Rattle.trace_hits.specs.declared.failures.Failures.{Failures}
 use Rattle.trace_hits.specs.declared.kept.Kept.{Kept}
 use Rattle.trace_hits.specs.declared.point.Point.{Point}
 use Rattle.trace_hits.specs.declared.question.Question.{Question}
-use Rattle.trace_hits.specs.Question.{IsAsked}
+use Rattle.trace_hits.specs.{Question.IsAsked, Kept.Table, Course.met, Row.TellsRow as TellsHitRow, Serving.TellsRow as TellsStaleRow}
 use Rattle.trace_hits.specs.Point.{IsToldAt, has_key}
 use Rattle.trace_hits.specs.Point as point
-use Rattle.trace_hits.specs.Kept.{Table}
 use Rattle.trace_hits.specs.Replies.{kept_of, Keeps, Takes, Puts, Taken}
-use Rattle.trace_hits.specs.Course.{met}
 use Rattle.trace_hits.specs.Row.{room_of, IsMissedOf, TellsMissed}
-use Rattle.trace_hits.specs.Row.{TellsRow as TellsHitRow}
 use Rattle.trace_hits.specs.Serving.{is_unserved, TellsUnserved}
-use Rattle.trace_hits.specs.Serving.{TellsRow as TellsStaleRow}
 use Rattle.trace_hits.proofs.Judging.{no_asking, no_question, no_asking_stale, no_question_stale, none_kept, none_kept_stale, answer, answer_stale}
 
 pub on_ok : {T E : Type 0} {P Q : Type 0} (r : Result T E) → (P → Q) → OnOk r P → OnOk r Q

@@ -5,10 +5,9 @@ use Rattle.dns_names.specs.Name.{Labels}
 use Rattle.dns_base.specs.Data.{Data}
 use Rattle.client_request.specs.Request.{Request}
 use Rattle.client_request.proofs.Writable.{AreOctets}
-use Rattle.right_trace.specs.Messages.{Octets}
+use Rattle.right_trace.specs.{Messages.Octets, Validity.second}
 use Rattle.right_trace.specs.Keys.{FlagClass, Key, key_of, spelled_name}
 use Rattle.right_trace.specs.Parts.{Parts, known_parts, Says}
-use Rattle.right_trace.specs.Validity.{second}
 use Rattle.right_trace.specs.Views.{viewed, view_of}
 use Rattle.cache_rules.specs.Key.{flag_class}
 use Rattle.message_judging.specs.declared.views.serving.Flags.{Flags}
@@ -18,8 +17,7 @@ use Rattle.trace_replies.specs.given.Asks.{common}
 use Rattle.trace_replies.specs.given.Asks as given
 use Rattle.trace_hits.specs.declared.question.Question.{Question}
 use Rattle.trace_hits.specs.Question.{whole, IsAsked}
-use Rattle.trace_hits.specs.Views.{TellsGiven}
-use Rattle.trace_hits.specs.Kept.{TellsGivenTo}
+use Rattle.trace_hits.specs.{Views.TellsGiven, Kept.TellsGivenTo}
 use Rattle.trace_hits.proofs.Short.{parts_short, late_view}
 
 -- ---- views

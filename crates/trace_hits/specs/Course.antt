@@ -1,8 +1,6 @@
 -- What events and outs make of what is known.
 use Rattle.std.specs.Prelude.{◌≡◌, List, [], ◌∷◌}
-use Rattle.client_request.specs.declared.event.Event.{Event}
-use Rattle.client_request.specs.declared.event.Out.{Out}
-use Rattle.client_request.specs.declared.event.Out.TheVariants.{Reply}
+use Rattle.client_request.specs.declared.event.{Event.Event, Out.Out, Out.TheVariants.Reply}
 use Rattle.client_settings.specs.Settings.{CacheSettings}
 use Rattle.trace_hits.specs.declared.course.Course.{Course}
 use Rattle.trace_hits.specs.declared.point.Point.{Point}

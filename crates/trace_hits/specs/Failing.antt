@@ -4,18 +4,12 @@ use Rattle.std.specs.List.{list_any}
 use Rattle.client_request.specs.declared.error.Error.{Error}
 use Rattle.client_request.specs.declared.error.Error.TheVariants as errors
 use Rattle.client_request.specs.declared.event.What.{What}
-use Rattle.right_trace.specs.Trace.{Conf}
-use Rattle.right_trace.specs.Messages.{Octets}
-use Rattle.right_trace.specs.Settings.{Settings}
-use Rattle.right_trace.specs.Requests.{Asking}
-use Rattle.right_trace.specs.Views.{is_failing_message}
-use Rattle.right_trace.specs.Errors.{is_failure}
+use Rattle.right_trace.specs.{Trace.Conf, Messages.Octets, Settings.Settings, Requests.Asking, Views.is_failing_message, Errors.is_failure}
 use Rattle.trace_tables.specs.Requests.{marked_seen}
 use Rattle.trace_points.specs.declared.exchanges.coming.Coming.{Coming}
 use Rattle.trace_points.specs.exchanges.Coming.{coming}
 use Rattle.trace_points.specs.declared.pass.pass.Pass.{Pass}
-use Rattle.trace_errors.specs.Arrivals.{is_unkept}
-use Rattle.trace_errors.specs.Direct.{asked_here}
+use Rattle.trace_errors.specs.{Arrivals.is_unkept, Direct.asked_here}
 
 -- what came is for request k, does not fail, and has no validity
 abbrev pub is_unread : Settings → (k : ℕ) → List (ℕ × Asking) → Coming → Bool

@@ -1,18 +1,12 @@
 -- When requests failed, where what has expired should have stood in the place of the reply.
 use Rattle.std.specs.Prelude.{ℕ, Bool, false, ◌||◌, if◌then◌else◌, is_some, List, [], ◌∷◌, Option, Some, None}
 use Rattle.number_table.specs.Entries.{puts, entry_at}
-use Rattle.client_request.specs.declared.event.Event.{Event}
-use Rattle.client_request.specs.declared.event.What.{What}
-use Rattle.client_request.specs.declared.event.Out.{Out}
-use Rattle.client_request.specs.declared.event.Out.TheVariants.{Reply}
-use Rattle.client_request.specs.declared.event.Row.{Row}
-use Rattle.right_trace.specs.Trace.{Conf}
-use Rattle.right_trace.specs.Settings.{Settings}
+use Rattle.client_request.specs.declared.event.{Event.Event, What.What, Out.Out, Out.TheVariants.Reply, Row.Row}
+use Rattle.right_trace.specs.{Trace.Conf, Settings.Settings}
 use Rattle.trace_points.specs.declared.pass.pass.Pass.{Pass}
 use Rattle.trace_points.specs.pass.Pass as pass
 use Rattle.trace_hits.specs.declared.failures.Failures.{Failures}
-use Rattle.trace_hits.specs.Failing.{fails_by}
-use Rattle.trace_hits.specs.Point.{is_number}
+use Rattle.trace_hits.specs.{Failing.fails_by, Point.is_number}
 
 abbrev pub nothing : Failures
 nothing = record { past = pass.nothing; here = pass.nothing; moments = [] }

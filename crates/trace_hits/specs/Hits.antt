@@ -4,13 +4,10 @@ use Rattle.client_request.specs.Composed.{composed}
 use Rattle.client_request.specs.declared.event.Row.{Row}
 use Rattle.client_settings.specs.Settings.{CacheSettings}
 use Rattle.right_trace.specs.Trace.{History, Conf}
-use Rattle.right_trace.specs.Settings.{Settings}
-use Rattle.right_trace.specs.Right.{Right}
-use Rattle.right_trace.specs.Hit.{AllHit}
+use Rattle.right_trace.specs.{Settings.Settings, Right.Right, Hit.AllHit}
 use Rattle.trace_hits.specs.declared.course.Course.{Course}
-use Rattle.trace_hits.specs.Known.{HasCache}
+use Rattle.trace_hits.specs.{Known.HasCache, Rows.FailsAt}
 use Rattle.trace_hits.specs.Row.{room_of, Hit, Whatever}
-use Rattle.trace_hits.specs.Rows.{FailsAt}
 use Rattle.trace_hits.specs.Rows as rows
 
 -- this is the first row that does not hit, or there is none

@@ -2,16 +2,12 @@
 use Rattle.std.specs.Prelude.{ℕ, ◌+◌, ◌-◌, ◌==◌, Bool, if◌then◌else◌, is_some, List, Option, Some, None}
 use Rattle.client_request.specs.Request.{Request}
 use Rattle.client_settings.specs.Settings.{CacheSettings}
-use Rattle.right_trace.specs.Time.{one_if}
-use Rattle.right_trace.specs.Messages.{Octets}
-use Rattle.right_trace.specs.Keys.{Key}
-use Rattle.right_trace.specs.Validity.{validity_of_message}
+use Rattle.right_trace.specs.{Time.one_if, Messages.Octets, Keys.Key, Validity.validity_of_message}
 use Rattle.cache_rules.specs.Validity.{cached_by}
 use Rattle.trace_hits.specs.declared.kept.Kept.{Kept}
 use Rattle.trace_hits.specs.declared.point.Point.{Point}
 use Rattle.trace_hits.specs.declared.question.Question.{Question}
-use Rattle.trace_hits.specs.Question.{IsAsked}
-use Rattle.trace_hits.specs.Views.{TellsView}
+use Rattle.trace_hits.specs.{Question.IsAsked, Views.TellsView}
 
 abbrev pub Table : Type 0
 Table = List (Key × Kept)

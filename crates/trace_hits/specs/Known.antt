@@ -4,21 +4,16 @@ use Rattle.client_request.specs.Request.{Request}
 use Rattle.client_settings.specs.Settings.{CacheSettings}
 use Rattle.right_trace.specs.Trace.{History, Conf}
 use Rattle.right_trace.specs.Time.{now, Ever}
-use Rattle.right_trace.specs.Messages.{Octets}
-use Rattle.right_trace.specs.Settings.{Settings}
+use Rattle.right_trace.specs.{Messages.Octets, Settings.Settings, Validity.validity_of_message, Replies.IsFreshReply, Right.IsAsked}
 use Rattle.right_trace.specs.Requests.{Asking, asks, asking, replied}
 use Rattle.right_trace.specs.Keys.{Key, key_of, is_cacheable}
-use Rattle.right_trace.specs.Validity.{validity_of_message}
-use Rattle.right_trace.specs.Replies.{IsFreshReply}
-use Rattle.right_trace.specs.Right.{IsAsked}
 use Rattle.right_trace.specs.Hit.{asks_since, replies_since, AllAreViews}
 use Rattle.cache_rules.specs.Validity.{with_cache}
 use Rattle.trace_points.specs.exchanges.Asked.{AskedFirst}
 use Rattle.trace_hits.specs.declared.course.Course.{Course}
 use Rattle.trace_hits.specs.declared.kept.Kept.{Kept}
 use Rattle.trace_hits.specs.Point as point
-use Rattle.trace_hits.specs.Kept.{Table}
-use Rattle.trace_hits.specs.Replies.{kept_of}
+use Rattle.trace_hits.specs.{Kept.Table, Replies.kept_of}
 
 -- settings with this cache
 abbrev pub HasCache : CacheSettings → Settings → Type 0

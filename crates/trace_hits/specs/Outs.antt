@@ -4,10 +4,7 @@ use Rattle.number_table.specs.Entries.{entry_at}
 use Rattle.client_request.specs.declared.error.Error.{Error}
 use Rattle.client_request.specs.declared.event.Out.{Out}
 use Rattle.client_request.specs.declared.event.Out.TheVariants.{Start, Stale, Reply}
-use Rattle.right_trace.specs.Messages.{Octets}
-use Rattle.right_trace.specs.Time.{one_if}
-use Rattle.right_trace.specs.Requests.{Asking}
-use Rattle.right_trace.specs.Keys.{Key}
+use Rattle.right_trace.specs.{Messages.Octets, Time.one_if, Requests.Asking, Keys.Key}
 use Rattle.trace_hits.specs.Point.{is_number, has_key}
 
 -- the reply to request k that an out is

@@ -4,16 +4,14 @@ use Rattle.std.specs.Map.{lookup}
 use Rattle.number_table.specs.Entries.{entry_at}
 use Rattle.client_request.specs.declared.error.Error.{Error}
 use Rattle.client_settings.specs.Settings.{CacheSettings}
-use Rattle.right_trace.specs.Messages.{Octets}
-use Rattle.right_trace.specs.Requests.{Asking}
+use Rattle.right_trace.specs.{Messages.Octets, Requests.Asking}
 use Rattle.right_trace.specs.Keys.{Key, is_cacheable}
 use Rattle.cache_rules.specs.Key.{same_key}
 use Rattle.trace_tables.specs.Requests.{marked_seen}
 use Rattle.trace_hits.specs.declared.kept.Kept.{Kept}
 use Rattle.trace_hits.specs.declared.point.Point.{Point}
 use Rattle.trace_hits.specs.declared.question.Question.{Question}
-use Rattle.trace_hits.specs.Question.{IsAsked}
-use Rattle.trace_hits.specs.Point.{is_number}
+use Rattle.trace_hits.specs.{Question.IsAsked, Point.is_number}
 use Rattle.trace_hits.specs.Kept.{Table, begun, TellsGivenTo}
 
 -- the reply to a question

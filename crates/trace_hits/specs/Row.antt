@@ -1,15 +1,10 @@
 -- What a row owes the request that it asks, and whether it is so.
 use Rattle.std.specs.Prelude.{◌≡◌, ℕ, ◌+◌, ◌-◌, ◌*◌, ◌&&◌, not, nat_le, nat_lt, max, is_ok, Bool, false, List, Option, Some, None, Result, Ok, Err}
-use Rattle.client_request.specs.Request.{Request}
-use Rattle.client_request.specs.Composed.{composed}
+use Rattle.client_request.specs.{Request.Request, Composed.composed}
 use Rattle.client_request.specs.declared.error.Error.{Error}
-use Rattle.client_request.specs.declared.event.Out.{Out}
-use Rattle.client_request.specs.declared.event.What.TheVariants.{Ask}
-use Rattle.client_request.specs.declared.event.Row.{Row}
+use Rattle.client_request.specs.declared.event.{Out.Out, What.TheVariants.Ask, Row.Row}
 use Rattle.client_settings.specs.Settings.{CacheSettings}
-use Rattle.right_trace.specs.Messages.{Octets}
-use Rattle.right_trace.specs.Hit.{Hits}
-use Rattle.right_trace.specs.Keys.{Key}
+use Rattle.right_trace.specs.{Messages.Octets, Hit.Hits, Keys.Key}
 use Rattle.trace_hits.specs.declared.course.Course.{Course}
 use Rattle.trace_hits.specs.declared.kept.Kept.{Kept}
 use Rattle.trace_hits.specs.declared.point.Point.{Point}

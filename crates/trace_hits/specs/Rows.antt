@@ -3,8 +3,7 @@ use Rattle.std.specs.Prelude.{◌≡◌, ℕ, zero, suc, Bool, true, false, List
 use Rattle.client_request.specs.declared.event.Row.{Row}
 use Rattle.client_settings.specs.Settings.{CacheSettings}
 use Rattle.right_trace.specs.Trace.{History, Conf, after}
-use Rattle.right_trace.specs.Settings.{Settings}
-use Rattle.right_trace.specs.Right.{RowRight}
+use Rattle.right_trace.specs.{Settings.Settings, Right.RowRight}
 use Rattle.trace_hits.specs.declared.course.Course.{Course}
 use Rattle.trace_hits.specs.Course.{met}
 use Rattle.trace_hits.specs.Known.{HasCache, BehindRight, Known}

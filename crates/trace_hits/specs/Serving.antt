@@ -3,17 +3,10 @@ use Rattle.std.specs.Prelude.{◌≡◌, ℕ, ◌+◌, ◌-◌, ◌&&◌, nat_le
 use Rattle.number_table.specs.Entries.{entry_at}
 use Rattle.dns_base.specs.OptRecord.{opt_rcode}
 use Rattle.client_request.specs.Request.{Request}
-use Rattle.client_request.specs.declared.event.Out.{Out}
-use Rattle.client_request.specs.declared.event.What.TheVariants.{Ask}
-use Rattle.client_request.specs.declared.event.Row.{Row}
+use Rattle.client_request.specs.declared.event.{Out.Out, What.TheVariants.Ask, Row.Row}
 use Rattle.client_settings.specs.Settings.{CacheSettings}
 use Rattle.right_trace.specs.Trace.{History, Conf}
-use Rattle.right_trace.specs.Settings.{Settings}
-use Rattle.right_trace.specs.Requests.{asks}
-use Rattle.right_trace.specs.Keys.{Key}
-use Rattle.right_trace.specs.Views.{tells_of_name}
-use Rattle.right_trace.specs.StaleServed.{ServesStale}
-use Rattle.right_trace.specs.Right.{RightAfter}
+use Rattle.right_trace.specs.{Settings.Settings, Requests.asks, Keys.Key, Views.tells_of_name, StaleServed.ServesStale, Right.RightAfter}
 use Rattle.cache_rules.specs.Validity.{cached_by}
 use Rattle.trace_points.specs.declared.pass.pass.Pass.{Pass}
 use Rattle.trace_points.specs.pass.Pass as pass
@@ -21,8 +14,7 @@ use Rattle.trace_hits.specs.declared.course.Course.{Course}
 use Rattle.trace_hits.specs.declared.failures.Failures.{Failures}
 use Rattle.trace_hits.specs.declared.kept.Kept.{Kept}
 use Rattle.trace_hits.specs.declared.point.Point.{Point}
-use Rattle.trace_hits.specs.Failures.{first_failure}
-use Rattle.trace_hits.specs.Outs.{all_spare}
+use Rattle.trace_hits.specs.{Failures.first_failure, Outs.all_spare}
 use Rattle.trace_hits.specs.Row.{room_of, age_of, is_few}
 use Rattle.trace_hits.specs.Rows.{Owed, TellsAt}
 

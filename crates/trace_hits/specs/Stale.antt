@@ -3,14 +3,10 @@ use Rattle.std.specs.Prelude.{ℕ, Bool, List, [], Option, Some, None}
 use Rattle.client_request.specs.declared.event.Row.{Row}
 use Rattle.client_settings.specs.Settings.{CacheSettings}
 use Rattle.right_trace.specs.Trace.{History, Conf}
-use Rattle.right_trace.specs.Settings.{Settings}
-use Rattle.right_trace.specs.Right.{Right}
-use Rattle.right_trace.specs.StaleServed.{AllServeStale}
+use Rattle.right_trace.specs.{Settings.Settings, Right.Right, StaleServed.AllServeStale}
 use Rattle.trace_hits.specs.declared.course.Course.{Course}
 use Rattle.trace_hits.specs.declared.failures.Failures.{Failures}
-use Rattle.trace_hits.specs.Known.{HasCache}
-use Rattle.trace_hits.specs.Row.{room_of}
-use Rattle.trace_hits.specs.Rows.{FailsAt}
+use Rattle.trace_hits.specs.{Known.HasCache, Row.room_of, Rows.FailsAt}
 use Rattle.trace_hits.specs.Rows as rows
 use Rattle.trace_hits.specs.Serving.{Serve, KnowFailures}
 

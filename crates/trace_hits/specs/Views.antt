@@ -3,10 +3,9 @@ use Rattle.std.specs.Prelude.{◌≡◌, ℕ, Bool, Some}
 use Rattle.dns_names.specs.Name.{Labels}
 use Rattle.dns_base.specs.Data.{Data}
 use Rattle.client_request.specs.Request.{Request}
-use Rattle.right_trace.specs.Messages.{Octets}
+use Rattle.right_trace.specs.{Messages.Octets, Views.view_of}
 use Rattle.right_trace.specs.Keys.{key_of, spelled_name}
 use Rattle.right_trace.specs.Parts.{Parts, known_parts, Says}
-use Rattle.right_trace.specs.Views.{view_of}
 use Rattle.message_judging.specs.declared.views.serving.Flags.{Flags}
 use Rattle.message_judging.specs.views.Serving.{HasFlags}
 use Rattle.trace_points.specs.questions.Outs.{Tells}

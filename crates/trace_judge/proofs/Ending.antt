@@ -12,8 +12,7 @@ use Rattle.trace_outs.specs.loads.Loads as loads
 use Rattle.trace_tables.specs.writes.Writing as writing
 use Rattle.trace_outs.specs.busy.Busy as busy
 use Rattle.trace_outs.specs.loads.Loads.{TellsMet}
-use Rattle.trace_points.specs.questions.Outs.{Tells}
-use Rattle.trace_points.specs.questions.Configured.{use_of}
+use Rattle.trace_points.specs.questions.{Outs.Tells, Configured.use_of}
 use Rattle.trace_judge.specs.declared.course.Course.{Course}
 use Rattle.trace_judge.specs.declared.outs.Kept.{Kept}
 use Rattle.trace_judge.specs.declared.rules.Rules.{Rules}

@@ -5,11 +5,7 @@ use Rattle.client_request.specs.declared.error.Error.TheVariants as errors
 use Rattle.client_request.specs.declared.error.QueryError.TheVariants as query
 use Rattle.client_request.specs.declared.fault.Fault.{Fault}
 use Rattle.client_request.specs.declared.fault.Fault.TheVariants as fault
-use Rattle.right_trace.specs.Trace.{History}
-use Rattle.right_trace.specs.Time.{newest}
-use Rattle.right_trace.specs.Messages.{Octets}
-use Rattle.right_trace.specs.Owed.{AllAreDone}
-use Rattle.right_trace.specs.Settings.{Settings}
+use Rattle.right_trace.specs.{Trace.History, Time.newest, Messages.Octets, Owed.AllAreDone, Settings.Settings}
 use Rattle.right_trace.specs.Errors.{is_failing, is_failure, FailsSo}
 use Rattle.trace_points.specs.declared.exchanges.coming.Coming.{Coming}
 use Rattle.trace_points.specs.exchanges.Coming.{AllComing, TellsComing}

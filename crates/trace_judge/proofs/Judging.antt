@@ -1,15 +1,10 @@
 -- A row, judged behind rows that are right.
 use Rattle.std.proofs.Common.{◌≡◌, ◌∷◌, [], Bool, true, false, List, Option, Some, None, refl, sym, ap, ◌∙◌, subst}
-use Rattle.client_request.specs.declared.event.Event.{Event}
-use Rattle.client_request.specs.declared.event.Out.{Out}
-use Rattle.client_request.specs.declared.event.Row.{Row}
+use Rattle.client_request.specs.declared.event.{Event.Event, Out.Out, Row.Row}
 use Rattle.right_trace.specs.Trace.{History, Conf, Came, after}
-use Rattle.right_trace.specs.Time.{now}
-use Rattle.right_trace.specs.Settings.{Settings}
-use Rattle.right_trace.specs.Right.{RowRight}
-use Rattle.trace_judge.specs.clauses.Clauses.{Keeps}
+use Rattle.right_trace.specs.{Time.now, Settings.Settings, Right.RowRight}
+use Rattle.trace_judge.specs.clauses.{Clauses.Keeps, Verdicts.KeepsAll}
 use Rattle.trace_judge.specs.clauses.Clauses as clauses
-use Rattle.trace_judge.specs.clauses.Verdicts.{KeepsAll}
 use Rattle.trace_judge.proofs.lemmas.clauses.Rows.{row_right}
 use Rattle.trace_points.specs.declared.exchanges.coming.Coming.{Coming}
 use Rattle.trace_points.specs.exchanges.Coming.{AllComing}
@@ -31,8 +26,7 @@ use Rattle.trace_judge.specs.declared.outs.Kept.{Kept}
 use Rattle.trace_judge.specs.declared.past.Past.{Past}
 use Rattle.trace_judge.specs.declared.rules.Rules.{Rules}
 use Rattle.trace_judge.specs.declared.tables.Tables.{Tables}
-use Rattle.trace_judge.specs.declared.verdict.Clause.{Clause}
-use Rattle.trace_judge.specs.declared.verdict.Clause.TheVariants.{Events}
+use Rattle.trace_judge.specs.declared.verdict.{Clause.Clause, Clause.TheVariants.Events}
 use Rattle.trace_judge.specs.Course.{AreKept, IsEnd}
 use Rattle.trace_judge.specs.Course as course
 use Rattle.trace_judge.specs.Judge.{AtEnd, HasRun, IsJudged, Judges, Known, Runs, TellsComing, TellsPrompt, first_broken}

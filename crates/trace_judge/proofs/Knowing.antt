@@ -1,10 +1,9 @@
 -- What is known goes on over events and outs.
 use Rattle.std.proofs.Common.{◌≡◌, ℕ, ◌∷◌, [], Bool, true, false, max, List, None, refl, sym, ap, ◌∙◌, subst}
-use Rattle.client_request.specs.declared.event.Event.{Event}
-use Rattle.client_request.specs.declared.event.Out.{Out}
+use Rattle.client_request.specs.declared.event.{Event.Event, Out.Out}
 use Rattle.client_request.specs.declared.event.Out.TheVariants.{Close, Reply}
 use Rattle.right_trace.specs.Trace.{History, Conf, Came, Put}
-use Rattle.right_trace.specs.Time.{newest}
+use Rattle.right_trace.specs.{Time.newest, Trace.after}
 use Rattle.right_trace.specs.Settings.{Settings, defers_nothing}
 use Rattle.trace_tables.specs.declared.places.Place.{Place}
 use Rattle.trace_tables.specs.Known as places_seen
@@ -31,7 +30,6 @@ use Rattle.trace_judge.specs.Tables as tables
 use Rattle.trace_judge.specs.Known.{BehindRight, CourseKnown, MarkKnown, Known, conf_in, settings_in, event_in}
 use Rattle.trace_judge.specs.Outs.{IsSaid}
 use Rattle.trace_judge.specs.Course.{Begins, KeepsGiven, Puts}
-use Rattle.right_trace.specs.Trace.{after}
 
 -- tables
 

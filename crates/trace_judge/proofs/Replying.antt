@@ -3,10 +3,8 @@ use Rattle.std.proofs.Common.{◌≡◌, ℕ, ◌==◌, ◌&&◌, ◌||◌, ◌�
 use Rattle.client_request.specs.declared.error.Error.{Error}
 use Rattle.right_trace.specs.Trace.{History, Conf}
 use Rattle.right_trace.specs.Time.{newest, row_before}
-use Rattle.right_trace.specs.Messages.{Octets}
-use Rattle.right_trace.specs.Settings.{Settings}
+use Rattle.right_trace.specs.{Messages.Octets, Settings.Settings, Validity.is_deferred}
 use Rattle.right_trace.specs.Coming.{CameFor, CameFirst}
-use Rattle.right_trace.specs.Validity.{is_deferred}
 use Rattle.right_trace.specs.Errors.{OwnCause, HasCause, IsKeptError, Own, Kept}
 use Rattle.trace_errors.proofs.Rows.{own}
 use Rattle.trace_errors.specs.Direct as direct
@@ -15,16 +13,14 @@ use Rattle.trace_points.specs.exchanges.Coming.{TellsComing}
 use Rattle.trace_replies.specs.firsts.Firsts.{TellsEarlier, TellsFirst}
 use Rattle.trace_replies.specs.firsts.Firsts as firsts
 use Rattle.trace_replies.specs.given.Coming.{TellsCame}
-use Rattle.trace_replies.specs.declared.messages.message.Told.{Told}
-use Rattle.trace_replies.specs.declared.messages.message.Judged.{Judged}
+use Rattle.trace_replies.specs.declared.messages.message.{Told.Told, Judged.Judged}
 use Rattle.trace_replies.specs.messages.Message.{FailsHere, IsTold, IsLast}
 use Rattle.trace_replies.specs.messages.Message as messages
 use Rattle.trace_errors.specs.owed.Owed as owed
 use Rattle.trace_points.specs.questions.Outs.{Tells}
 use Rattle.trace_replies.specs.views.Errors as kept_errors
-use Rattle.trace_judge.specs.declared.case.Case.{Case}
+use Rattle.trace_judge.specs.declared.case.{Case.Case, Mark.Mark}
 use Rattle.trace_judge.specs.declared.course.Course.{Course}
-use Rattle.trace_judge.specs.declared.case.Mark.{Mark}
 use Rattle.trace_judge.specs.Known.{IsMark, conf_in, settings_in, event_in}
 use Rattle.trace_judge.specs.Replies.{marked_as_failing}
 use Rattle.trace_judge.specs.Replies as plain

@@ -1,16 +1,10 @@
 -- What is said of outs is what the definitions say.
 use Rattle.std.proofs.Common.{◌≡◌, ℕ, ◌∷◌, Bool, true, false, Option, Some, None, Ok, Err, refl, sym, ap, ◌∙◌, subst, map}
 use Rattle.client_request.specs.declared.error.Error.{Error}
-use Rattle.client_request.specs.declared.event.Out.{Out}
+use Rattle.client_request.specs.declared.event.{Out.Out, What.What, Row.Row}
 use Rattle.client_request.specs.declared.event.Out.TheVariants.{Close, Reply, Stale}
-use Rattle.client_request.specs.declared.event.What.{What}
 use Rattle.right_trace.specs.Trace.{History, Conf, Came, Put, after}
-use Rattle.right_trace.specs.Time.{newest}
-use Rattle.right_trace.specs.Messages.{Octets}
-use Rattle.right_trace.specs.Settings.{Settings}
-use Rattle.right_trace.specs.Errors.{DirectCause}
-use Rattle.right_trace.specs.Stale.{MessageIsRight}
-use Rattle.client_request.specs.declared.event.Row.{Row}
+use Rattle.right_trace.specs.{Time.newest, Messages.Octets, Settings.Settings, Errors.DirectCause, Stale.MessageIsRight}
 use Rattle.trace_outs.specs.busy.Backs.{TellsEnd}
 use Rattle.trace_points.specs.due.Timers as timers
 use Rattle.trace_points.specs.exchanges.Coming.{AllComing}
@@ -29,9 +23,8 @@ use Rattle.trace_points.specs.questions.Outs.{Tells, TellsFirst}
 use Rattle.trace_outs.specs.declared.reasons.point.Point.{Point}
 use Rattle.trace_outs.specs.reasons.Point as points
 use Rattle.trace_outs.specs.reasons.Closing as closing
-use Rattle.trace_judge.specs.declared.case.Case.{Case}
+use Rattle.trace_judge.specs.declared.case.{Case.Case, Mark.Mark}
 use Rattle.trace_judge.specs.declared.course.Course.{Course}
-use Rattle.trace_judge.specs.declared.case.Mark.{Mark}
 use Rattle.trace_judge.specs.Known.{MarkKnown, Known, conf_in, settings_in, event_in}
 use Rattle.trace_judge.specs.Replies as plain
 use Rattle.trace_judge.specs.Outs.{IsOther, TellsSaid, TellsOut, TellsBadEnd, TellsBad, TellsMark}

@@ -7,8 +7,7 @@ use Rattle.trace_points.specs.questions.Outs.{Tells}
 use Rattle.trace_points.proofs.lemmas.questions.Deciding.{both, all}
 use Rattle.trace_judge.specs.declared.case.Case.{Case}
 use Rattle.trace_judge.specs.declared.course.Course.{Course}
-use Rattle.trace_judge.specs.declared.outs.Kept.{Kept}
-use Rattle.trace_judge.specs.declared.outs.Said.{Said}
+use Rattle.trace_judge.specs.declared.outs.{Kept.Kept, Said.Said}
 use Rattle.trace_judge.specs.Known.{Known, conf_in, settings_in, event_in}
 use Rattle.trace_judge.specs.Outs.{TellsSaid}
 use Rattle.trace_judge.specs.Course.{AreKept, IsRun, IsStep, Puts, Runs, StepsTo}

@@ -1,20 +1,18 @@
 -- Rows and events, one after another, and what is said of all.
 use Rattle.std.proofs.Common.{◌≡◌, ◌+◌, ◌<◌, ◌≤◌, ℕ, zero, suc, List, [], ◌∷◌, length, drop, Some, None, refl, sym, ap, subst, arith}
 use Rattle.std.specs.Prelude.{◌↔◌}
-use Rattle.client_request.specs.declared.event.Event.{Event}
-use Rattle.client_request.specs.declared.event.Row.{Row}
+use Rattle.client_request.specs.declared.event.{Event.Event, Row.Row}
 use Rattle.right_trace.specs.Trace.{History, Conf, after}
 use Rattle.right_trace.specs.Settings.{Settings}
 use Rattle.trace_judge.specs.clauses.Clauses as clauses
 use Rattle.trace_judge.specs.clauses.Verdicts.{Verdict, Right, Wrong, IsVerdict, KeepsAll}
 use Rattle.trace_judge.specs.declared.judge.Judge.{Judge}
 use Rattle.trace_judge.specs.declared.rules.Rules.{Rules}
-use Rattle.trace_judge.specs.declared.verdict.Clause.{Clause}
+use Rattle.trace_judge.specs.declared.verdict.{Clause.Clause, Verdict.Verdict as Said}
 use Rattle.trace_judge.specs.Judge.{IsJudged, Judges, Known}
 use Rattle.trace_judge.specs.Judge as plain
 use Rattle.trace_judge.specs.Known.{BehindRight}
 use Rattle.trace_judge.specs.Verdict.{clause_of, verdict_of}
-use Rattle.trace_judge.specs.declared.verdict.Verdict.{Verdict as Said}
 use Rattle.trace_judge.specs.declared.verdict.Verdict.TheVariants as said
 use Rattle.right_trace.specs.Right as right
 use Rattle.trace_judge.specs.clauses.Laws.{HaveEvents}

@@ -1,8 +1,6 @@
 -- The outs of a row, one after another, and what they owe together when the row is done.
 use Rattle.std.specs.Prelude.{◌≡◌, ◌≤◌, ◌∷◌, ◌&&◌, Bool, true, List, [], None}
-use Rattle.client_request.specs.declared.event.Event.{Event}
-use Rattle.client_request.specs.declared.event.Out.{Out}
-use Rattle.client_request.specs.declared.event.What.{What}
+use Rattle.client_request.specs.declared.event.{Event.Event, Out.Out, What.What}
 use Rattle.right_trace.specs.Trace.{History, Conf, Put, put_all, after}
 use Rattle.right_trace.specs.Settings.{Settings, defers_nothing}
 use Rattle.right_trace.specs.Orderly.{PlacesAreMet}
@@ -13,8 +11,7 @@ use Rattle.trace_replies.specs.given.Earlier.{Steps}
 use Rattle.trace_judge.specs.clauses.Clauses.{EachOwes, MessageOwes, ReplyOwesFirst, ErrorOwes, OtherOwes}
 use Rattle.trace_judge.specs.declared.case.Case.{Case}
 use Rattle.trace_judge.specs.declared.course.Course.{Course}
-use Rattle.trace_judge.specs.declared.outs.Kept.{Kept}
-use Rattle.trace_judge.specs.declared.outs.Said.{Said}
+use Rattle.trace_judge.specs.declared.outs.{Kept.Kept, Said.Said}
 use Rattle.trace_judge.specs.declared.rules.Rules.{Rules}
 use Rattle.trace_judge.specs.Tables as tables
 use Rattle.trace_judge.specs.Known.{Known, conf_in, settings_in, event_in}

@@ -1,11 +1,9 @@
 -- A row, judged behind rows that are right.
 use Rattle.std.specs.Prelude.{◌≡◌, ◌∷◌, Bool, List, Option, Some, None, if◌then◌else◌}
-use Rattle.client_request.specs.declared.event.Event.{Event}
-use Rattle.client_request.specs.declared.event.Row.{Row}
+use Rattle.client_request.specs.declared.event.{Event.Event, Row.Row}
 use Rattle.right_trace.specs.Trace.{History, Conf, Came, after}
-use Rattle.right_trace.specs.Time.{row_before}
+use Rattle.right_trace.specs.{Time.row_before, Right.Prompt}
 use Rattle.right_trace.specs.Settings.{Settings, defers_nothing}
-use Rattle.right_trace.specs.Right.{Prompt}
 use Rattle.trace_points.specs.declared.exchanges.coming.Coming.{Coming}
 use Rattle.trace_points.specs.exchanges.Coming.{AllComing}
 use Rattle.trace_points.specs.questions.Outs.{Tells}
@@ -16,12 +14,11 @@ use Rattle.trace_judge.specs.declared.outs.Kept.{Kept}
 use Rattle.trace_judge.specs.declared.rules.Rules.{Rules}
 use Rattle.trace_judge.specs.declared.verdict.Clause.{Clause}
 use Rattle.trace_judge.specs.declared.verdict.Clause.TheVariants.{Messages, Firsts, Causes, Orders, Prompts}
-use Rattle.trace_judge.specs.Course.{AreKept}
+use Rattle.trace_judge.specs.{Course.AreKept, Verdict.clause_of}
 use Rattle.trace_judge.specs.Course as course
 use Rattle.trace_judge.specs.Known.{BehindRight, PastKnown, CourseKnown}
 use Rattle.trace_judge.specs.Past as past
 use Rattle.trace_judge.specs.Tables as tables
-use Rattle.trace_judge.specs.Verdict.{clause_of}
 
 -- what is known between rows
 pub record Known (c : Conf) (s : Settings) (x : History) (j : Judge) : Type 0 where

@@ -1,15 +1,12 @@
 -- What is known before a row, and at a point within one.
 use Rattle.std.specs.Prelude.{◌≡◌, ℕ, ◌∷◌, List, Option, Some, None}
-use Rattle.client_request.specs.declared.event.Out.TheVariants.{Stale}
-use Rattle.client_request.specs.declared.event.Row.{Row}
-use Rattle.client_request.specs.declared.event.What.{What}
+use Rattle.client_request.specs.declared.event.{Out.TheVariants.Stale, Row.Row, What.What}
 use Rattle.right_trace.specs.Trace.{History, Conf, Came, Put}
 use Rattle.right_trace.specs.Time.{now, newest, row_before}
 use Rattle.right_trace.specs.Settings.{Settings, defers_nothing}
 use Rattle.trace_tables.specs.declared.places.Place.{Place}
 use Rattle.trace_tables.specs.frames.Here as here_outs
-use Rattle.trace_points.specs.exchanges.Asked.{AskedFirst}
-use Rattle.trace_points.specs.exchanges.Coming.{AllComing}
+use Rattle.trace_points.specs.exchanges.{Asked.AskedFirst, Coming.AllComing}
 use Rattle.trace_points.specs.questions.Outs.{Tells}
 use Rattle.trace_errors.specs.promptness.Heard as heards
 use Rattle.trace_points.specs.pass.Pass as pass
@@ -19,9 +16,8 @@ use Rattle.trace_replies.specs.given.Earlier.{EachWasAsked}
 use Rattle.trace_replies.specs.given.Earlier as replies
 use Rattle.trace_replies.specs.messages.Message.{FailsHere}
 use Rattle.trace_judge.specs.declared.past.Past.{Past}
-use Rattle.trace_judge.specs.declared.case.Case.{Case}
+use Rattle.trace_judge.specs.declared.case.{Case.Case, Mark.Mark}
 use Rattle.trace_judge.specs.declared.course.Course.{Course}
-use Rattle.trace_judge.specs.declared.case.Mark.{Mark}
 use Rattle.trace_judge.specs.Tables as tables
 
 -- `x` is what happened before the row, and `h` what happened up to a point within it.

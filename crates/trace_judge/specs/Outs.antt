@@ -1,21 +1,16 @@
 -- What is said of an out where it is put.
 use Rattle.std.specs.Prelude.{ℕ, ◌∷◌, Bool, Option}
-use Rattle.client_request.specs.declared.event.Out.{Out}
-use Rattle.client_request.specs.declared.event.Out.TheVariants.{Reply}
-use Rattle.client_request.specs.declared.event.What.{What}
+use Rattle.client_request.specs.declared.event.{Out.Out, Out.TheVariants.Reply, What.What}
 use Rattle.right_trace.specs.Trace.{History, Conf, Put, after}
-use Rattle.right_trace.specs.Settings.{Settings}
-use Rattle.right_trace.specs.Busy.{EndsBadly}
+use Rattle.right_trace.specs.{Settings.Settings, Busy.EndsBadly}
 use Rattle.trace_points.specs.questions.Outs.{Tells}
 use Rattle.trace_outs.specs.busy.Backs.{TellsEnd}
 use Rattle.trace_replies.specs.given.Earlier as replies
 use Rattle.trace_outs.specs.Outs.{OutOwes}
 use Rattle.trace_judge.specs.clauses.Clauses.{MessageOwes, ReplyOwesFirst, ErrorOwes, OtherOwes}
-use Rattle.trace_judge.specs.declared.case.Case.{Case}
+use Rattle.trace_judge.specs.declared.case.{Case.Case, Mark.Mark}
 use Rattle.trace_judge.specs.declared.course.Course.{Course}
-use Rattle.trace_judge.specs.declared.case.Mark.{Mark}
-use Rattle.trace_judge.specs.declared.outs.Kept.{Kept}
-use Rattle.trace_judge.specs.declared.outs.Said.{Said}
+use Rattle.trace_judge.specs.declared.outs.{Kept.Kept, Said.Said}
 use Rattle.trace_judge.specs.Known.{MarkKnown, conf_in, settings_in, event_in}
 use Rattle.trace_judge.specs.Replies.{AtPoints}
 

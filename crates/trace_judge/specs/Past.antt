@@ -1,18 +1,16 @@
 -- What is known before a row, and what the row makes of it.
 use Rattle.std.specs.Prelude.{List, []}
 use Rattle.client_request.specs.declared.event.Row.{Row}
-use Rattle.right_trace.specs.Settings.{Settings}
+use Rattle.right_trace.specs.{Settings.Settings, Trace.Conf}
 use Rattle.trace_tables.specs.declared.frames.here.Here.{Here}
 use Rattle.trace_tables.specs.declared.frames.ledger.Ledger.{Ledger}
 use Rattle.trace_points.specs.declared.exchanges.coming.Coming.{Coming}
-use Rattle.trace_errors.specs.promptness.Heard.{passed_over_in}
+use Rattle.trace_errors.specs.promptness.{Heard.passed_over_in, Prompt.excused_in}
 use Rattle.trace_errors.specs.promptness.Heard as heards
-use Rattle.trace_errors.specs.promptness.Prompt.{excused_in}
 use Rattle.trace_points.specs.pass.Pass as pass
 use Rattle.trace_errors.specs.Earlier as errors
 use Rattle.trace_replies.specs.firsts.Firsts as firsts
 use Rattle.trace_judge.specs.declared.past.Past.{Past}
-use Rattle.right_trace.specs.Trace.{Conf}
 
 abbrev pub nothing : Past
 nothing = record { pass = pass.nothing; heard = []; errors = errors.nothing; firsts = [] }

@@ -5,19 +5,14 @@ use Rattle.client_request.specs.declared.error.Error.TheVariants as errors
 use Rattle.client_request.specs.declared.error.QueryError.TheVariants as query
 use Rattle.client_request.specs.declared.fault.Fault.{Fault}
 use Rattle.client_request.specs.declared.fault.Fault.TheVariants as fault
-use Rattle.right_trace.specs.Trace.{History}
-use Rattle.right_trace.specs.Messages.{Octets}
-use Rattle.right_trace.specs.Coming.{CameFirst}
-use Rattle.right_trace.specs.Owed.{AllAreDone}
+use Rattle.right_trace.specs.{Trace.History, Messages.Octets, Coming.CameFirst, Owed.AllAreDone}
 use Rattle.right_trace.specs.Errors.{OwnCause, HasCause, IsKeptError, DirectCause}
 use Rattle.trace_points.specs.questions.Outs.{Tells}
 use Rattle.trace_replies.specs.firsts.Failing.{MessageFails}
-use Rattle.trace_replies.specs.declared.messages.message.Told.{Told}
-use Rattle.trace_replies.specs.declared.messages.message.Judged.{Judged}
+use Rattle.trace_replies.specs.declared.messages.message.{Told.Told, Judged.Judged}
 use Rattle.trace_replies.specs.messages.Message.{FailsHere, IsTold, IsJudged}
-use Rattle.trace_judge.specs.declared.case.Case.{Case}
+use Rattle.trace_judge.specs.declared.case.{Case.Case, Mark.Mark}
 use Rattle.trace_judge.specs.declared.course.Course.{Course}
-use Rattle.trace_judge.specs.declared.case.Mark.{Mark}
 use Rattle.trace_judge.specs.Known.{Known, conf_in, settings_in, event_in}
 
 abbrev pub marked_as_failing : Option Mark → (k : ℕ) → Bool

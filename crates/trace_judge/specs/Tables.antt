@@ -1,8 +1,6 @@
 -- What a forward pass knows at a point of a trace, but for what replies gave.
 use Rattle.std.specs.Prelude.{ℕ, Bool, max, []}
-use Rattle.client_request.specs.declared.event.Event.{Event}
-use Rattle.client_request.specs.declared.event.Out.{Out}
-use Rattle.client_request.specs.declared.event.What.{What}
+use Rattle.client_request.specs.declared.event.{Event.Event, Out.Out, What.What}
 use Rattle.right_trace.specs.Trace.{History, Conf}
 use Rattle.trace_points.specs.pass.Pass as pass
 use Rattle.trace_outs.specs.loads.Loads as loads

@@ -3,9 +3,8 @@ use Rattle.client_request.specs.declared.event.Event.{Event}
 use Rattle.std.specs.Prelude.{List, [], ◌∷◌}
 use Rattle.trace_judge.specs.clauses.Clauses as clauses
 use Rattle.trace_judge.specs.clauses.Verdicts as verdicts
-use Rattle.trace_judge.specs.declared.verdict.Clause.{Clause}
+use Rattle.trace_judge.specs.declared.verdict.{Clause.Clause, Verdict.Verdict}
 use Rattle.trace_judge.specs.declared.verdict.Clause.TheVariants.{Events, Messages, Firsts, Causes, Orders, Prompts}
-use Rattle.trace_judge.specs.declared.verdict.Verdict.{Verdict}
 use Rattle.trace_judge.specs.declared.verdict.Verdict.TheVariants.{Right, Wrong}
 
 abbrev pub clause_of : Clause → clauses.Clause

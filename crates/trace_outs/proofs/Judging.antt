@@ -2,21 +2,17 @@
 use Rattle.std.proofs.Common.{◌≡◌, ℕ, ◌<◌, ◌&&◌, Bool, true, false, length, map, List, [], ◌∷◌, suc, Option, refl, sym, ap, ◌∙◌, subst}
 use Rattle.std.specs.Prelude.{nat_lt, is_none}
 use Rattle.number_table.specs.Entries.{entry_at}
-use Rattle.client_request.specs.declared.event.Via.{Via}
-use Rattle.client_request.specs.declared.event.Out.{Out}
+use Rattle.client_request.specs.declared.event.{Via.Via, Out.Out}
 use Rattle.client_request.specs.declared.event.Out.TheVariants.{Start, OpenDgram, OpenStream, Send, Write, Resume, Close, Stale, Reply}
 use Rattle.right_trace.specs.Trace.{History, Conf}
-use Rattle.right_trace.specs.Messages.{Octets}
-use Rattle.right_trace.specs.Right.{HasServer}
+use Rattle.right_trace.specs.{Messages.Octets, Right.HasServer}
 use Rattle.trace_points.specs.declared.questions.configured.ServerUse.{ServerUse}
-use Rattle.trace_points.specs.questions.Configured.{use_of}
+use Rattle.trace_points.specs.questions.{Configured.use_of, Streams.TellsWrite}
 use Rattle.trace_points.specs.questions.Outs.{OpenIsRight, opens_seen, TellsSend, TellsOpening}
-use Rattle.trace_points.specs.questions.Streams.{TellsWrite}
 use Rattle.trace_points.proofs.lemmas.questions.Deciding.{both, all, tells_opening}
 use Rattle.trace_outs.specs.declared.reasons.point.Point.{Point}
 use Rattle.trace_outs.specs.reasons.Point.{Known, has_server_seen}
-use Rattle.trace_outs.specs.reasons.Starting.{TellsStart}
-use Rattle.trace_outs.specs.reasons.Closing.{TellsClose}
+use Rattle.trace_outs.specs.reasons.{Starting.TellsStart, Closing.TellsClose}
 use Rattle.trace_outs.proofs.lemmas.reasons.Shutting.{server_so, so_server}
 use Rattle.trace_outs.specs.declared.loads.loads.Loads.{Loads}
 use Rattle.trace_outs.specs.declared.loads.held.Held.{Held}

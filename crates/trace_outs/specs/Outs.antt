@@ -1,8 +1,7 @@
 -- Whether an out of a row is right where it is put, replies not asked.
 use Rattle.std.specs.Prelude.{ℕ, ◌&&◌, Bool, is_none, nat_lt, length}
 use Rattle.number_table.specs.Entries.{entry_at}
-use Rattle.client_request.specs.declared.event.What.{What}
-use Rattle.client_request.specs.declared.event.Out.{Out}
+use Rattle.client_request.specs.declared.event.{What.What, Out.Out}
 use Rattle.client_request.specs.declared.event.Out.TheVariants.{Reply, Stale}
 use Rattle.right_trace.specs.Trace.{History, Conf}
 use Rattle.right_trace.specs.Right.{HasServer, ServerOutRight}

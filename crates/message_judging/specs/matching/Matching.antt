@@ -5,14 +5,12 @@ use Rattle.dns_values.specs.declared.error.ParseError.{ParseError}
 use Rattle.dns_values.specs.declared.numbers.Section.{Section}
 use Rattle.dns_values.specs.declared.numbers.Section.TheVariants.{Answer, Authority, Additional}
 use Rattle.dns_names.specs.Name.{same_name}
-use Rattle.dns_base.specs.Data.{Data}
+use Rattle.dns_base.specs.{Data.Data, OptRecord.OptFields, Header.id_of}
 use Rattle.dns_base.specs.Message.{Known, Written, header_of}
 use Rattle.dns_base.specs.Answering.{same_items, question_items}
-use Rattle.dns_base.specs.OptRecord.{OptFields}
 use Rattle.client_request.specs.Request.{Request, opt_written, with_id, with_option}
 use Rattle.client_request.specs.declared.event.Via.{Via}
 use Rattle.client_request.specs.declared.event.Via.TheVariants.{Dgram, Stream}
-use Rattle.dns_base.specs.Header.{id_of}
 use Rattle.client_request.specs.Composed.{section_items, written_from, is_replaced}
 use Rattle.right_trace.specs.Messages.{announcing}
 use Rattle.message_judging.specs.matching.Shapes.{same_octets, same_shape, shape_of, plain_octets}

@@ -3,13 +3,11 @@ use Rattle.std.specs.Prelude.{ℕ, ◌+◌, min, List, [], ◌∷◌, Option, So
 use Rattle.dns_values.specs.declared.error.ParseError.{ParseError}
 use Rattle.dns_values.specs.declared.numbers.Section.{Section}
 use Rattle.dns_values.specs.declared.numbers.Section.TheVariants.{Answer, Authority, Additional}
-use Rattle.dns_base.specs.Numbers.{◌>>=◌}
+use Rattle.dns_base.specs.{Numbers.◌>>=◌, Answering.question_items}
 use Rattle.dns_base.specs.Message.{Asked, Known}
-use Rattle.dns_base.specs.Answering.{question_items}
 use Rattle.dns_base.specs.Draft.{question_size, record_size}
 use Rattle.client_request.specs.Composed.{section_items, written_from, is_replaced}
-use Rattle.message_judging.specs.declared.validity.sizes.Size.{Size}
-use Rattle.message_judging.specs.declared.validity.sizes.BaseSize.{BaseSize}
+use Rattle.message_judging.specs.declared.validity.sizes.{Size.Size, BaseSize.BaseSize}
 
 abbrev pub most : ℕ → ℕ
 most n = min 65536 n

@@ -1,9 +1,7 @@
 -- Of a request, by what its base has: whether it is read, passes a count, fits, is valid and may be kept.
 use Rattle.std.specs.Prelude.{◌≡◌, ◌≤◌, ℕ, ◌+◌, ◌==◌, ◌&&◌, ◌||◌, not, nat_lt, nat_le, Bool, false, length, is_some, Option, Some, None}
 use Rattle.std.specs.Option.{option_map_or}
-use Rattle.dns_base.specs.Header.{opcode_of}
-use Rattle.dns_base.specs.Message.{sole_question}
-use Rattle.dns_base.specs.OptRecord.{OptFields}
+use Rattle.dns_base.specs.{Header.opcode_of, Message.sole_question, OptRecord.OptFields}
 use Rattle.client_request.specs.Request.{Request, opt_or_empty, is_misformed}
 use Rattle.right_trace.specs.Messages.{base_is_read, passes_count, is_valid}
 use Rattle.right_trace.specs.Keys.{is_cacheable}

@@ -5,10 +5,9 @@ use Rattle.dns_values.specs.declared.error.ParseError.{ParseError}
 use Rattle.dns_values.specs.declared.numbers.Section.{Section}
 use Rattle.dns_values.specs.declared.numbers.Section.TheVariants.{Answer, Authority, Additional}
 use Rattle.dns_names.specs.Name.{same_name}
-use Rattle.dns_base.specs.Data.{Data}
+use Rattle.dns_base.specs.{Data.Data, OptRecord.opt_rcode}
 use Rattle.dns_base.specs.Message.{Known, header_of}
 use Rattle.dns_base.specs.Answering.{same_items, question_items}
-use Rattle.dns_base.specs.OptRecord.{opt_rcode}
 use Rattle.client_request.specs.Composed.{section_items}
 use Rattle.right_trace.specs.Messages.{Octets}
 use Rattle.right_trace.specs.Parts.{Header, Parts, flags_in, known_parts, Says}

@@ -3,16 +3,14 @@ use Rattle.std.specs.Prelude.{◌≡◌, ℕ, ◌-◌, ◌/◌, ◌&&◌, min, n
 use Rattle.dns_names.specs.Name.{Labels}
 use Rattle.dns_base.specs.Data.{Data}
 use Rattle.client_request.specs.Request.{Request}
-use Rattle.right_trace.specs.Messages.{Octets}
-use Rattle.right_trace.specs.Settings.{Settings}
+use Rattle.right_trace.specs.{Messages.Octets, Settings.Settings}
 use Rattle.right_trace.specs.Keys.{KeysCover, key_of, spelled_name}
 use Rattle.right_trace.specs.Parts.{Parts, known_parts, Says}
 use Rattle.right_trace.specs.Validity.{is_above, validity_of_message}
 use Rattle.right_trace.specs.Views.{viewed, view_of, stale_of, IsValidView, IsValidStale}
 use Rattle.cache_rules.specs.Key.{flag_class}
 use Rattle.cache_rules.specs.Viewing.{SaysView, SaysExpired}
-use Rattle.cache_rules.specs.declared.copying.Ttls.{Ttls}
-use Rattle.cache_rules.specs.declared.copying.Ttls.TheVariants.{Lessened}
+use Rattle.cache_rules.specs.declared.copying.{Ttls.Ttls, Ttls.TheVariants.Lessened}
 use Rattle.message_judging.specs.declared.views.serving.Flags.{Flags}
 
 -- a request has these flags

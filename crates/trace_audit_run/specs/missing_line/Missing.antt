@@ -1,10 +1,7 @@
 -- What is missing at a row, as a line.
 use Rattle.std.specs.Prelude.{ℕ, ◌+◌, Bool, true, false, List, [], ◌++◌, codes, take, slice_get, Option, Some, None}
-use Rattle.std.specs.Fmt.{decimal}
-use Rattle.std.specs.List.{flat_map}
-use Rattle.client_request.specs.declared.event.What.{What}
-use Rattle.client_request.specs.declared.event.Out.{Out}
-use Rattle.client_request.specs.declared.event.Row.{Row}
+use Rattle.std.specs.{Fmt.decimal, List.flat_map}
+use Rattle.client_request.specs.declared.event.{What.What, Out.Out, Row.Row}
 use Rattle.trace_judge.specs.declared.verdict.Clause.{Clause}
 use Rattle.trace_judge.specs.declared.verdict.Clause.TheVariants.{Events, Messages, Firsts, Causes, Orders, Prompts}
 use Rattle.trace_hits.specs.timely.Longest.{longest}

@@ -1,8 +1,7 @@
 -- Which request was sent or written last at a place.
 use Rattle.std.specs.Prelude.{ℕ, ◌==◌, if◌then◌else◌, List, [], ◌∷◌, Option, Some}
-use Rattle.client_request.specs.declared.event.Out.{Out}
+use Rattle.client_request.specs.declared.event.{Out.Out, Row.Row}
 use Rattle.client_request.specs.declared.event.Out.TheVariants.{Send, Write}
-use Rattle.client_request.specs.declared.event.Row.{Row}
 
 -- the last one, once this is put out
 abbrev pub last_with : (p : ℕ) → Out → Option ℕ → Option ℕ

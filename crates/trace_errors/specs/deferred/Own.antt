@@ -21,12 +21,10 @@ use Rattle.trace_errors.specs.promptness.Heard.{Heards}
 use Rattle.trace_errors.specs.promptness.Heard as heards
 use Rattle.trace_errors.specs.promptness.Prompt.{matches, excused_in}
 use Rattle.trace_errors.specs.declared.earlier.Earlier.{Earlier}
-use Rattle.trace_errors.specs.Arrivals.{is_marked}
+use Rattle.trace_errors.specs.{Arrivals.is_marked, Direct.TellsDirect}
 use Rattle.trace_errors.specs.Earlier as earlier
-use Rattle.trace_errors.specs.owed.Exchanged.{Exchanged}
+use Rattle.trace_errors.specs.owed.{Exchanged.Exchanged, Owed.TellsDone}
 use Rattle.trace_errors.specs.owed.Exchanged as exchanged
-use Rattle.trace_errors.specs.owed.Owed.{TellsDone}
-use Rattle.trace_errors.specs.Direct.{TellsDirect}
 
 -- a message came for request k and matches it
 abbrev pub some_matching : (k : ℕ) → List Coming → Bool

@@ -1,13 +1,10 @@
 -- What a forward pass keeps of where a request was sent or written, and under which ids.
 use Rattle.std.specs.Prelude.{ℕ, List, [], ◌∷◌}
 use Rattle.client_request.specs.Request.{Request}
-use Rattle.client_request.specs.declared.event.Event.{Event}
-use Rattle.client_request.specs.declared.event.Out.{Out}
+use Rattle.client_request.specs.declared.event.{Event.Event, Out.Out}
 use Rattle.client_request.specs.declared.event.Out.TheVariants.{Send, Write}
 use Rattle.right_trace.specs.Trace.{History, Came, Put, Conf}
-use Rattle.right_trace.specs.Messages.{Octets}
-use Rattle.right_trace.specs.Parts.{IsIn}
-use Rattle.right_trace.specs.Writes.{waiting_with}
+use Rattle.right_trace.specs.{Messages.Octets, Parts.IsIn, Writes.waiting_with}
 use Rattle.right_trace.specs.Exchanges.{unanswered, octets_for, IsAmong}
 use Rattle.trace_tables.specs.Lists.{listed, adds}
 use Rattle.trace_errors.specs.declared.owed.exchanged.Exchange.{Exchange}

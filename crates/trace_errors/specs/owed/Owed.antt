@@ -2,25 +2,20 @@
 use Rattle.std.specs.Prelude.{◌≡◌, ℕ, ◌<◌, ◌==◌, ◌&&◌, ◌||◌, not, nat_lt, Bool, true, false, length, List, [], ◌∷◌, Option, Some, None}
 use Rattle.number_table.specs.Entries.{entry_at}
 use Rattle.client_request.specs.Request.{Request}
-use Rattle.client_request.specs.declared.event.What.{What}
-use Rattle.client_request.specs.declared.event.Via.{Via}
+use Rattle.client_request.specs.declared.event.{What.What, Via.Via}
 use Rattle.client_request.specs.declared.event.Via.TheVariants.{Dgram, Stream}
 use Rattle.right_trace.specs.Trace.{History, Conf}
-use Rattle.right_trace.specs.Requests.{Asking}
+use Rattle.right_trace.specs.{Requests.Asking, Writes.Written, Owed.AllAreDone}
 use Rattle.right_trace.specs.Places.{is_alive, is_told}
-use Rattle.right_trace.specs.Writes.{Written}
-use Rattle.right_trace.specs.Owed.{AllAreDone}
 use Rattle.trace_tables.specs.declared.books.Books.{Books}
 use Rattle.trace_tables.specs.declared.places.Place.{Place}
 use Rattle.trace_tables.specs.declared.requests.Requests.{Requests}
 use Rattle.trace_tables.specs.declared.sends.Sent.{Sent}
-use Rattle.trace_tables.specs.Known.{stand_seen}
+use Rattle.trace_tables.specs.{Known.stand_seen, Lists.listed}
 use Rattle.trace_tables.specs.Requests.{start_seen, started_seen}
-use Rattle.trace_tables.specs.Lists.{listed}
 use Rattle.trace_tables.specs.Books as books
 use Rattle.trace_tables.specs.declared.frames.ledger.Ledger.{Ledger}
-use Rattle.trace_tables.specs.frames.Frames.{frames_of}
-use Rattle.trace_tables.specs.frames.Waiting.{waiting_seen}
+use Rattle.trace_tables.specs.frames.{Frames.frames_of, Waiting.waiting_seen}
 use Rattle.trace_tables.specs.frames.Ledger as ledger
 use Rattle.message_judging.specs.matching.Matching.{carries_by}
 use Rattle.trace_points.specs.due.Loose.{brings_seen}

@@ -1,11 +1,8 @@
 -- What a forward pass keeps of servers that a message came from by stream, by request.
 use Rattle.std.specs.Prelude.{◌≡◌, ℕ, ◌==◌, ◌&&◌, ◌||◌, ◌⊎◌, Bool, true, false, if◌then◌else◌, List, [], ◌∷◌, Option, Some, None}
-use Rattle.client_request.specs.declared.event.Row.{Row}
-use Rattle.client_request.specs.declared.event.Via.TheVariants.{Stream}
+use Rattle.client_request.specs.declared.event.{Row.Row, Via.TheVariants.Stream}
 use Rattle.right_trace.specs.Trace.{History, Conf, after}
-use Rattle.right_trace.specs.Time.{EarlierRow}
-use Rattle.right_trace.specs.Requests.{same_via}
-use Rattle.right_trace.specs.Causes.{Heard}
+use Rattle.right_trace.specs.{Time.EarlierRow, Requests.same_via, Causes.Heard}
 use Rattle.trace_tables.specs.Lists.{listed, adds}
 use Rattle.trace_tables.specs.declared.frames.here.Here.{Here}
 use Rattle.trace_tables.specs.declared.frames.frames.Brought.{Brought}

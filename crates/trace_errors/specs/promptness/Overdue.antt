@@ -4,21 +4,17 @@ use Rattle.number_table.specs.Entries.{entry_at}
 use Rattle.client_request.specs.declared.event.Via.TheVariants.{Stream}
 use Rattle.right_trace.specs.Time.{read_timeout, stream_timeout, max_tries}
 use Rattle.right_trace.specs.Trace.{History, Conf}
-use Rattle.right_trace.specs.Settings.{Settings}
-use Rattle.right_trace.specs.Requests.{same_via}
+use Rattle.right_trace.specs.{Settings.Settings, Requests.same_via, Right.IsOverdue}
 use Rattle.right_trace.specs.Causes.{Try, TriesAreUp, StreamIsSilent}
-use Rattle.right_trace.specs.Right.{IsOverdue}
 use Rattle.trace_tables.specs.declared.books.Books.{Books}
 use Rattle.trace_tables.specs.declared.places.Place.{Place}
-use Rattle.trace_tables.specs.declared.requests.Requests.{Requests}
-use Rattle.trace_tables.specs.declared.requests.Started.{Started}
+use Rattle.trace_tables.specs.declared.requests.{Requests.Requests, Started.Started}
 use Rattle.trace_tables.specs.declared.sends.Tried.{Tried}
 use Rattle.trace_tables.specs.Requests.{start_seen, past_at}
 use Rattle.trace_tables.specs.Sends.{count_at, last_at}
 use Rattle.trace_tables.specs.Lists.{listed}
 use Rattle.trace_tables.specs.Books as books
-use Rattle.trace_points.specs.questions.Searching.{live_seen}
-use Rattle.trace_points.specs.questions.Outs.{Tells}
+use Rattle.trace_points.specs.questions.{Searching.live_seen, Outs.Tells}
 use Rattle.trace_errors.specs.promptness.Heard.{Heards, heard_seen}
 use Rattle.trace_errors.specs.promptness.Heard as heards
 

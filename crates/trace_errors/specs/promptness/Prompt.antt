@@ -1,18 +1,12 @@
 -- Whether each final message that comes is its request's reply, as a walk finds it.
 use Rattle.std.specs.Prelude.{ℕ, ◌==◌, ◌&&◌, ◌||◌, not, nat_lt, Bool, true, false, List, [], ◌∷◌, Option, Some, None, Ok}
 use Rattle.number_table.specs.Entries.{entry_at}
-use Rattle.client_request.specs.declared.event.Out.{Out}
+use Rattle.client_request.specs.declared.event.{Out.Out, Row.Row, Via.Via}
 use Rattle.client_request.specs.declared.event.Out.TheVariants.{Reply, Stale}
-use Rattle.client_request.specs.declared.event.Row.{Row}
-use Rattle.client_request.specs.declared.event.Via.{Via}
 use Rattle.client_request.specs.declared.event.Via.TheVariants.{Dgram, Stream}
 use Rattle.dns_base.specs.Header.{tc_of}
 use Rattle.right_trace.specs.Trace.{History, Conf, after}
-use Rattle.right_trace.specs.Settings.{Settings}
-use Rattle.right_trace.specs.Views.{is_failing_message}
-use Rattle.right_trace.specs.Messages.{Octets}
-use Rattle.right_trace.specs.Requests.{same_via}
-use Rattle.right_trace.specs.Right.{Prompt}
+use Rattle.right_trace.specs.{Settings.Settings, Views.is_failing_message, Messages.Octets, Requests.same_via, Right.Prompt}
 use Rattle.trace_tables.specs.declared.books.Books.{Books}
 use Rattle.trace_tables.specs.declared.places.Place.{Place}
 use Rattle.trace_tables.specs.declared.frames.frames.Brought.{Brought}
@@ -26,10 +20,9 @@ use Rattle.trace_points.specs.due.Timers as timers
 use Rattle.trace_points.specs.declared.exchanges.coming.Coming.{Coming}
 use Rattle.trace_points.specs.exchanges.Coming.{AllComing}
 use Rattle.trace_points.specs.questions.Outs.{Tells}
-use Rattle.trace_errors.specs.promptness.Settings.{is_final_for}
+use Rattle.trace_errors.specs.promptness.{Settings.is_final_for, Overdue.is_overdue}
 use Rattle.trace_errors.specs.promptness.Heard.{Heards, is_passed_over}
 use Rattle.trace_errors.specs.promptness.Heard as heards
-use Rattle.trace_errors.specs.promptness.Overdue.{is_overdue}
 
 -- an out is the reply to request k with this message
 abbrev pub gives : (k : ℕ) → Octets → Out → Bool

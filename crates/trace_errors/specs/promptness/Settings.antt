@@ -1,10 +1,7 @@
 -- The settings of which a trace is judged.
 use Rattle.std.specs.Prelude.{Bool, false, Option, Some, None}
 use Rattle.client_settings.specs.Settings.{CacheSettings}
-use Rattle.right_trace.specs.Messages.{Octets}
-use Rattle.right_trace.specs.Requests.{Asking}
-use Rattle.right_trace.specs.Settings.{Settings}
-use Rattle.right_trace.specs.Validity.{is_final}
+use Rattle.right_trace.specs.{Messages.Octets, Requests.Asking, Settings.Settings, Validity.is_final}
 
 abbrev pub settings_of : CacheSettings → (defers_errors defers_refused defers_servfail : Bool) → Settings
 settings_of c errors refused servfail = record {

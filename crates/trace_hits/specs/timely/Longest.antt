@@ -2,8 +2,7 @@
 use Rattle.std.specs.Prelude.{◌≡◌, ℕ, suc, ◌≤◌, true, false, List, [], ◌∷◌, take, Option, Some, None}
 use Rattle.client_request.specs.declared.event.Row.{Row}
 use Rattle.right_trace.specs.Trace.{History, Conf, after}
-use Rattle.right_trace.specs.Requests.{waits}
-use Rattle.right_trace.specs.Causes.{DeadlineHasPassed}
+use Rattle.right_trace.specs.{Requests.waits, Causes.DeadlineHasPassed}
 use Rattle.trace_hits.specs.timely.Timely.{IsUntimely}
 use Rattle.trace_hits.specs.timely.Waiting.{nothing, after_rows, first_of}
 

@@ -1,14 +1,8 @@
 -- Which requests wait, as a forward pass keeps it.
 use Rattle.std.specs.Prelude.{◌≡◌, ℕ, not, Bool, true, false, is_some, slice_get, option_map, List, [], ◌∷◌, Option, Some, None}
 use Rattle.number_table.specs.Entries.{puts, frees, entry_at}
-use Rattle.client_request.specs.declared.event.Event.{Event}
-use Rattle.client_request.specs.declared.event.What.{What}
-use Rattle.client_request.specs.declared.event.What.TheVariants.{Ask}
-use Rattle.client_request.specs.declared.event.Out.{Out}
-use Rattle.client_request.specs.declared.event.Out.TheVariants.{Reply}
-use Rattle.client_request.specs.declared.event.Row.{Row}
-use Rattle.right_trace.specs.Trace.{History}
-use Rattle.right_trace.specs.Requests.{waits}
+use Rattle.client_request.specs.declared.event.{Event.Event, What.What, What.TheVariants.Ask, Out.Out, Out.TheVariants.Reply, Row.Row}
+use Rattle.right_trace.specs.{Trace.History, Requests.waits}
 use Rattle.trace_tables.specs.sets.Sets.{Members, Rise}
 use Rattle.trace_tables.specs.declared.requests.Requests.{Requests}
 use Rattle.trace_tables.specs.Requests.{replied_seen, deadline_seen}

@@ -1,15 +1,9 @@
 -- A right row, clause by clause: its event, what its replies, its errors and its other outs owe, and that it is prompt.
 use Rattle.std.specs.Prelude.{◌≡◌, ◌≤◌, true, List, [], ◌∷◌, Result, Ok, Err}
-use Rattle.client_request.specs.declared.event.Event.{Event}
-use Rattle.client_request.specs.declared.event.What.{What}
-use Rattle.client_request.specs.declared.event.Out.{Out}
-use Rattle.client_request.specs.declared.event.Out.TheVariants.{Reply}
-use Rattle.client_request.specs.declared.event.Row.{Row}
+use Rattle.client_request.specs.declared.event.{Event.Event, What.What, Out.Out, Out.TheVariants.Reply, Row.Row}
 use Rattle.right_trace.specs.Trace.{History, Conf, Came, Put, after}
 use Rattle.right_trace.specs.Settings.{Settings, defers_nothing}
-use Rattle.right_trace.specs.Errors.{HasCause}
-use Rattle.right_trace.specs.Stale.{MessageIsRight}
-use Rattle.right_trace.specs.Orderly.{PlacesAreMet}
+use Rattle.right_trace.specs.{Errors.HasCause, Stale.MessageIsRight, Orderly.PlacesAreMet}
 use Rattle.right_trace.specs.Right.{HasServer, IsFirst, WaitingIsBusy, OutRight, MarksStand, Prompt, faults}
 
 -- In what follows `past` is what happened before the row, `w` is the row's event, `h` is what happened up to an out, and `end` is what happened when the row is done.

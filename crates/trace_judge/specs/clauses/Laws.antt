@@ -1,7 +1,6 @@
 -- What verdicts are worth.
 use Rattle.std.specs.Prelude.{◌≡◌, List, [], map}
-use Rattle.client_request.specs.declared.event.Event.{Event}
-use Rattle.client_request.specs.declared.event.Row.{Row}
+use Rattle.client_request.specs.declared.event.{Event.Event, Row.Row}
 use Rattle.right_trace.specs.Trace.{History, Conf}
 use Rattle.right_trace.specs.Settings.{Settings}
 use Rattle.right_trace.specs.Right as right

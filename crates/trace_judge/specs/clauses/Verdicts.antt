@@ -1,7 +1,6 @@
 -- What is said of the rows of a trace and the events of a script: that all clauses are kept, or the least row where one isn't, and the first that isn't there.
 use Rattle.std.specs.Prelude.{◌≡◌, ℕ, zero, suc, List, [], ◌∷◌}
-use Rattle.client_request.specs.declared.event.Event.{Event}
-use Rattle.client_request.specs.declared.event.Row.{Row}
+use Rattle.client_request.specs.declared.event.{Event.Event, Row.Row}
 use Rattle.right_trace.specs.Trace.{History, Conf, after}
 use Rattle.right_trace.specs.Settings.{Settings}
 use Rattle.trace_judge.specs.clauses.Clauses.{Clause, Events, Messages, Firsts, Causes, Orders, Prompts, Keeps}

@@ -2,11 +2,9 @@
 use Rattle.std.specs.Prelude.{Bool, true, false, ◌||◌, map}
 use Rattle.client_settings.specs.Settings.{RedundantSettings, CacheSettings}
 use Rattle.client_settings.specs.declared.settings.Transports.{Transports}
-use Rattle.right_trace.specs.Settings.{Settings}
-use Rattle.right_trace.specs.Trace.{Conf}
+use Rattle.right_trace.specs.{Settings.Settings, Trace.Conf}
 use Rattle.resolv_conf.specs.declared.conf.ResolvConf.{ResolvConf}
-use Rattle.resolv_conf.specs.declared.server.ServerConf.{ServerConf}
-use Rattle.resolv_conf.specs.declared.server.Transport.{Transport}
+use Rattle.resolv_conf.specs.declared.server.{ServerConf.ServerConf, Transport.Transport}
 use Rattle.resolv_conf.specs.declared.server.Transport.TheVariants.{UdpTcp, Tcp}
 use Rattle.trace_points.specs.declared.questions.configured.ServerUse.{ServerUse}
 use Rattle.trace_points.specs.declared.questions.configured.ServerUse.TheVariants as uses

@@ -1,12 +1,8 @@
 -- What a forward pass keeps of servers at which requests by stream back off: when that was begun last.
 use Rattle.std.specs.Prelude.{◌≡◌, ℕ, ◌+◌, ◌≤◌, ◌==◌, ◌&&◌, nat_lt, Bool, true, false, List, [], ◌∷◌, Option, Some, None}
 use Rattle.number_table.specs.Entries.{puts, entry_at}
-use Rattle.client_request.specs.declared.event.Event.{Event}
-use Rattle.client_request.specs.declared.event.What.{What}
-use Rattle.client_request.specs.declared.event.What.TheVariants.{OpenFailed}
-use Rattle.client_request.specs.declared.event.Out.{Out}
+use Rattle.client_request.specs.declared.event.{Event.Event, What.What, What.TheVariants.OpenFailed, Out.Out, Via.TheVariants.Stream}
 use Rattle.client_request.specs.declared.event.Out.TheVariants.{OpenStream, Close}
-use Rattle.client_request.specs.declared.event.Via.TheVariants.{Stream}
 use Rattle.right_trace.specs.Trace.{History, Came, Put, Conf}
 use Rattle.right_trace.specs.Time.{now, newest, Ever, back_off}
 use Rattle.right_trace.specs.Requests.{same_via}

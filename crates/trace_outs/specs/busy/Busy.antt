@@ -4,39 +4,31 @@ use Rattle.number_table.specs.Entries.{entry_at}
 use Rattle.client_request.specs.Request.{Request}
 use Rattle.client_request.specs.declared.event.Via.{Via}
 use Rattle.client_request.specs.declared.event.Via.TheVariants.{Dgram, Stream}
-use Rattle.right_trace.specs.Time.{max_places}
+use Rattle.right_trace.specs.{Time.max_places, Writes.Written, Right.WaitingIsBusy}
 use Rattle.right_trace.specs.Trace.{History, Conf}
 use Rattle.right_trace.specs.Places.{is_alive, is_opening}
-use Rattle.right_trace.specs.Writes.{Written}
-use Rattle.right_trace.specs.Right.{WaitingIsBusy}
 use Rattle.right_trace.specs.Requests.{Asking, same_via}
-use Rattle.message_judging.specs.matching.Matching.{carries_by}
-use Rattle.message_judging.specs.matching.Shapes.{same_octets}
+use Rattle.message_judging.specs.matching.{Matching.carries_by, Shapes.same_octets}
 use Rattle.trace_tables.specs.declared.places.Place.{Place}
 use Rattle.trace_tables.specs.declared.requests.Started.{Started}
 use Rattle.trace_tables.specs.declared.sends.Sent.{Sent}
 use Rattle.trace_tables.specs.Known.{stand_of, stand_seen}
 use Rattle.trace_tables.specs.Lists.{listed}
 use Rattle.trace_tables.specs.Requests.{start_seen, started_seen}
-use Rattle.trace_tables.specs.frames.Frames.{frames_of}
-use Rattle.trace_tables.specs.frames.Waiting.{waiting_seen}
+use Rattle.trace_tables.specs.frames.{Frames.frames_of, Waiting.waiting_seen}
 use Rattle.trace_tables.specs.frames.Ledger as ledger
 use Rattle.trace_tables.specs.declared.writes.writing.Writing.{Writing}
 use Rattle.trace_tables.specs.writes.Writing.{unwritten_seen}
 use Rattle.trace_tables.specs.writes.Writing as writing
-use Rattle.trace_points.specs.questions.Configured.{use_of}
-use Rattle.trace_points.specs.questions.Outs.{Tells}
-use Rattle.trace_points.specs.exchanges.Coming.{is_young}
-use Rattle.trace_points.specs.exchanges.Open.{is_for}
+use Rattle.trace_points.specs.questions.{Configured.use_of, Outs.Tells}
+use Rattle.trace_points.specs.exchanges.{Coming.is_young, Open.is_for}
 use Rattle.trace_points.specs.exchanges.Open as open_sends
 use Rattle.trace_points.specs.due.Loose.{brings_seen}
 use Rattle.trace_tables.specs.sets.Sets.{Members, count_of, members, some_of}
 use Rattle.trace_outs.specs.loads.Loads as loads
-use Rattle.trace_outs.specs.declared.busy.waits.Carried.{Carried}
-use Rattle.trace_outs.specs.declared.busy.waits.Spot.{Spot}
+use Rattle.trace_outs.specs.declared.busy.waits.{Carried.Carried, Spot.Spot}
 use Rattle.trace_outs.specs.declared.busy.busy.Scene.{Scene}
-use Rattle.trace_outs.specs.busy.Backs.{is_within}
-use Rattle.trace_outs.specs.busy.Taken.{taken_seen}
+use Rattle.trace_outs.specs.busy.{Backs.is_within, Taken.taken_seen}
 use Rattle.trace_outs.specs.busy.Backs as backs
 use Rattle.trace_outs.specs.busy.Waits as waits
 

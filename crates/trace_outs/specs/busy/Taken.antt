@@ -3,9 +3,7 @@ use Rattle.std.specs.Prelude.{ℕ, Bool}
 use Rattle.number_table.specs.Entries.{entry_at}
 use Rattle.right_trace.specs.Busy.{is_taken}
 use Rattle.trace_tables.specs.declared.books.Books.{Books}
-use Rattle.trace_tables.specs.Known.{stand_seen}
-use Rattle.trace_tables.specs.Lists.{listed}
-use Rattle.trace_tables.specs.Sends.{last_of}
+use Rattle.trace_tables.specs.{Known.stand_seen, Lists.listed, Sends.last_of}
 
 -- place p opens, or another request than k was sent there
 abbrev pub taken_seen : (k : ℕ) → Books → (p : ℕ) → Bool

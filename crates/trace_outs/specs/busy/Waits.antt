@@ -2,18 +2,13 @@
 use Rattle.std.specs.Prelude.{◌≡◌, ℕ, ◌==◌, ◌&&◌, ◌||◌, not, Bool, true, false, is_some, List, [], ◌∷◌, Option, Some, None}
 use Rattle.number_table.specs.Entries.{puts, frees, entry_at}
 use Rattle.client_request.specs.Request.{Request}
-use Rattle.client_request.specs.declared.event.Event.{Event}
-use Rattle.client_request.specs.declared.event.What.{What}
-use Rattle.client_request.specs.declared.event.What.TheVariants.{Ask}
-use Rattle.client_request.specs.declared.event.Out.{Out}
+use Rattle.client_request.specs.declared.event.{Event.Event, What.What, What.TheVariants.Ask, Out.Out, Via.Via}
 use Rattle.client_request.specs.declared.event.Out.TheVariants.{Send, Write, Reply}
-use Rattle.client_request.specs.declared.event.Via.{Via}
 use Rattle.client_request.specs.declared.event.Via.TheVariants.{Dgram, Stream}
 use Rattle.right_trace.specs.Trace.{History, Came, Put, Conf}
 use Rattle.right_trace.specs.Messages.{Octets, is_valid}
 use Rattle.right_trace.specs.Requests.{Asking, asking, waits}
-use Rattle.right_trace.specs.Parts.{IsIn}
-use Rattle.right_trace.specs.Writes.{waiting_with}
+use Rattle.right_trace.specs.{Parts.IsIn, Writes.waiting_with}
 use Rattle.right_trace.specs.Exchanges.{IsAmong, unanswered, octets_for}
 use Rattle.message_judging.specs.matching.Matching.{carries_by}
 use Rattle.trace_tables.specs.declared.requests.Requests.{Requests}
@@ -21,9 +16,7 @@ use Rattle.trace_tables.specs.Lists.{listed, adds}
 use Rattle.trace_tables.specs.Requests.{replied_seen}
 use Rattle.trace_tables.specs.Requests as requests
 use Rattle.trace_tables.specs.sets.Sets.{Members, Rise}
-use Rattle.trace_outs.specs.declared.busy.waits.Carried.{Carried}
-use Rattle.trace_outs.specs.declared.busy.waits.Spot.{Spot}
-use Rattle.trace_outs.specs.declared.busy.waits.Waits.{Waits}
+use Rattle.trace_outs.specs.declared.busy.waits.{Carried.Carried, Spot.Spot, Waits.Waits}
 
 abbrev pub nothing : Waits
 nothing = record { requests = []; spots = []; carried = [] }

@@ -1,17 +1,13 @@
 -- What a forward pass keeps of ids that are held at stream places, the frames of the newest row not counted.
 use Rattle.std.specs.Prelude.{◌≡◌, ℕ, ◌==◌, ◌&&◌, not, nat_le, nat_lt, Bool, true, false, is_some, if◌then◌else◌, length, List, [], ◌∷◌, Option, Some, None}
 use Rattle.number_table.specs.Entries.{puts, frees, entry_at}
-use Rattle.client_request.specs.declared.event.Event.{Event}
-use Rattle.client_request.specs.declared.event.Out.{Out}
-use Rattle.client_request.specs.declared.event.Out.TheVariants.{Write}
+use Rattle.client_request.specs.declared.event.{Event.Event, Out.Out, Out.TheVariants.Write}
 use Rattle.right_trace.specs.Trace.{History, Came, Put}
 use Rattle.right_trace.specs.Time.{all_ids, id_count}
 use Rattle.right_trace.specs.Messages.{Octets}
 use Rattle.right_trace.specs.Writes.{is_any, waiting_with, held_with}
-use Rattle.trace_tables.specs.declared.frames.frames.Brought.{Brought}
-use Rattle.trace_tables.specs.declared.frames.frames.Frames.{Frames}
-use Rattle.trace_tables.specs.frames.Frames.{Known as FramesKnown}
-use Rattle.trace_tables.specs.frames.Waiting.{id_read}
+use Rattle.trace_tables.specs.declared.frames.frames.{Brought.Brought, Frames.Frames}
+use Rattle.trace_tables.specs.frames.{Frames.Known as FramesKnown, Waiting.id_read}
 use Rattle.trace_tables.specs.sets.Sets.{Members, Sets, has, size, joins, leaves, Rise, AreSets}
 use Rattle.trace_outs.specs.declared.loads.held.Held.{Held}
 

@@ -1,12 +1,8 @@
 -- What a forward pass keeps of servers: which places of each are live, which requests wait there by datagram, and where these don't match.
 use Rattle.std.specs.Prelude.{◌≡◌, ℕ, ◌==◌, ◌&&◌, ◌||◌, not, nat_le, min, Bool, true, false, is_some, if◌then◌else◌, length, List, [], ◌∷◌, Option, Some, None}
 use Rattle.number_table.specs.Entries.{puts, frees, entry_at}
-use Rattle.client_request.specs.declared.event.Event.{Event}
-use Rattle.client_request.specs.declared.event.What.{What}
-use Rattle.client_request.specs.declared.event.What.TheVariants.{OpenFailed}
-use Rattle.client_request.specs.declared.event.Out.{Out}
+use Rattle.client_request.specs.declared.event.{Event.Event, What.What, What.TheVariants.OpenFailed, Out.Out, Via.Via}
 use Rattle.client_request.specs.declared.event.Out.TheVariants.{Start, OpenDgram, OpenStream, Close, Reply}
-use Rattle.client_request.specs.declared.event.Via.{Via}
 use Rattle.client_request.specs.declared.event.Via.TheVariants.{Dgram, Stream}
 use Rattle.right_trace.specs.Trace.{History, Came, Put, Conf}
 use Rattle.right_trace.specs.Time.{newest, max_places}
@@ -15,13 +11,10 @@ use Rattle.right_trace.specs.Places.{is_at, stand, is_live}
 use Rattle.right_trace.specs.Orderly.{PlacesAreMet}
 use Rattle.right_trace.specs.Settings.{Settings, defers_nothing}
 use Rattle.trace_tables.specs.declared.books.Books.{Books}
-use Rattle.trace_tables.specs.declared.places.Place.{Place}
-use Rattle.trace_tables.specs.declared.places.Stand.{Stand}
+use Rattle.trace_tables.specs.declared.places.{Place.Place, Stand.Stand}
 use Rattle.trace_tables.specs.declared.places.Stand.TheVariants.{Opening, Gone}
-use Rattle.trace_tables.specs.declared.requests.Requests.{Requests}
-use Rattle.trace_tables.specs.declared.requests.Started.{Started}
-use Rattle.trace_tables.specs.Tables.{begun_stand}
-use Rattle.trace_tables.specs.Lists.{listed}
+use Rattle.trace_tables.specs.declared.requests.{Requests.Requests, Started.Started}
+use Rattle.trace_tables.specs.{Tables.begun_stand, Lists.listed}
 use Rattle.trace_tables.specs.Requests.{started_seen, replied_seen}
 use Rattle.trace_tables.specs.Books as books
 use Rattle.trace_points.specs.exchanges.Asked.{AskedFirst}

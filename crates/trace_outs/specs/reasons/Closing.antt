@@ -1,16 +1,11 @@
 -- Whether a place may be closed.
 use Rattle.std.specs.Prelude.{ℕ, ◌+◌, ◌==◌, ◌&&◌, ◌||◌, not, nat_le, nat_lt, Bool, true, false, length, List, [], ◌∷◌, Option, Some, None}
-use Rattle.client_request.specs.declared.event.Via.TheVariants.{Dgram}
-use Rattle.client_request.specs.declared.event.What.{What}
+use Rattle.client_request.specs.declared.event.{Via.TheVariants.Dgram, What.What, Out.Out, Out.TheVariants.Reply}
 use Rattle.client_request.specs.declared.event.What.TheVariants.{SendFailed, ShortSend, RecvFailed, Wrote, WriteFailed, ReadFailed, Ended}
-use Rattle.client_request.specs.declared.event.Out.{Out}
-use Rattle.client_request.specs.declared.event.Out.TheVariants.{Reply}
-use Rattle.right_trace.specs.Time.{read_timeout}
+use Rattle.right_trace.specs.{Time.read_timeout, Messages.Octets, Busy.EndsBadly}
 use Rattle.right_trace.specs.Trace.{History, Conf}
-use Rattle.right_trace.specs.Messages.{Octets}
 use Rattle.right_trace.specs.Requests.{same_via, is_reply}
 use Rattle.right_trace.specs.Orderly.{MayCloseStream, MayClose}
-use Rattle.right_trace.specs.Busy.{EndsBadly}
 use Rattle.right_trace.specs.Right.{HasServer, WasLive}
 use Rattle.trace_tables.specs.declared.requests.Requests.{Requests}
 use Rattle.trace_tables.specs.declared.sends.Sent.{Sent}
@@ -21,8 +16,7 @@ use Rattle.trace_tables.specs.frames.Here.{was_live_seen}
 use Rattle.trace_points.specs.questions.Outs.{Tells}
 use Rattle.trace_points.specs.declared.exchanges.coming.Coming.{Coming}
 use Rattle.trace_tables.specs.writes.Writing.{unwritten_seen}
-use Rattle.trace_points.specs.due.Due.{read_due}
-use Rattle.trace_points.specs.due.Invalid.{invalid_seen}
+use Rattle.trace_points.specs.due.{Due.read_due, Invalid.invalid_seen}
 use Rattle.trace_outs.specs.declared.reasons.point.Point.{Point}
 use Rattle.trace_outs.specs.reasons.Point.{Known, has_server_seen}
 

@@ -1,13 +1,11 @@
 -- Whether a request may be handed to a server.
 use Rattle.std.specs.Prelude.{ℕ, ◌==◌, ◌&&◌, ◌||◌, not, Bool, true, false, is_some, slice_get, List, [], ◌∷◌, Option, Some, None}
 use Rattle.number_table.specs.Entries.{entry_at}
-use Rattle.client_request.specs.declared.event.Via.{Via}
+use Rattle.client_request.specs.declared.event.{Via.Via, What.What}
 use Rattle.client_request.specs.declared.event.Via.TheVariants.{Dgram, Stream}
-use Rattle.client_request.specs.declared.event.What.{What}
 use Rattle.dns_base.specs.Header.{tc_of}
 use Rattle.right_trace.specs.Trace.{History, Conf}
-use Rattle.right_trace.specs.Requests.{same_via}
-use Rattle.right_trace.specs.Orderly.{MayStart}
+use Rattle.right_trace.specs.{Requests.same_via, Orderly.MayStart}
 use Rattle.right_trace.specs.Right.{HasServer, IsAsked}
 use Rattle.trace_tables.specs.declared.requests.Requests.{Requests}
 use Rattle.trace_tables.specs.Requests.{started_seen}

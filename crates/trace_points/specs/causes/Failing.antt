@@ -17,8 +17,7 @@ use Rattle.right_trace.specs.Requests.{Asking, same_via}
 use Rattle.right_trace.specs.Causes.{FailedAt, CannotBeComposed, CameWrong}
 use Rattle.trace_tables.specs.declared.books.Books.{Books}
 use Rattle.trace_tables.specs.declared.sends.Sent.{Sent}
-use Rattle.trace_tables.specs.Lists.{listed}
-use Rattle.trace_tables.specs.Requests.{started_seen}
+use Rattle.trace_tables.specs.{Lists.listed, Requests.started_seen}
 use Rattle.trace_tables.specs.Books as books
 use Rattle.message_judging.specs.matching.Matching.{carries_by}
 use Rattle.trace_points.specs.questions.Outs.{alive_server, Tells}

@@ -5,14 +5,10 @@ use Rattle.client_request.specs.declared.event.Via.TheVariants.{Stream}
 use Rattle.dns_base.specs.Header.{id_of}
 use Rattle.right_trace.specs.Time.{response_timeout, idle_timeout}
 use Rattle.right_trace.specs.Trace.{History, Conf}
-use Rattle.right_trace.specs.Messages.{Octets}
-use Rattle.right_trace.specs.Requests.{same_via}
-use Rattle.right_trace.specs.Places.{is_alive}
-use Rattle.right_trace.specs.Writes.{Written}
+use Rattle.right_trace.specs.{Messages.Octets, Requests.same_via, Places.is_alive, Writes.Written}
 use Rattle.right_trace.specs.Timers.{IdleTimerIsDue, ReadTimerIsDue}
 use Rattle.trace_tables.specs.declared.places.Place.{Place}
-use Rattle.trace_tables.specs.Known.{stand_of}
-use Rattle.trace_tables.specs.Lists.{listed}
+use Rattle.trace_tables.specs.{Known.stand_of, Lists.listed}
 use Rattle.trace_tables.specs.declared.frames.ledger.Ledger.{Ledger}
 use Rattle.trace_tables.specs.frames.Frames.{frames_of}
 use Rattle.trace_tables.specs.frames.Waiting.{AtPlace, is_empty}

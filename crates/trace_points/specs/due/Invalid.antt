@@ -1,12 +1,9 @@
 -- What a forward pass keeps of servers that an invalid request was handed to.
 use Rattle.std.specs.Prelude.{◌≡◌, ℕ, Bool, true, false, if◌then◌else◌, is_some, List, [], Option, Some, None}
 use Rattle.number_table.specs.Entries.{puts, entry_at}
-use Rattle.client_request.specs.declared.event.Out.{Out}
-use Rattle.client_request.specs.declared.event.Out.TheVariants.{Start}
-use Rattle.client_request.specs.declared.event.Via.{Via}
+use Rattle.client_request.specs.declared.event.{Out.Out, Out.TheVariants.Start, Via.Via}
 use Rattle.client_request.specs.declared.event.Via.TheVariants.{Dgram, Stream}
-use Rattle.right_trace.specs.Trace.{History}
-use Rattle.right_trace.specs.Messages.{is_valid}
+use Rattle.right_trace.specs.{Trace.History, Messages.is_valid}
 use Rattle.right_trace.specs.Requests.{Asking, asking, started}
 use Rattle.trace_points.specs.declared.due.invalid.Invalid.{Invalid}
 

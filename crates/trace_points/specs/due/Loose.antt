@@ -2,10 +2,8 @@
 use Rattle.std.specs.Prelude.{◌≡◌, ℕ, ◌&&◌, ◌||◌, not, nat_lt, ◌==◌, Bool, false, if◌then◌else◌, length, List, [], ◌∷◌, Option, Some, None}
 use Rattle.number_table.specs.Entries.{puts, entry_at}
 use Rattle.dns_base.specs.Header.{id_of}
-use Rattle.right_trace.specs.Trace.{History}
-use Rattle.right_trace.specs.Messages.{Octets}
+use Rattle.right_trace.specs.{Trace.History, Messages.Octets, Timers.ended_loose}
 use Rattle.right_trace.specs.Frames.{has_frame, last_of, but_last}
-use Rattle.right_trace.specs.Timers.{ended_loose}
 use Rattle.trace_tables.specs.declared.frames.frames.Brought.{Brought}
 use Rattle.trace_tables.specs.declared.frames.ledger.Ledger.{Ledger}
 use Rattle.trace_tables.specs.frames.Frames.{frames_of}

@@ -1,8 +1,6 @@
 -- All that a forward pass keeps for the timers of stream places, beside the ledger.
 use Rattle.std.specs.Prelude.{[], ◌∷◌}
-use Rattle.client_request.specs.declared.event.Event.{Event}
-use Rattle.client_request.specs.declared.event.Out.{Out}
-use Rattle.client_request.specs.declared.event.What.{What}
+use Rattle.client_request.specs.declared.event.{Event.Event, Out.Out, What.What}
 use Rattle.right_trace.specs.Trace.{History, Came, Put, Conf}
 use Rattle.right_trace.specs.Time.{newest, idle_timeout}
 use Rattle.trace_tables.specs.declared.frames.ledger.Ledger.{Ledger}

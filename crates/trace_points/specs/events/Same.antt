@@ -4,8 +4,7 @@ use Rattle.dns_base.specs.OptRecord.{OptFields}
 use Rattle.client_request.specs.Request.{Request}
 use Rattle.client_request.specs.declared.fault.Fault.{Fault}
 use Rattle.client_request.specs.declared.fault.Fault.TheVariants as fault
-use Rattle.client_request.specs.declared.event.Event.{Event}
-use Rattle.client_request.specs.declared.event.What.{What}
+use Rattle.client_request.specs.declared.event.{Event.Event, What.What}
 use Rattle.client_request.specs.declared.event.What.TheVariants.{Ask, Opened, OpenFailed, SendFailed, ShortSend, Datagram, RecvFailed, Wrote, WriteFailed, Bytes, ReadFailed, Ended, Tick}
 use Rattle.message_judging.specs.matching.Shapes.{same_octets}
 use Rattle.trace_points.specs.questions.Outs.{Tells}

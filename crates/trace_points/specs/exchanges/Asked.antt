@@ -1,12 +1,9 @@
 -- What holds of a trace whose rows are right so far, and of which what is kept makes use.
 use Rattle.std.specs.Prelude.{◌≡◌, ℕ, None, []}
-use Rattle.client_request.specs.declared.event.Row.{Row}
-use Rattle.client_request.specs.declared.event.Via.{Via}
+use Rattle.client_request.specs.declared.event.{Row.Row, Via.Via}
 use Rattle.right_trace.specs.Trace.{History, Conf, after}
-use Rattle.right_trace.specs.Settings.{Settings}
+use Rattle.right_trace.specs.{Settings.Settings, Causes.named, Right.RowRight}
 use Rattle.right_trace.specs.Requests.{asking, start}
-use Rattle.right_trace.specs.Causes.{named}
-use Rattle.right_trace.specs.Right.{RowRight}
 
 -- a request that was not asked was not sent, and not handed to a server
 pub record AskedFirst (h : History) : Type 0 where

@@ -4,21 +4,15 @@ use Rattle.number_table.specs.Entries.{puts, entry_at}
 use Rattle.client_request.specs.Request.{Request}
 use Rattle.client_request.specs.declared.event.Via.{Via}
 use Rattle.client_request.specs.declared.event.Via.TheVariants.{Dgram, Stream}
-use Rattle.dns_base.specs.Answering.{is_answer}
-use Rattle.dns_base.specs.Header.{id_of}
+use Rattle.dns_base.specs.{Answering.is_answer, Header.id_of}
 use Rattle.right_trace.specs.Trace.{History, Conf}
 use Rattle.right_trace.specs.Time.{newest, row_before, read_timeout, stream_timeout, recv_size}
 use Rattle.right_trace.specs.Messages.{Octets, answers}
-use Rattle.right_trace.specs.Requests.{Asking}
-use Rattle.right_trace.specs.Places.{is_alive}
-use Rattle.right_trace.specs.Parts.{IsIn}
-use Rattle.right_trace.specs.Writes.{Written}
-use Rattle.right_trace.specs.Exchanges.{Comes}
+use Rattle.right_trace.specs.{Requests.Asking, Places.is_alive, Parts.IsIn, Writes.Written, Exchanges.Comes, Frames.received}
 use Rattle.trace_tables.specs.declared.books.Books.{Books}
 use Rattle.trace_tables.specs.declared.places.Place.{Place}
 use Rattle.trace_tables.specs.declared.sends.Sent.{Sent}
-use Rattle.trace_tables.specs.Known.{stand_of}
-use Rattle.trace_tables.specs.Lists.{listed}
+use Rattle.trace_tables.specs.{Known.stand_of, Lists.listed}
 use Rattle.trace_tables.specs.Requests.{replied_seen, start_seen}
 use Rattle.trace_tables.specs.Books as books
 use Rattle.trace_tables.specs.declared.frames.frames.Brought.{Brought}
@@ -27,7 +21,6 @@ use Rattle.trace_tables.specs.frames.Ledger as ledger
 use Rattle.trace_tables.specs.frames.Waiting.{waiting_seen}
 use Rattle.message_judging.specs.matching.Matching.{carries_by}
 use Rattle.trace_points.specs.declared.exchanges.coming.Coming.{Coming}
-use Rattle.right_trace.specs.Frames.{received}
 use Rattle.trace_points.specs.exchanges.Open.{Open}
 use Rattle.trace_points.specs.exchanges.Open as open_sends
 

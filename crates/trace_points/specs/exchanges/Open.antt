@@ -2,25 +2,18 @@
 use Rattle.std.specs.Prelude.{◌≡◌, ℕ, ◌+◌, ◌==◌, ◌&&◌, ◌||◌, nat_le, nat_lt, Bool, false, if◌then◌else◌, length, List, [], ◌∷◌, ◌++◌, reverse, Option, Some, None}
 use Rattle.number_table.specs.Entries.{puts, frees, entry_at}
 use Rattle.client_request.specs.Request.{Request}
-use Rattle.client_request.specs.declared.event.Event.{Event}
-use Rattle.client_request.specs.declared.event.Out.{Out}
-use Rattle.client_request.specs.declared.event.Out.TheVariants.{Send}
-use Rattle.client_request.specs.declared.event.Via.TheVariants.{Stream}
+use Rattle.client_request.specs.declared.event.{Event.Event, Out.Out, Out.TheVariants.Send, Via.TheVariants.Stream}
 use Rattle.dns_base.specs.Answering.{is_answer}
 use Rattle.right_trace.specs.Trace.{History, Came, Put, Conf}
 use Rattle.right_trace.specs.Time.{now, read_timeout, recv_size}
-use Rattle.right_trace.specs.Messages.{Octets}
+use Rattle.right_trace.specs.{Messages.Octets, Causes.named, Exchanges.unanswered, Frames.received}
 use Rattle.right_trace.specs.Requests.{Asking, asking}
 use Rattle.right_trace.specs.Places.{site, is_of_kind}
-use Rattle.right_trace.specs.Causes.{named}
-use Rattle.right_trace.specs.Exchanges.{unanswered}
-use Rattle.right_trace.specs.Frames.{received}
 use Rattle.trace_tables.specs.declared.sends.Sent.{Sent}
 use Rattle.trace_tables.specs.declared.requests.Requests.{Requests}
 use Rattle.trace_tables.specs.Requests as requests
 use Rattle.trace_tables.specs.Lists.{listed}
-use Rattle.trace_tables.specs.declared.frames.frames.Brought.{Brought}
-use Rattle.trace_tables.specs.declared.frames.frames.Frames.{Frames}
+use Rattle.trace_tables.specs.declared.frames.frames.{Brought.Brought, Frames.Frames}
 use Rattle.trace_tables.specs.frames.Frames as frames
 use Rattle.trace_points.specs.exchanges.Asked.{AskedFirst}
 

@@ -1,9 +1,6 @@
 -- All that a forward pass over a trace knows at a point of it that a row and the next one need.
 use Rattle.std.specs.Prelude.{◌≡◌, List, [], ◌∷◌}
-use Rattle.client_request.specs.declared.event.Event.{Event}
-use Rattle.client_request.specs.declared.event.Out.{Out}
-use Rattle.client_request.specs.declared.event.Row.{Row}
-use Rattle.client_request.specs.declared.event.What.{What}
+use Rattle.client_request.specs.declared.event.{Event.Event, Out.Out, Row.Row, What.What}
 use Rattle.right_trace.specs.Trace.{History, Came, Put, after, Conf}
 use Rattle.right_trace.specs.Time.{newest}
 use Rattle.trace_tables.specs.frames.Ledger as ledger

@@ -2,14 +2,9 @@
 use Rattle.std.specs.Prelude.{◌≡◌, ℕ, ◌&&◌, Bool, true, false, if◌then◌else◌, Option, Some, None}
 use Rattle.number_table.specs.Entries.{entry_at}
 use Rattle.client_request.specs.declared.fault.Fault.{Fault}
-use Rattle.client_request.specs.declared.event.What.{What}
-use Rattle.client_request.specs.declared.event.What.TheVariants.{OpenFailed}
-use Rattle.client_request.specs.declared.event.Via.TheVariants.{Dgram}
-use Rattle.right_trace.specs.Trace.{History}
-use Rattle.right_trace.specs.Requests.{same_via}
-use Rattle.right_trace.specs.Causes.{FailedToOpen}
-use Rattle.trace_tables.specs.declared.places.Place.{Place}
-use Rattle.trace_tables.specs.declared.places.Stand.{Stand}
+use Rattle.client_request.specs.declared.event.{What.What, What.TheVariants.OpenFailed, Via.TheVariants.Dgram}
+use Rattle.right_trace.specs.{Trace.History, Requests.same_via, Causes.FailedToOpen}
+use Rattle.trace_tables.specs.declared.places.{Place.Place, Stand.Stand}
 use Rattle.trace_tables.specs.declared.places.Stand.TheVariants.{Opening, Gone}
 use Rattle.trace_tables.specs.declared.requests.Requests.{Requests}
 use Rattle.trace_tables.specs.Tables.{Table}

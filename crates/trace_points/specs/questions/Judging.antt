@@ -1,9 +1,6 @@
 -- At most one reply to each request that was asked: on one row, and the least row at which it fails.
 use Rattle.std.specs.Prelude.{◌≡◌, ℕ, zero, suc, ◌+◌, Bool, true, ◌&&◌, if◌then◌else◌, List, [], ◌∷◌, Option, Some, None}
-use Rattle.client_request.specs.declared.event.What.{What}
-use Rattle.client_request.specs.declared.event.Out.{Out}
-use Rattle.client_request.specs.declared.event.Out.TheVariants.{Reply}
-use Rattle.client_request.specs.declared.event.Row.{Row}
+use Rattle.client_request.specs.declared.event.{What.What, Out.Out, Out.TheVariants.Reply, Row.Row}
 use Rattle.right_trace.specs.Trace.{History, Came, Put, after}
 use Rattle.right_trace.specs.Right.{IsFirst}
 use Rattle.trace_tables.specs.declared.books.Books.{Books}

@@ -1,20 +1,15 @@
 -- Whether an out is right where it is put, from the books before the row and those up to the out.
 use Rattle.std.specs.Prelude.{◌≡◌, ℕ, ◌<◌, ◌&&◌, Bool, true, false, not, nat_lt, if◌then◌else◌, is_some, is_none, length, Option, Some, None}
 use Rattle.number_table.specs.Entries.{entry_at}
-use Rattle.client_request.specs.declared.event.Via.{Via}
-use Rattle.client_request.specs.declared.event.Via.TheVariants.{Dgram}
+use Rattle.client_request.specs.declared.event.{Via.Via, Via.TheVariants.Dgram}
 use Rattle.right_trace.specs.Trace.{History, Conf}
-use Rattle.right_trace.specs.Messages.{Octets}
-use Rattle.right_trace.specs.Time.{max_tries}
+use Rattle.right_trace.specs.{Messages.Octets, Time.max_tries, Causes.sends, Orderly.MaySend}
 use Rattle.right_trace.specs.Requests.{Asking, same_via}
 use Rattle.right_trace.specs.Places.{is_at, is_alive}
-use Rattle.right_trace.specs.Causes.{sends}
-use Rattle.right_trace.specs.Orderly.{MaySend}
 use Rattle.right_trace.specs.Right.{HasServer, IsFirst, IsUnopened}
 use Rattle.trace_tables.specs.declared.books.Books.{Books}
 use Rattle.trace_tables.specs.declared.places.Place.{Place}
-use Rattle.trace_tables.specs.Known.{stand_of}
-use Rattle.trace_tables.specs.Books.{Known}
+use Rattle.trace_tables.specs.{Known.stand_of, Books.Known}
 use Rattle.trace_tables.specs.Requests.{replied_seen, started_seen}
 use Rattle.trace_tables.specs.Sends.{sends_seen, used_seen}
 use Rattle.message_judging.specs.matching.Matching.{carries_by}

@@ -2,8 +2,7 @@
 use Rattle.std.specs.Prelude.{◌≡◌, ℕ, ◌==◌, ◌&&◌, ◌||◌, Bool, true, false, List, [], ◌∷◌, Option, Some, None}
 use Rattle.number_table.specs.Entries.{entry_at}
 use Rattle.client_request.specs.declared.event.Via.TheVariants.{Stream}
-use Rattle.right_trace.specs.Trace.{History}
-use Rattle.right_trace.specs.Requests.{same_via}
+use Rattle.right_trace.specs.{Trace.History, Requests.same_via}
 use Rattle.right_trace.specs.Places.{Opening, is_at, stand, is_live, is_opening}
 use Rattle.trace_tables.specs.declared.places.Place.{Place}
 use Rattle.trace_tables.specs.Tables.{Table}

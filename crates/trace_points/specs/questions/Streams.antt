@@ -3,8 +3,7 @@ use Rattle.std.specs.Prelude.{◌≡◌, ℕ, ◌&&◌, Bool, true, false, not, 
 use Rattle.number_table.specs.Entries.{entry_at}
 use Rattle.client_request.specs.declared.event.Via.TheVariants.{Stream}
 use Rattle.right_trace.specs.Trace.{History, Conf}
-use Rattle.right_trace.specs.Messages.{Octets}
-use Rattle.right_trace.specs.Orderly.{MayWrite}
+use Rattle.right_trace.specs.{Messages.Octets, Orderly.MayWrite}
 use Rattle.trace_tables.specs.declared.books.Books.{Books}
 use Rattle.trace_tables.specs.Books as books
 use Rattle.trace_tables.specs.Requests.{replied_seen, started_seen}

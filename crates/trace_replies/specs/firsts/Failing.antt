@@ -4,12 +4,7 @@ use Rattle.std.specs.List.{list_any}
 use Rattle.client_request.specs.declared.event.What.{What}
 use Rattle.right_trace.specs.Trace.{History, Conf}
 use Rattle.right_trace.specs.Time.{newest, row_before}
-use Rattle.right_trace.specs.Messages.{Octets}
-use Rattle.right_trace.specs.Settings.{Settings}
-use Rattle.right_trace.specs.Validity.{is_deferred}
-use Rattle.right_trace.specs.Views.{is_failing_message}
-use Rattle.right_trace.specs.Owed.{AllAreDone}
-use Rattle.right_trace.specs.Errors.{FailsSo}
+use Rattle.right_trace.specs.{Messages.Octets, Settings.Settings, Validity.is_deferred, Views.is_failing_message, Owed.AllAreDone, Errors.FailsSo}
 use Rattle.trace_tables.specs.Lists.{listed}
 use Rattle.trace_points.specs.declared.exchanges.coming.Coming.{Coming}
 use Rattle.trace_points.specs.exchanges.Coming.{AllComing}

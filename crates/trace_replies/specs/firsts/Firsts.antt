@@ -3,8 +3,7 @@ use Rattle.std.specs.Prelude.{◌≡◌, ◌⊎◌, ℕ, ◌&&◌, ◌||◌, not
 use Rattle.client_request.specs.declared.event.Row.{Row}
 use Rattle.right_trace.specs.Trace.{History, Conf, after}
 use Rattle.right_trace.specs.Time.{newest, row_before, EarlierRow, OfRow}
-use Rattle.right_trace.specs.Messages.{Octets}
-use Rattle.right_trace.specs.Parts.{IsIn}
+use Rattle.right_trace.specs.{Messages.Octets, Parts.IsIn}
 use Rattle.right_trace.specs.Coming.{CameFor, SomeCame, CameFirst}
 use Rattle.message_judging.specs.matching.Shapes.{same_octets}
 use Rattle.trace_tables.specs.Lists.{listed, adds}
@@ -18,8 +17,7 @@ use Rattle.trace_points.specs.declared.exchanges.coming.Coming.{Coming}
 use Rattle.trace_points.specs.exchanges.Coming.{AllComing}
 use Rattle.trace_errors.specs.promptness.Prompt.{matches, excused_in}
 use Rattle.trace_points.specs.questions.Outs.{Tells}
-use Rattle.trace_replies.specs.declared.firsts.firsts.Arrived.{Arrived}
-use Rattle.trace_replies.specs.declared.firsts.firsts.News.{News}
+use Rattle.trace_replies.specs.declared.firsts.firsts.{Arrived.Arrived, News.News}
 
 abbrev pub Firsts : Type 0
 Firsts = List (ℕ × List Arrived)

@@ -2,8 +2,7 @@
 use Rattle.std.specs.Prelude.{◌≡◌, ℕ, ◌==◌, ◌&&◌, ◌||◌, Bool, false, List, [], ◌∷◌}
 use Rattle.right_trace.specs.Trace.{History, Conf}
 use Rattle.right_trace.specs.Time.{newest, row_before}
-use Rattle.right_trace.specs.Messages.{Octets}
-use Rattle.right_trace.specs.Coming.{CameFor}
+use Rattle.right_trace.specs.{Messages.Octets, Coming.CameFor}
 use Rattle.message_judging.specs.matching.Shapes.{same_octets}
 use Rattle.trace_tables.specs.declared.books.Books.{Books}
 use Rattle.trace_tables.specs.Books as books

@@ -3,16 +3,11 @@ use Rattle.std.specs.Prelude.{◌≡◌, ℕ, ◌≤◌, Bool, true, false, not,
 use Rattle.std.specs.Map.{lookup}
 use Rattle.number_table.specs.Entries.{entry_at}
 use Rattle.client_request.specs.declared.error.Error.{Error}
-use Rattle.client_request.specs.declared.event.Event.{Event}
-use Rattle.client_request.specs.declared.event.Out.{Out}
-use Rattle.client_request.specs.declared.event.Out.TheVariants.{Reply}
-use Rattle.client_request.specs.declared.event.Row.{Row}
+use Rattle.client_request.specs.declared.event.{Event.Event, Out.Out, Out.TheVariants.Reply, Row.Row}
 use Rattle.right_trace.specs.Trace.{History, Conf, Came, Put, after}
 use Rattle.right_trace.specs.Time.{now, newest, row_before, Ever}
-use Rattle.right_trace.specs.Messages.{Octets}
-use Rattle.right_trace.specs.Settings.{Settings}
+use Rattle.right_trace.specs.{Messages.Octets, Settings.Settings, Parts.IsIn}
 use Rattle.right_trace.specs.Requests.{Asking, asking, is_marked}
-use Rattle.right_trace.specs.Parts.{IsIn}
 use Rattle.right_trace.specs.Keys.{Key, key_of, is_cacheable}
 use Rattle.right_trace.specs.Validity.{is_above, validity_of_message}
 use Rattle.right_trace.specs.Replies.{IsFresh, IsFreshReply}

@@ -1,17 +1,12 @@
 -- Whether a message that is put as a reply is right.
 use Rattle.std.specs.Prelude.{◌≡◌, ℕ, ◌&&◌, ◌||◌, not, Bool, true, ◌∷◌, Result}
 use Rattle.client_request.specs.declared.error.Error.{Error}
-use Rattle.client_request.specs.declared.event.Out.TheVariants.{Stale}
-use Rattle.client_request.specs.declared.event.What.{What}
+use Rattle.client_request.specs.declared.event.{Out.TheVariants.Stale, What.What}
 use Rattle.right_trace.specs.Trace.{History, Conf, Put}
 use Rattle.right_trace.specs.Time.{newest, row_before, EarlierRow, OfRow}
-use Rattle.right_trace.specs.Messages.{Octets}
-use Rattle.right_trace.specs.Settings.{Settings}
-use Rattle.right_trace.specs.Validity.{is_deferred}
+use Rattle.right_trace.specs.{Messages.Octets, Settings.Settings, Validity.is_deferred, Owed.AllAreDone, Stale.MessageIsRight}
 use Rattle.right_trace.specs.Coming.{CameFor, CameFirst}
-use Rattle.right_trace.specs.Owed.{AllAreDone}
 use Rattle.right_trace.specs.Errors.{is_failing, FailsSo}
-use Rattle.right_trace.specs.Stale.{MessageIsRight}
 use Rattle.trace_tables.specs.declared.books.Books.{Books}
 use Rattle.trace_tables.specs.Books as books
 use Rattle.trace_tables.specs.Requests.{marked_seen}
@@ -22,8 +17,7 @@ use Rattle.trace_points.specs.exchanges.Open as open_sends
 use Rattle.trace_points.specs.questions.Outs.{Tells}
 use Rattle.trace_replies.specs.given.Earlier.{Table, IsFreshHere}
 use Rattle.trace_replies.specs.given.Earlier as earlier
-use Rattle.trace_replies.specs.declared.messages.message.Told.{Told}
-use Rattle.trace_replies.specs.declared.messages.message.Judged.{Judged}
+use Rattle.trace_replies.specs.declared.messages.message.{Told.Told, Judged.Judged}
 
 -- a result for which an expired message may stand has its cause here
 pub record FailsHere (c : Conf) (s : Settings) (k : ℕ) (past : History) (w : What) (h : History) : Type 0 where

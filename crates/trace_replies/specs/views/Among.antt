@@ -1,8 +1,7 @@
 -- What is found among the replies to a question, of which the newest stand first.
 use Rattle.std.specs.Prelude.{◌≡◌, ℕ, Bool, true, false, List}
 use Rattle.client_request.specs.Request.{Request}
-use Rattle.right_trace.specs.Parts.{IsIn}
-use Rattle.right_trace.specs.Keys.{key_of}
+use Rattle.right_trace.specs.{Parts.IsIn, Keys.key_of}
 use Rattle.message_judging.specs.views.Serving.{HasFlags}
 use Rattle.trace_replies.specs.declared.given.asks.Asks.{Asks}
 use Rattle.trace_replies.specs.declared.given.earlier.Earlier.{Earlier}

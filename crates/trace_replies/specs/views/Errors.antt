@@ -5,10 +5,9 @@ use Rattle.client_request.specs.declared.error.Error.{Error}
 use Rattle.client_request.specs.declared.event.What.{What}
 use Rattle.right_trace.specs.Trace.{History, Conf}
 use Rattle.right_trace.specs.Time.{now, newest, Ever}
-use Rattle.right_trace.specs.Settings.{Settings}
+use Rattle.right_trace.specs.{Settings.Settings, Replies.CoversLater}
 use Rattle.right_trace.specs.Keys.{KeysCover, key_of}
 use Rattle.right_trace.specs.Errors.{is_deadline, IsErrorReply, IsKeptError}
-use Rattle.right_trace.specs.Replies.{CoversLater}
 use Rattle.trace_tables.specs.declared.requests.Requests.{Requests}
 use Rattle.trace_tables.specs.Requests as requests
 use Rattle.trace_points.specs.questions.Outs.{Tells}

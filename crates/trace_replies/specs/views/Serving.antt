@@ -4,10 +4,7 @@ use Rattle.dns_base.specs.Data.{Data}
 use Rattle.client_request.specs.Request.{Request}
 use Rattle.client_request.specs.declared.event.What.{What}
 use Rattle.right_trace.specs.Trace.{History, Conf}
-use Rattle.right_trace.specs.Time.{newest}
-use Rattle.right_trace.specs.Messages.{Octets}
-use Rattle.right_trace.specs.Settings.{Settings}
-use Rattle.right_trace.specs.Requests.{is_ask}
+use Rattle.right_trace.specs.{Time.newest, Messages.Octets, Settings.Settings, Requests.is_ask}
 use Rattle.right_trace.specs.Parts.{Parts, Says}
 use Rattle.right_trace.specs.Keys.{KeysCover, key_of}
 use Rattle.right_trace.specs.Views.{stale_of, IsValidStale}
@@ -19,8 +16,7 @@ use Rattle.trace_tables.specs.Requests as requests
 use Rattle.trace_points.specs.questions.Outs.{Tells}
 use Rattle.trace_replies.specs.declared.given.asks.Asks.{Asks}
 use Rattle.trace_replies.specs.declared.given.earlier.Earlier.{Earlier}
-use Rattle.trace_replies.specs.given.Asks.{IsAsked}
-use Rattle.trace_replies.specs.given.Earlier.{Table}
+use Rattle.trace_replies.specs.given.{Asks.IsAsked, Earlier.Table}
 use Rattle.trace_replies.specs.given.Earlier as earlier
 use Rattle.trace_replies.specs.declared.views.serving.Manner.{Manner}
 use Rattle.trace_replies.specs.declared.views.serving.Manner.TheVariants.{Valid, Expired}

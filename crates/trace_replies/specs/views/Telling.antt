@@ -1,8 +1,7 @@
 -- Errors as numbers, by which two are told apart.
 use Rattle.std.specs.Prelude.{ℕ, ◌==◌, ◌&&◌, Bool}
-use Rattle.client_request.specs.declared.error.Error.{Error}
+use Rattle.client_request.specs.declared.error.{Error.Error, QueryError.QueryError}
 use Rattle.client_request.specs.declared.error.Error.TheVariants as errors
-use Rattle.client_request.specs.declared.error.QueryError.{QueryError}
 use Rattle.client_request.specs.declared.error.QueryError.TheVariants as query
 use Rattle.client_request.specs.declared.fault.Fault.{Fault}
 use Rattle.client_request.specs.declared.fault.Fault.TheVariants as fault

@@ -6,11 +6,10 @@ use Rattle.dns_values.specs.declared.error.ParseError.{ParseError}
 use Rattle.dns_values.specs.declared.numbers.Section.{Section}
 use Rattle.dns_names.specs.Name.{same_name, lowered}
 use Rattle.dns_base.specs.Data.{Data, A, Aaaa, One, Minfo, Mx, StartOfAuthority, Service, Named, Txt, Opt, Other}
-use Rattle.dns_base.specs.DataReading.{DataReadsAs}
+use Rattle.dns_base.specs.{DataReading.DataReadsAs, OptRecord.OptFields}
 use Rattle.dns_base.specs.Knowing.{lowered_asked, lowered_data}
 use Rattle.dns_base.specs.Message.{Asked, Known, Written, all_read}
 use Rattle.dns_base.specs.Answering.{same_asked, same_items}
-use Rattle.dns_base.specs.OptRecord.{OptFields}
 use Rattle.dns_base.specs.Holding.{AskedReadsAs, ReadsAs}
 use Rattle.client_request.specs.Request.{opt_written}
 use Rattle.client_request.specs.Composed.{written_from, is_replaced}

@@ -7,10 +7,9 @@ use Rattle.std.specs.List.{AllZip}
 use Rattle.dns_values.specs.declared.error.ParseError.{ParseError}
 use Rattle.dns_values.specs.declared.numbers.Section.{Section}
 use Rattle.dns_values.specs.declared.numbers.Section.TheVariants.{Answer, Authority, Additional}
-use Rattle.dns_base.specs.Header.{id_of}
+use Rattle.dns_base.specs.{Header.id_of, OptRecord.OptFields}
 use Rattle.dns_base.specs.Message.{Known, Written, Reading, Asked, reads, header_of, all_read}
 use Rattle.dns_base.specs.Answering.{same_items, question_items}
-use Rattle.dns_base.specs.OptRecord.{OptFields}
 use Rattle.dns_base.specs.Holding.{Contents, ReadsAs, AskedReadsAs}
 use Rattle.dns_base.specs.ReadingLaws.{ReadingLaws, ItemsAre}
 use Rattle.client_request.specs.Request.{Request, with_id, with_option}

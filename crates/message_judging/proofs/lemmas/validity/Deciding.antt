@@ -9,16 +9,14 @@ use Rattle.dns_values.specs.declared.numbers.Section.{Section}
 use Rattle.dns_values.specs.declared.numbers.Section.TheVariants.{Answer, Authority, Additional}
 use Rattle.dns_names.proofs.Heads.{then_ok}
 use Rattle.dns_base.specs.Message.{Asked, Known, Written, Reading, reads, all_read}
-use Rattle.dns_base.specs.Answering.{question_items}
+use Rattle.dns_base.specs.{Answering.question_items, Holding.Contents}
 use Rattle.dns_base.specs.Draft.{question_size, record_size}
-use Rattle.dns_base.specs.Holding.{Contents}
 use Rattle.dns_base.proofs.Readings.{reading_laws}
 use Rattle.client_request.specs.Request.{Request, with_payload_size, with_option, opt_or_empty, option_octets, opt_written, option_added}
 use Rattle.client_request.specs.Carries.{contents_of, records_of, sent_from, opt_records}
 use Rattle.right_trace.specs.Messages.{base_is_read, passes_count, fits, is_valid, has_too_many as passes, size_of}
 use Rattle.right_trace.specs.Keys.{is_cacheable}
-use Rattle.message_judging.specs.declared.validity.sizes.Size.{Size}
-use Rattle.message_judging.specs.declared.validity.sizes.BaseSize.{BaseSize}
+use Rattle.message_judging.specs.declared.validity.sizes.{Size.Size, BaseSize.BaseSize}
 use Rattle.message_judging.specs.validity.Sizes.{most, questions_behind, section_behind, size_of_base}
 use Rattle.message_judging.specs.validity.Validity.{has_too_many, is_short, options_of, asks_one_in, found_of, IsFound, ValidityIsDecided}
 use Rattle.message_judging.proofs.lemmas.validity.Counting.{Counts, over, within, with_questions, with_records, questions_read, section_read, questions_counted, records_counted}

@@ -1,19 +1,16 @@
 -- What a walk over two messages finds the same is the same of their parts.
 use Rattle.std.proofs.Common.{◌≡◌, ◌≤◌, ℕ, Bool, true, false, ◌&&◌, ◌==◌, List, [], ◌∷◌, length, refl, sym, ap, ap₂, ◌∙◌, map}
 use Rattle.std.specs.Prelude.{Option, Some, None, Result, Ok, Err, option_map, option_and_then}
-use Rattle.std.specs.Bool.{beq}
-use Rattle.std.specs.List.{AllZip}
+use Rattle.std.specs.{Bool.beq, List.AllZip}
 use Rattle.dns_values.specs.declared.error.ParseError.{ParseError}
 use Rattle.dns_values.specs.declared.numbers.Section.{Section}
 use Rattle.dns_values.specs.declared.numbers.Section.TheVariants.{Answer, Authority, Additional}
 use Rattle.dns_names.specs.Name.{Labels, same_name}
 use Rattle.dns_names.proofs.Heads.{then_ok}
-use Rattle.dns_base.specs.Data.{Data}
+use Rattle.dns_base.specs.{Data.Data, Holding.AskedReadsAs, OptRecord.opt_rcode}
 use Rattle.dns_base.specs.Message.{Asked, Known, Written, header_of, all_read}
 use Rattle.dns_base.specs.Answering.{same_items, question_items}
-use Rattle.dns_base.specs.Holding.{AskedReadsAs}
 use Rattle.dns_base.specs.Knowing.{meaning_of, meanings_of, lowered_asked, lowered_data}
-use Rattle.dns_base.specs.OptRecord.{opt_rcode}
 use Rattle.dns_base.proofs.Readings.{reading_laws}
 use Rattle.client_request.specs.Composed.{section_items}
 use Rattle.right_trace.specs.Messages.{Octets}

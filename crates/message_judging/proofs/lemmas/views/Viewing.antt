@@ -5,18 +5,14 @@ use Rattle.std.proofs.lemmas.Bool.Decides.{nat_tests}
 use Rattle.std.proofs.Math.Nat.{div-mul-le_self}
 use Rattle.dns_names.specs.Name.{Labels}
 use Rattle.dns_names.proofs.Heads.{none_some}
-use Rattle.dns_base.specs.Data.{Data}
-use Rattle.dns_base.specs.Message.{header_of}
-use Rattle.dns_base.specs.OptRecord.{opt_rcode}
+use Rattle.dns_base.specs.{Data.Data, Message.header_of, OptRecord.opt_rcode}
 use Rattle.client_request.specs.Request.{Request}
-use Rattle.right_trace.specs.Messages.{Octets}
-use Rattle.right_trace.specs.Settings.{Settings}
+use Rattle.right_trace.specs.{Messages.Octets, Settings.Settings}
 use Rattle.right_trace.specs.Keys.{Key, KeysCover, key_of, spelled_name}
 use Rattle.right_trace.specs.Parts.{Header, Item, Parts, flags_in, known_parts, lowered_item, lowered_parts, Says}
 use Rattle.right_trace.specs.Validity.{second, is_above, least, without_opt, limit, validity_of_parts, validity_of_message}
 use Rattle.right_trace.specs.Views.{viewed, viewed_header, view_of, stale_of, view_validity, all_with_ttl, with_ttl, mostly_with_ttl, tells_of_name}
-use Rattle.right_trace.proofs.Asked.{keys_refl}
-use Rattle.right_trace.proofs.Deriving.{viewed_twice}
+use Rattle.right_trace.proofs.{Asked.keys_refl, Deriving.viewed_twice}
 use Rattle.client_settings.specs.Settings.{seconds}
 use Rattle.cache_rules.specs.Key.{flag_class}
 use Rattle.cache_rules.specs.Viewing.{IsBetween, SaysView, SaysExpired}

@@ -1,6 +1,5 @@
 use Rattle.std.proofs.Common.{◌∙◌}
-use Rattle.trace_audit_run.specs.Lines.{usage_line}
-use Rattle.trace_audit_run.specs.Sentences.{usage_sentence}
+use Rattle.trace_audit_run.specs.{Lines.usage_line, Sentences.usage_sentence}
 use Rattle.trace_audit_run.proofs.Answering.{usage_is_said}
 use Rattle.trace_audit_run.proofs.explaining.tell_usage.Goals as goal
 

@@ -4,9 +4,7 @@ use Rattle.client_request.specs.declared.error.Error.{Error}
 use Rattle.client_request.specs.declared.event.What.{What}
 use Rattle.right_trace.specs.Trace.{History, Conf}
 use Rattle.right_trace.specs.Time.{newest, row_before, OfRow}
-use Rattle.right_trace.specs.Settings.{Settings}
-use Rattle.right_trace.specs.Parts.{IsIn}
-use Rattle.right_trace.specs.Owed.{AllAreDone}
+use Rattle.right_trace.specs.{Settings.Settings, Parts.IsIn, Owed.AllAreDone}
 use Rattle.right_trace.specs.Coming.{SomeCame, NoneCame}
 use Rattle.right_trace.specs.Errors.{DirectCause, OwnCause, is_of_server}
 use Rattle.trace_tables.specs.declared.frames.here.Here.{Here}
@@ -25,8 +23,7 @@ use Rattle.trace_errors.specs.promptness.Heard.{Heards}
 use Rattle.trace_errors.specs.promptness.Heard as heards
 use Rattle.trace_errors.specs.promptness.Prompt.{matches, excused_in}
 use Rattle.trace_errors.specs.declared.earlier.Earlier.{Earlier}
-use Rattle.trace_errors.specs.Rows.{ByRow}
-use Rattle.trace_errors.specs.Arrivals.{is_marked}
+use Rattle.trace_errors.specs.{Rows.ByRow, Arrivals.is_marked}
 use Rattle.trace_errors.specs.Earlier as earlier
 use Rattle.trace_errors.proofs.Rows.{same_number, own, either, earlier_so, so_earlier}
 use Rattle.trace_errors.proofs.Arriving.{Passing, came_so, so_came, none_came}

@@ -2,13 +2,11 @@
 use Rattle.std.proofs.Common.{◌≡◌, ℕ, ◌+◌, ◌==◌, ◌&&◌, inl, inr, not, nat_lt, Bool, true, false, if◌then◌else◌, List, [], ◌∷◌, refl, sym, ap₂, subst, arith}
 use Rattle.std.proofs.lemmas.Bool.Decides.{nat_tests}
 use Rattle.client_request.specs.Request.{Request}
-use Rattle.client_request.specs.declared.event.Event.{Event}
-use Rattle.client_request.specs.declared.event.Out.{Out}
+use Rattle.client_request.specs.declared.event.{Event.Event, Out.Out}
 use Rattle.client_request.specs.declared.event.Out.TheVariants.{Start, OpenDgram, OpenStream, Send, Write, Resume, Close, Stale, Reply}
 use Rattle.right_trace.specs.Trace.{History, Came, Put, Conf}
 use Rattle.right_trace.specs.Time.{now, read_timeout, recv_size}
-use Rattle.right_trace.specs.Messages.{Octets}
-use Rattle.right_trace.specs.Parts.{IsIn}
+use Rattle.right_trace.specs.{Messages.Octets, Parts.IsIn}
 use Rattle.right_trace.specs.Frames.{came, came_here, brings, received}
 use Rattle.right_trace.specs.Writes.{Written, waiting_with}
 use Rattle.right_trace.specs.Exchanges.{has_answer, unanswered, octets_for, IsAmong}

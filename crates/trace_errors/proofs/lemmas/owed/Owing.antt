@@ -4,8 +4,7 @@ use Rattle.std.specs.Prelude.{is_some}
 use Rattle.std.proofs.lemmas.Bool.Decides.{nat_tests}
 use Rattle.number_table.specs.Entries.{entry_at}
 use Rattle.client_request.specs.Request.{Request}
-use Rattle.client_request.specs.declared.event.What.{What}
-use Rattle.client_request.specs.declared.event.Via.{Via}
+use Rattle.client_request.specs.declared.event.{What.What, Via.Via}
 use Rattle.client_request.specs.declared.event.Via.TheVariants.{Dgram, Stream}
 use Rattle.right_trace.specs.Trace.{History, Conf}
 use Rattle.right_trace.specs.Time.{now, stream_timeout, read_timeout}
@@ -21,12 +20,10 @@ use Rattle.trace_tables.specs.declared.books.Books.{Books}
 use Rattle.trace_tables.specs.declared.places.Place.{Place}
 use Rattle.trace_tables.specs.declared.sends.Sent.{Sent}
 use Rattle.trace_tables.specs.Known.{site_seen, stand_seen}
-use Rattle.trace_tables.specs.Requests.{start_seen}
-use Rattle.trace_tables.specs.Lists.{listed}
+use Rattle.trace_tables.specs.{Requests.start_seen, Lists.listed}
 use Rattle.trace_tables.specs.Books as books
 use Rattle.trace_tables.specs.declared.frames.ledger.Ledger.{Ledger}
-use Rattle.trace_tables.specs.frames.Frames.{frames_of}
-use Rattle.trace_tables.specs.frames.Waiting.{waiting_seen}
+use Rattle.trace_tables.specs.frames.{Frames.frames_of, Waiting.waiting_seen}
 use Rattle.trace_tables.specs.frames.Ledger as ledger
 use Rattle.message_judging.specs.matching.Matching.{carries_by}
 use Rattle.message_judging.proofs.lemmas.matching.Requests.{carries_so, so_carries}

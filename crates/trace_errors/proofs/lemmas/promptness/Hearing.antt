@@ -1,20 +1,13 @@
 -- Behind each row what is kept of servers that were heard is what the definitions say.
 use Rattle.std.proofs.Common.{◌≡◌, ℕ, ◌==◌, ◌||◌, ◌⊎◌, inl, inr, Bool, true, false, if◌then◌else◌, List, [], ◌∷◌, Option, Some, None, refl, sym, ap, ◌∙◌, subst, arith}
 use Rattle.std.proofs.lemmas.Bool.Decides.{nat_tests}
-use Rattle.client_request.specs.declared.event.Out.{Out}
-use Rattle.client_request.specs.declared.event.Row.{Row}
-use Rattle.client_request.specs.declared.event.Via.{Via}
+use Rattle.client_request.specs.declared.event.{Out.Out, Row.Row, Via.Via}
 use Rattle.client_request.specs.declared.event.Via.TheVariants.{Dgram, Stream}
 use Rattle.right_trace.specs.Trace.{History, Conf, Came, Put, put_all, after}
 use Rattle.right_trace.specs.Time.{now, newest, row_before, EarlierRow}
 use Rattle.right_trace.specs.Messages.{Octets, answers}
-use Rattle.right_trace.specs.Requests.{same_via}
-use Rattle.right_trace.specs.Places.{closed_here}
-use Rattle.right_trace.specs.Parts.{IsIn}
-use Rattle.right_trace.specs.Frames.{came}
-use Rattle.right_trace.specs.Timers.{ReadTimerIsDue}
+use Rattle.right_trace.specs.{Requests.same_via, Places.closed_here, Parts.IsIn, Frames.came, Timers.ReadTimerIsDue, Causes.Heard}
 use Rattle.right_trace.specs.Exchanges.{Comes, first_of}
-use Rattle.right_trace.specs.Causes.{Heard}
 use Rattle.trace_tables.proofs.Listing.{listed_adds}
 use Rattle.trace_tables.specs.Lists.{listed, adds}
 use Rattle.trace_tables.specs.declared.frames.here.Here.{Here}

@@ -3,22 +3,15 @@ use Rattle.std.proofs.Common.{◌≡◌, ℕ, ◌<◌, nat_lt, ◌==◌, ◌&&�
 use Rattle.std.specs.Prelude.{Ok, Err}
 use Rattle.std.proofs.lemmas.Bool.Decides.{nat_tests}
 use Rattle.number_table.specs.Entries.{entry_at}
-use Rattle.client_request.specs.declared.event.Out.{Out}
+use Rattle.client_request.specs.declared.event.{Out.Out, Row.Row, Via.Via}
 use Rattle.client_request.specs.declared.event.Out.TheVariants.{Start, OpenDgram, OpenStream, Send, Write, Resume, Close, Stale, Reply}
-use Rattle.client_request.specs.declared.event.Row.{Row}
-use Rattle.client_request.specs.declared.event.Via.{Via}
 use Rattle.client_request.specs.declared.event.Via.TheVariants.{Dgram, Stream}
 use Rattle.right_trace.specs.Trace.{History, Conf, Came, after}
 use Rattle.right_trace.specs.Time.{now, newest}
-use Rattle.right_trace.specs.Settings.{Settings}
-use Rattle.right_trace.specs.Views.{is_failing_message}
+use Rattle.right_trace.specs.{Settings.Settings, Views.is_failing_message, Parts.IsIn, Frames.came, Validity.is_final, Coming.IsExcused}
 use Rattle.right_trace.specs.Messages.{Octets, answers, truncated}
 use Rattle.right_trace.specs.Places.{site, is_of_kind}
-use Rattle.right_trace.specs.Parts.{IsIn}
-use Rattle.right_trace.specs.Frames.{came}
-use Rattle.right_trace.specs.Validity.{is_final}
 use Rattle.right_trace.specs.Exchanges.{Comes, Matches, is_whole, first_of}
-use Rattle.right_trace.specs.Coming.{IsExcused}
 use Rattle.right_trace.specs.Right.{Among, IsOverdue, Prompt, IsGivenSo, AsItIs, StaleFor}
 use Rattle.trace_tables.specs.declared.books.Books.{Books}
 use Rattle.trace_tables.specs.declared.places.Place.{Place}
@@ -34,10 +27,9 @@ use Rattle.trace_points.specs.due.Timers as timers
 use Rattle.trace_points.proofs.lemmas.due.ReadTimers.{both, all}
 use Rattle.trace_points.specs.declared.exchanges.coming.Coming.{Coming}
 use Rattle.trace_points.specs.exchanges.Coming.{IsComing, AllComing}
-use Rattle.trace_errors.specs.promptness.Settings.{is_final_for}
+use Rattle.trace_errors.specs.promptness.{Settings.is_final_for, Overdue.is_overdue}
 use Rattle.trace_errors.specs.promptness.Heard.{Heards, is_passed_over}
 use Rattle.trace_errors.specs.promptness.Heard as heards
-use Rattle.trace_errors.specs.promptness.Overdue.{is_overdue}
 use Rattle.trace_errors.specs.promptness.Prompt.{gives, is_given, is_given_so, is_marked, marks, is_uncut, matches, is_answered, are_answered, are_prompt, is_stream, excused_in, prompt_seen, TellsPrompt}
 use Rattle.trace_errors.proofs.lemmas.promptness.Hearing.{before_row, row_event, row_moment, brought_to, passed_so, so_passed}
 use Rattle.trace_errors.proofs.lemmas.promptness.Delaying.{first_true, second_true, tells_overdue}

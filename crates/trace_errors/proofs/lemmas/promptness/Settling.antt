@@ -2,8 +2,7 @@
 use Rattle.std.proofs.Common.{◌≡◌, ℕ, Bool, Option, Some, None, refl, ap, ◌∙◌}
 use Rattle.std.specs.Prelude.{is_some, is_ok, Ok}
 use Rattle.client_settings.specs.Settings.{CacheSettings}
-use Rattle.right_trace.specs.Messages.{Octets}
-use Rattle.right_trace.specs.Validity.{validity_of_message}
+use Rattle.right_trace.specs.{Messages.Octets, Validity.validity_of_message}
 use Rattle.cache_rules.specs.Validity.{cached_by, or_unread, kept_for}
 use Rattle.trace_errors.specs.promptness.Settings.{settings_of}
 

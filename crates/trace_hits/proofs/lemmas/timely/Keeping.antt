@@ -4,17 +4,12 @@ use Rattle.std.specs.Prelude.{if◌then◌else◌, is_some, nat_lt}
 use Rattle.std.proofs.lemmas.Bool.Decides.{nat_tests}
 use Rattle.number_table.specs.Entries.{frees, entry_at}
 use Rattle.client_request.specs.Request.{Request}
-use Rattle.client_request.specs.declared.event.Event.{Event}
-use Rattle.client_request.specs.declared.event.What.{What}
+use Rattle.client_request.specs.declared.event.{Event.Event, What.What, Out.Out, Row.Row}
 use Rattle.client_request.specs.declared.event.What.TheVariants.{Ask, Opened, OpenFailed, SendFailed, ShortSend, Datagram, RecvFailed, Wrote, WriteFailed, Bytes, ReadFailed, Ended, Tick}
-use Rattle.client_request.specs.declared.event.Out.{Out}
 use Rattle.client_request.specs.declared.event.Out.TheVariants.{Start, OpenDgram, OpenStream, Send, Write, Resume, Close, Stale, Reply}
-use Rattle.client_request.specs.declared.event.Row.{Row}
 use Rattle.right_trace.specs.Trace.{History, Conf, Came, Put, put_all, after}
-use Rattle.right_trace.specs.Time.{now}
+use Rattle.right_trace.specs.{Time.now, Causes.DeadlineHasPassed, Timely.InTime}
 use Rattle.right_trace.specs.Requests.{Asking, asking, asking_of, asks, is_ask, replied, waits}
-use Rattle.right_trace.specs.Causes.{DeadlineHasPassed}
-use Rattle.right_trace.specs.Timely.{InTime}
 use Rattle.trace_tables.specs.sets.Sets.{Members, Rise}
 use Rattle.trace_tables.proofs.lemmas.sets.Keeping as sets
 use Rattle.trace_tables.specs.declared.requests.Requests.{Requests}

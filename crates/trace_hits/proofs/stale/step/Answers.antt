@@ -1,8 +1,7 @@
 use Rattle.std.proofs.Common.{subst}
 use Rattle.trace_hits.specs.Course.{PutsAll}
 use Rattle.trace_hits.specs.Serving.{Serve, KnowFailures}
-use Rattle.trace_hits.proofs.Never.{failures_go_on}
-use Rattle.trace_hits.proofs.Stepping.{steps}
+use Rattle.trace_hits.proofs.{Never.failures_go_on, Stepping.steps}
 use Rattle.trace_hits.proofs.stale.step.Goals as goal
 
 pub returns : goal.returns

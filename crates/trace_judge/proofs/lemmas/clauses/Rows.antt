@@ -1,10 +1,7 @@
 -- A row is right exactly where it keeps each clause but the one on events.
 use Rattle.std.proofs.Common.{◌≡◌, ℕ, true, List, [], ◌∷◌, Result, Ok, Err}
-use Rattle.client_request.specs.declared.event.Event.{Event}
-use Rattle.client_request.specs.declared.event.What.{What}
-use Rattle.client_request.specs.declared.event.Out.{Out}
+use Rattle.client_request.specs.declared.event.{Event.Event, What.What, Out.Out, Row.Row}
 use Rattle.client_request.specs.declared.event.Out.TheVariants.{Start, OpenDgram, OpenStream, Send, Write, Resume, Close, Reply, Stale}
-use Rattle.client_request.specs.declared.event.Row.{Row}
 use Rattle.right_trace.specs.Trace.{History, Conf, Came, Put, after}
 use Rattle.right_trace.specs.Settings.{Settings}
 use Rattle.right_trace.specs.Right.{OutRight, OutsRight, RowRight}

@@ -1,8 +1,7 @@
 -- All clauses are kept exactly in right traces of a script's events, and one verdict alone is so.
 use Rattle.std.proofs.Common.{◌≡◌, ℕ, zero, suc, List, [], ◌∷◌, refl, sym, ap, ◌∙◌}
 use Rattle.std.specs.Prelude.{map}
-use Rattle.client_request.specs.declared.event.Event.{Event}
-use Rattle.client_request.specs.declared.event.Row.{Row}
+use Rattle.client_request.specs.declared.event.{Event.Event, Row.Row}
 use Rattle.right_trace.specs.Trace.{History, Conf, after}
 use Rattle.right_trace.specs.Settings.{Settings}
 use Rattle.right_trace.specs.Right as right

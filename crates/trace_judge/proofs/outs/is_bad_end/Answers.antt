@@ -1,6 +1,5 @@
 use Rattle.std.proofs.Common.{refl}
-use Rattle.trace_judge.proofs.Saying.{told_bad_end}
-use Rattle.trace_judge.proofs.Telling.{if_ok}
+use Rattle.trace_judge.proofs.{Saying.told_bad_end, Telling.if_ok}
 use Rattle.trace_judge.proofs.outs.is_bad_end.Goals as goal
 
 pub returns : goal.returns

@@ -1,6 +1,5 @@
 use Rattle.std.proofs.Common.{refl}
-use Rattle.trace_judge.proofs.Saying.{told_out}
-use Rattle.trace_judge.proofs.Telling.{if_ok}
+use Rattle.trace_judge.proofs.{Saying.told_out, Telling.if_ok}
 use Rattle.trace_judge.proofs.outs.is_right.Goals as goal
 
 pub returns : goal.returns

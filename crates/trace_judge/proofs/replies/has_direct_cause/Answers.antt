@@ -1,8 +1,7 @@
 use Rattle.std.proofs.Common.{Some, sym, subst}
 use Rattle.trace_points.specs.exchanges.Coming.{TellsComing}
 use Rattle.trace_judge.specs.Known.{conf_in}
-use Rattle.trace_judge.proofs.Replying.{direct_cause}
-use Rattle.trace_judge.proofs.Telling.{if_ok}
+use Rattle.trace_judge.proofs.{Replying.direct_cause, Telling.if_ok}
 use Rattle.trace_judge.proofs.replies.has_direct_cause.Goals as goal
 
 pub returns : goal.returns

@@ -1,5 +1,4 @@
-use Rattle.trace_judge.proofs.Replying.{done}
-use Rattle.trace_judge.proofs.Telling.{if_ok}
+use Rattle.trace_judge.proofs.{Replying.done, Telling.if_ok}
 use Rattle.trace_judge.proofs.replies.is_done.Goals as goal
 
 pub returns : goal.returns

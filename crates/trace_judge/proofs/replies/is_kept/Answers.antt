@@ -1,5 +1,4 @@
-use Rattle.trace_judge.proofs.Replying.{kept}
-use Rattle.trace_judge.proofs.Telling.{if_ok}
+use Rattle.trace_judge.proofs.{Replying.kept, Telling.if_ok}
 use Rattle.trace_judge.proofs.replies.is_kept.Goals as goal
 
 pub returns : goal.returns

@@ -1,5 +1,4 @@
-use Rattle.trace_judge.proofs.Replying.{message}
-use Rattle.trace_judge.proofs.Telling.{if_ok}
+use Rattle.trace_judge.proofs.{Replying.message, Telling.if_ok}
 use Rattle.trace_judge.proofs.replies.judge_message.Goals as goal
 
 pub returns : goal.returns

@@ -3,21 +3,16 @@ use Rattle.std.proofs.Common.{◌≡◌, ℕ, ◌+◌, ◌<◌, ◌≤◌, ◌==
 use Rattle.std.specs.Prelude.{nat_le, nat_lt}
 use Rattle.std.proofs.lemmas.Bool.Decides.{nat_tests}
 use Rattle.number_table.specs.Entries.{entry_at}
-use Rattle.client_request.specs.declared.event.Event.{Event}
-use Rattle.client_request.specs.declared.event.What.{What}
+use Rattle.client_request.specs.declared.event.{Event.Event, What.What, Out.Out, Via.TheVariants.Stream}
 use Rattle.client_request.specs.declared.event.What.TheVariants.{Ask, Opened, OpenFailed, SendFailed, ShortSend, Datagram, RecvFailed, Wrote, WriteFailed, Bytes, ReadFailed, Ended, Tick}
-use Rattle.client_request.specs.declared.event.Out.{Out}
 use Rattle.client_request.specs.declared.event.Out.TheVariants.{Start, OpenDgram, OpenStream, Send, Write, Resume, Close, Stale, Reply}
-use Rattle.client_request.specs.declared.event.Via.TheVariants.{Stream}
 use Rattle.client_request.specs.declared.fault.Fault.{Fault}
 use Rattle.right_trace.specs.Trace.{Item, History, Came, Put, Conf}
 use Rattle.right_trace.specs.Time.{now, newest, Ever, back_off, id_count}
-use Rattle.right_trace.specs.Requests.{same_via}
+use Rattle.right_trace.specs.{Requests.same_via, Writes.held_with}
 use Rattle.right_trace.specs.Places.{is_site, is_at, Stand, Unused, Opening, Alive, Gone, stand, is_opening, is_alive, is_live}
-use Rattle.right_trace.specs.Writes.{held_with}
 use Rattle.right_trace.specs.Busy.{EndsBadly, BreaksOff, OpeningFailed, OpeningFailedAtOnce, IdsAreUsed, ConnectionEnded, HappenedWithin}
-use Rattle.trace_tables.specs.declared.places.Place.{Place}
-use Rattle.trace_tables.specs.declared.places.Stand.{Stand as Seen}
+use Rattle.trace_tables.specs.declared.places.{Place.Place, Stand.Stand as Seen}
 use Rattle.trace_tables.specs.declared.places.Stand.TheVariants as seen
 use Rattle.trace_tables.specs.Known.{stand_of, stand_seen, site_seen}
 use Rattle.trace_tables.specs.Known as places_seen

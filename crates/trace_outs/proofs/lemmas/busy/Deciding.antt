@@ -7,13 +7,10 @@ use Rattle.client_request.specs.Request.{Request}
 use Rattle.client_request.specs.declared.event.Via.{Via}
 use Rattle.client_request.specs.declared.event.Via.TheVariants.{Dgram, Stream}
 use Rattle.right_trace.specs.Trace.{History, Conf}
-use Rattle.right_trace.specs.Messages.{is_valid}
+use Rattle.right_trace.specs.{Messages.is_valid, Exchanges.IsLeftOpen, Right.WaitingIsBusy}
 use Rattle.right_trace.specs.Requests.{Asking, asking, replied, started, waits}
-use Rattle.right_trace.specs.Exchanges.{IsLeftOpen}
 use Rattle.right_trace.specs.Busy.{IsBusyAt, IsBusy, Exchanging, PlaceIsOpening, PlacesAreTaken, StreamIsOpening, StreamIsWriting, BackingOff}
-use Rattle.right_trace.specs.Right.{WaitingIsBusy}
-use Rattle.trace_tables.specs.Lists.{listed}
-use Rattle.trace_tables.specs.Requests.{start_of}
+use Rattle.trace_tables.specs.{Lists.listed, Requests.start_of}
 use Rattle.trace_points.specs.questions.Configured.{use_of}
 use Rattle.trace_points.proofs.lemmas.questions.Deciding.{both, all, not_true}
 use Rattle.trace_tables.specs.sets.Sets.{Members}

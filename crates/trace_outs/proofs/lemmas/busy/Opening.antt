@@ -11,8 +11,7 @@ use Rattle.right_trace.specs.Time.{now, stream_timeout, read_timeout}
 use Rattle.right_trace.specs.Messages.{Octets, CarriesBy}
 use Rattle.right_trace.specs.Requests.{Asking, asking, replied, start, started, same_via}
 use Rattle.right_trace.specs.Places.{Site, site, is_of_kind, Stand, Unused, Opening, Alive, Gone, is_alive}
-use Rattle.right_trace.specs.Parts.{IsIn}
-use Rattle.right_trace.specs.Frames.{came_here}
+use Rattle.right_trace.specs.{Parts.IsIn, Frames.came_here}
 use Rattle.right_trace.specs.Writes.{Written, waiting_with}
 use Rattle.right_trace.specs.Exchanges.{Stands, IsLeftOpen, IsAmong, unanswered, octets_for, is_before, waited_for}
 use Rattle.right_trace.specs.Busy.{IsBusyAt, Exchanging}
@@ -21,10 +20,8 @@ use Rattle.trace_tables.specs.declared.sends.Sent.{Sent}
 use Rattle.trace_tables.specs.Known.{stand_of, stand_seen, site_seen}
 use Rattle.trace_tables.specs.Lists.{listed}
 use Rattle.trace_tables.specs.Requests.{start_seen, started_seen}
-use Rattle.trace_tables.specs.frames.Frames.{frames_of}
-use Rattle.trace_tables.specs.frames.Waiting.{waiting_seen}
-use Rattle.message_judging.specs.matching.Matching.{carries_by}
-use Rattle.message_judging.specs.matching.Shapes.{same_octets}
+use Rattle.trace_tables.specs.frames.{Frames.frames_of, Waiting.waiting_seen}
+use Rattle.message_judging.specs.matching.{Matching.carries_by, Shapes.same_octets}
 use Rattle.message_judging.proofs.lemmas.matching.Names.{octets_same}
 use Rattle.message_judging.proofs.lemmas.matching.Requests.{carries_so, so_carries}
 use Rattle.trace_points.specs.declared.questions.configured.ServerUse.{ServerUse}
@@ -35,8 +32,7 @@ use Rattle.trace_points.specs.exchanges.Open.{is_for, octets_of}
 use Rattle.trace_points.proofs.lemmas.exchanges.Finding.{own, in_reverse, reverse_in, sent_so, so_sent, written_so, so_written}
 use Rattle.trace_points.specs.due.Loose.{brings_seen}
 use Rattle.trace_points.proofs.lemmas.due.Waits.{freeing, brings_is}
-use Rattle.trace_outs.specs.declared.busy.waits.Carried.{Carried}
-use Rattle.trace_outs.specs.declared.busy.waits.Spot.{Spot}
+use Rattle.trace_outs.specs.declared.busy.waits.{Carried.Carried, Spot.Spot}
 use Rattle.trace_outs.specs.declared.busy.busy.Scene.{Scene}
 use Rattle.trace_outs.specs.busy.Waits.{IsSo, is_spot}
 use Rattle.trace_outs.specs.busy.Busy.{Known, is_of, carried_as, or_else, carries_seen, some_sent, some_written, is_open_by, is_handed, is_open_at, some_open}

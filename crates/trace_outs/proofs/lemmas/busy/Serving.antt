@@ -22,8 +22,7 @@ use Rattle.trace_tables.proofs.lemmas.sets.Counting.{count_same}
 use Rattle.trace_tables.proofs.lemmas.sets.Keeping as sets
 use Rattle.trace_outs.proofs.lemmas.loads.Meeting.{dgrams_held}
 use Rattle.trace_outs.specs.declared.busy.busy.Scene.{Scene}
-use Rattle.trace_outs.specs.busy.Backs.{is_within}
-use Rattle.trace_outs.specs.busy.Taken.{taken_seen}
+use Rattle.trace_outs.specs.busy.{Backs.is_within, Taken.taken_seen}
 use Rattle.trace_outs.specs.busy.Busy.{Known, opens_seen, moves_seen, serves, some_serves}
 use Rattle.trace_outs.proofs.lemmas.busy.Opening.{either, first_true, second_true}
 

@@ -4,20 +4,16 @@ use Rattle.std.specs.Prelude.{is_some, nat_lt}
 use Rattle.std.proofs.lemmas.Bool.Decides.{nat_tests}
 use Rattle.number_table.specs.Entries.{frees, entry_at}
 use Rattle.client_request.specs.Request.{Request}
-use Rattle.client_request.specs.declared.event.Event.{Event}
-use Rattle.client_request.specs.declared.event.What.{What}
+use Rattle.client_request.specs.declared.event.{Event.Event, What.What, Out.Out, Via.Via}
 use Rattle.client_request.specs.declared.event.What.TheVariants.{Ask, Opened, OpenFailed, SendFailed, ShortSend, Datagram, RecvFailed, Wrote, WriteFailed, Bytes, ReadFailed, Ended, Tick}
-use Rattle.client_request.specs.declared.event.Out.{Out}
 use Rattle.client_request.specs.declared.event.Out.TheVariants.{Start, OpenDgram, OpenStream, Send, Write, Resume, Close, Stale, Reply}
-use Rattle.client_request.specs.declared.event.Via.{Via}
 use Rattle.client_request.specs.declared.event.Via.TheVariants.{Dgram, Stream}
 use Rattle.right_trace.specs.Trace.{History, Came, Put, Conf}
 use Rattle.right_trace.specs.Time.{now, read_timeout, recv_size}
 use Rattle.right_trace.specs.Messages.{Octets, is_valid}
 use Rattle.right_trace.specs.Requests.{Asking, asking, asking_of, asks, is_ask, replied}
 use Rattle.right_trace.specs.Frames.{brings, came, came_here, received}
-use Rattle.right_trace.specs.Parts.{IsIn}
-use Rattle.right_trace.specs.Writes.{waiting_with}
+use Rattle.right_trace.specs.{Parts.IsIn, Writes.waiting_with}
 use Rattle.right_trace.specs.Exchanges.{IsAmong, has_answer, unanswered, octets_for}
 use Rattle.message_judging.specs.matching.Matching.{carries_by}
 use Rattle.trace_tables.specs.declared.requests.Requests.{Requests}
@@ -28,9 +24,7 @@ use Rattle.trace_tables.proofs.Listing.{listed_adds}
 use Rattle.trace_tables.specs.sets.Sets.{Rise}
 use Rattle.trace_tables.proofs.lemmas.sets.Keeping as sets
 use Rattle.trace_outs.proofs.lemmas.loads.Meeting.{asked_below}
-use Rattle.trace_outs.specs.declared.busy.waits.Carried.{Carried}
-use Rattle.trace_outs.specs.declared.busy.waits.Spot.{Spot}
-use Rattle.trace_outs.specs.declared.busy.waits.Waits.{Waits}
+use Rattle.trace_outs.specs.declared.busy.waits.{Carried.Carried, Spot.Spot, Waits.Waits}
 use Rattle.trace_outs.specs.busy.Waits.{Known, GoesOn, IsSo, noted_as, joined, is_asked, met, has_put, is_valid_asking, is_spot}
 
 same_number : (a b : ℕ) → (a == b) ≡ true → a ≡ b

@@ -5,10 +5,8 @@ use Rattle.std.proofs.lemmas.Bool.Decides.{nat_tests}
 use Rattle.number_table.specs.Entries.{entry_at}
 use Rattle.client_request.specs.declared.event.Via.TheVariants.{Stream}
 use Rattle.right_trace.specs.Trace.{History, Conf}
-use Rattle.right_trace.specs.Time.{id_count}
+use Rattle.right_trace.specs.{Time.id_count, Writes.held_with, Orderly.MayOpenStream}
 use Rattle.right_trace.specs.Places.{Stand, Unused, Opening, Alive, Gone, is_at, stand, is_live, is_opening, is_alive}
-use Rattle.right_trace.specs.Writes.{held_with}
-use Rattle.right_trace.specs.Orderly.{MayOpenStream}
 use Rattle.trace_tables.specs.declared.places.Place.{Place}
 use Rattle.trace_tables.specs.Known as places_seen
 use Rattle.trace_tables.specs.Known.{stand_seen}

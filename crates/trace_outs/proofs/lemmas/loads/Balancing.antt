@@ -3,27 +3,20 @@ use Rattle.std.proofs.Common.{◌≡◌, ℕ, suc, ◌≤◌, ◌==◌, ◌&&◌
 use Rattle.std.specs.Prelude.{◌||◌, is_some, min, nat_le}
 use Rattle.std.proofs.lemmas.Bool.Decides.{nat_tests}
 use Rattle.number_table.specs.Entries.{puts, frees, entry_at}
-use Rattle.client_request.specs.declared.event.What.{What}
+use Rattle.client_request.specs.declared.event.{What.What, Out.Out, Via.Via}
 use Rattle.client_request.specs.declared.event.What.TheVariants.{Ask, Opened, OpenFailed, SendFailed, ShortSend, Datagram, RecvFailed, Wrote, WriteFailed, Bytes, ReadFailed, Ended, Tick}
-use Rattle.client_request.specs.declared.event.Out.{Out}
 use Rattle.client_request.specs.declared.event.Out.TheVariants.{Start, OpenDgram, OpenStream, Send, Write, Resume, Close, Stale, Reply}
-use Rattle.client_request.specs.declared.event.Via.{Via}
 use Rattle.client_request.specs.declared.event.Via.TheVariants.{Dgram, Stream}
-use Rattle.right_trace.specs.Time.{max_places}
+use Rattle.right_trace.specs.{Time.max_places, Trace.Conf}
 use Rattle.trace_tables.specs.declared.books.Books.{Books}
-use Rattle.trace_tables.specs.declared.places.Place.{Place}
-use Rattle.trace_tables.specs.declared.places.Stand.{Stand as Seen}
+use Rattle.trace_tables.specs.declared.places.{Place.Place, Stand.Stand as Seen}
 use Rattle.trace_tables.specs.declared.places.Stand.TheVariants as seen
-use Rattle.trace_tables.specs.declared.requests.Requests.{Requests}
-use Rattle.trace_tables.specs.declared.requests.Started.{Started}
-use Rattle.trace_tables.specs.Tables.{begun_stand}
-use Rattle.trace_tables.specs.Lists.{listed}
-use Rattle.trace_tables.specs.Requests.{started_seen}
+use Rattle.trace_tables.specs.declared.requests.{Requests.Requests, Started.Started}
+use Rattle.trace_tables.specs.{Tables.begun_stand, Lists.listed, Requests.started_seen}
 use Rattle.trace_tables.specs.sets.Sets.{Members, Sets, size, members, joins, leaves, Rise, AreSets}
 use Rattle.trace_tables.proofs.lemmas.sets.Keeping.{goes_on, at_puts, stays, rise_puts, rise_frees, freed_none, members_put}
 use Rattle.trace_outs.specs.declared.loads.loads.Loads.{Loads}
 use Rattle.trace_outs.specs.loads.Loads.{are_met, met_at, noted, checks, gives, takes, waits_at, goes_from, goes_from_all, fails_as, fails, closes, opens_as, opens, waits_seen, starts, met, has_put, places_of}
-use Rattle.right_trace.specs.Trace.{Conf}
 
 pub record Well (c : Conf) (t : Loads) : Type 0 where
   pub dgrams : AreSets t.dgrams

@@ -3,8 +3,7 @@ use Rattle.std.proofs.Common.{◌≡◌, ℕ, zero, suc, ◌+◌, ◌<◌, ◌�
 use Rattle.std.specs.Prelude.{is_some, nat_le, nat_lt}
 use Rattle.std.proofs.lemmas.Bool.Decides.{nat_tests}
 use Rattle.number_table.specs.Entries.{puts, frees, entry_at}
-use Rattle.client_request.specs.declared.event.Event.{Event}
-use Rattle.client_request.specs.declared.event.Out.{Out}
+use Rattle.client_request.specs.declared.event.{Event.Event, Out.Out}
 use Rattle.client_request.specs.declared.event.Out.TheVariants.{Start, OpenDgram, OpenStream, Send, Write, Resume, Close, Stale, Reply}
 use Rattle.dns_base.specs.Header.{id_of}
 use Rattle.right_trace.specs.Trace.{History, Came, Put}
@@ -12,8 +11,7 @@ use Rattle.right_trace.specs.Time.{now, all_ids, id_count, one_if, count_below}
 use Rattle.right_trace.specs.Messages.{Octets, id_in}
 use Rattle.right_trace.specs.Frames.{is_bad, has_id, brings, came_here}
 use Rattle.right_trace.specs.Writes.{is_any, is_write, written_by, waiting_with, held_with}
-use Rattle.trace_tables.specs.declared.frames.frames.Brought.{Brought}
-use Rattle.trace_tables.specs.declared.frames.frames.Frames.{Frames}
+use Rattle.trace_tables.specs.declared.frames.frames.{Brought.Brought, Frames.Frames}
 use Rattle.trace_tables.specs.frames.Frames.{Known as FramesKnown, frames_of}
 use Rattle.trace_tables.specs.frames.Waiting.{id_read}
 use Rattle.trace_tables.specs.sets.Sets.{Members, Sets, members, has, size, joins, leaves, Rise, AreSets}

@@ -2,14 +2,12 @@
 use Rattle.std.proofs.Common.{◌≡◌, ℕ, ◌==◌, ◌&&◌, ◌||◌, not, Bool, true, false, if◌then◌else◌, List, Option, Some, None, refl, sym, ap, ap₂, ◌∙◌, arith}
 use Rattle.std.proofs.lemmas.Bool.Decides.{nat_tests}
 use Rattle.number_table.specs.Entries.{puts, entry_at}
-use Rattle.client_request.specs.declared.event.What.{What}
+use Rattle.client_request.specs.declared.event.{What.What, Via.Via}
 use Rattle.client_request.specs.declared.event.What.TheVariants.{Ask, Opened, OpenFailed, SendFailed, ShortSend, Datagram, RecvFailed, Wrote, WriteFailed, Bytes, ReadFailed, Ended, Tick}
-use Rattle.client_request.specs.declared.event.Via.{Via}
 use Rattle.client_request.specs.declared.event.Via.TheVariants.{Dgram, Stream}
-use Rattle.right_trace.specs.Requests.{same_via}
+use Rattle.right_trace.specs.{Requests.same_via, Trace.Conf}
 use Rattle.right_trace.specs.Places.{is_site, is_live}
-use Rattle.trace_tables.specs.declared.places.Place.{Place}
-use Rattle.trace_tables.specs.declared.places.Stand.{Stand as Seen}
+use Rattle.trace_tables.specs.declared.places.{Place.Place, Stand.Stand as Seen}
 use Rattle.trace_tables.specs.declared.places.Stand.TheVariants as seen
 use Rattle.trace_tables.specs.Tables as tables
 use Rattle.trace_tables.specs.Known.{stand_of, stand_seen, site_seen}
@@ -18,7 +16,6 @@ use Rattle.trace_tables.specs.sets.Sets.{has, joins, leaves, AreSets}
 use Rattle.trace_tables.proofs.lemmas.sets.Keeping.{goes_on}
 use Rattle.trace_outs.specs.declared.loads.loads.Loads.{Loads}
 use Rattle.trace_outs.specs.loads.Loads.{gives, takes, fails_as, fails, closes, opens_as, opens, met, places_of}
-use Rattle.right_trace.specs.Trace.{Conf}
 
 -- what an entry says of a place: it is live, of this kind and of this server
 abbrev pub live_at : Via → (s : ℕ) → Option Place → Bool

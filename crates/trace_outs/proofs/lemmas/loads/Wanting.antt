@@ -3,18 +3,14 @@ use Rattle.std.proofs.Common.{◌≡◌, ℕ, suc, ◌<◌, ◌==◌, ◌&&◌, 
 use Rattle.std.specs.Prelude.{is_some, max}
 use Rattle.std.proofs.lemmas.Bool.Decides.{nat_tests}
 use Rattle.number_table.specs.Entries.{entry_at}
-use Rattle.client_request.specs.declared.event.Event.{Event}
-use Rattle.client_request.specs.declared.event.What.{What}
+use Rattle.client_request.specs.declared.event.{Event.Event, What.What, Out.Out, Via.Via}
 use Rattle.client_request.specs.declared.event.What.TheVariants.{Ask, Opened, OpenFailed, SendFailed, ShortSend, Datagram, RecvFailed, Wrote, WriteFailed, Bytes, ReadFailed, Ended, Tick}
-use Rattle.client_request.specs.declared.event.Out.{Out}
 use Rattle.client_request.specs.declared.event.Out.TheVariants.{Start, OpenDgram, OpenStream, Send, Write, Resume, Close, Stale, Reply}
-use Rattle.client_request.specs.declared.event.Via.{Via}
 use Rattle.client_request.specs.declared.event.Via.TheVariants.{Dgram, Stream}
 use Rattle.right_trace.specs.Trace.{History, Came, Put, Conf}
 use Rattle.right_trace.specs.Time.{now}
 use Rattle.right_trace.specs.Requests.{asking, asking_of, asks, is_ask, is_reply, replied, start, started, waits, same_via}
-use Rattle.trace_tables.specs.declared.requests.Requests.{Requests}
-use Rattle.trace_tables.specs.declared.requests.Started.{Started}
+use Rattle.trace_tables.specs.declared.requests.{Requests.Requests, Started.Started}
 use Rattle.trace_tables.specs.Lists.{listed}
 use Rattle.trace_tables.specs.Requests as requests
 use Rattle.trace_tables.specs.Requests.{start_of, started_seen, replied_seen}

@@ -9,8 +9,7 @@ use Rattle.dns_base.specs.Header.{tc_of}
 use Rattle.right_trace.specs.Trace.{History, Conf, Use, ByDatagrams, ByStreams}
 use Rattle.right_trace.specs.Messages.{answers, truncated}
 use Rattle.right_trace.specs.Requests.{Asking, asking, same_via, started}
-use Rattle.right_trace.specs.Parts.{IsIn}
-use Rattle.right_trace.specs.Exchanges.{Comes}
+use Rattle.right_trace.specs.{Parts.IsIn, Exchanges.Comes}
 use Rattle.right_trace.specs.Orderly.{use_at, CutAnswerCame, MayStart, FirstDatagram, FirstStream, AfterCutAnswer}
 use Rattle.right_trace.specs.Right.{HasServer, IsAsked}
 use Rattle.trace_tables.specs.Requests.{started_seen}

@@ -4,26 +4,21 @@ use Rattle.std.specs.Prelude.{is_some, nat_le}
 use Rattle.std.proofs.lemmas.Bool.Decides.{nat_tests}
 use Rattle.number_table.specs.Entries.{entry_at}
 use Rattle.client_request.specs.Request.{Request}
-use Rattle.client_request.specs.declared.event.What.{What}
-use Rattle.client_request.specs.declared.event.Out.{Out}
+use Rattle.client_request.specs.declared.event.{What.What, Out.Out, Via.Via}
 use Rattle.client_request.specs.declared.event.Out.TheVariants.{Start, OpenDgram, OpenStream, Send, Write, Resume, Close, Stale, Reply}
-use Rattle.client_request.specs.declared.event.Via.{Via}
 use Rattle.client_request.specs.declared.event.Via.TheVariants.{Dgram, Stream}
 use Rattle.right_trace.specs.Trace.{History, Conf, Came, Put, put_all, after}
 use Rattle.right_trace.specs.Time.{now, read_timeout}
 use Rattle.right_trace.specs.Messages.{answers, is_valid}
 use Rattle.right_trace.specs.Requests.{Asking, asking, same_via, is_reply, replied, started}
 use Rattle.right_trace.specs.Places.{Site, site, is_site, is_at, is_told, is_live}
-use Rattle.right_trace.specs.Parts.{IsIn}
-use Rattle.right_trace.specs.Exchanges.{Comes}
+use Rattle.right_trace.specs.{Parts.IsIn, Exchanges.Comes}
 use Rattle.right_trace.specs.Orderly.{Sending, sending, RepliedHere, Answered, MayCloseDgram, ItsFault, ItsAnswer, ItsTimeout, ItsReply, ReplyBeforeItsSend, InvalidBeforeItsSend, MayCloseStream, MayClose, OfDgram, OfStream}
 use Rattle.right_trace.specs.Right.{HasServer, WasLive}
 use Rattle.trace_tables.specs.declared.places.Place.{Place}
 use Rattle.trace_tables.specs.declared.sends.Sent.{Sent}
-use Rattle.trace_tables.specs.Known.{site_seen}
-use Rattle.trace_tables.specs.Lists.{listed}
+use Rattle.trace_tables.specs.{Known.site_seen, Lists.listed, Sends.last_of}
 use Rattle.trace_tables.specs.Requests.{replied_seen, started_seen}
-use Rattle.trace_tables.specs.Sends.{last_of}
 use Rattle.trace_tables.specs.frames.Here.{was_live_seen}
 use Rattle.trace_points.specs.declared.questions.configured.ServerUse.{ServerUse}
 use Rattle.trace_points.specs.questions.Configured.{use_of}

@@ -5,11 +5,9 @@ use Rattle.client_request.specs.declared.event.What.{What}
 use Rattle.client_request.specs.declared.event.What.TheVariants.{Ask, Opened, OpenFailed, SendFailed, ShortSend, Datagram, RecvFailed, Wrote, WriteFailed, Bytes, ReadFailed, Ended, Tick}
 use Rattle.right_trace.specs.Trace.{History, Conf}
 use Rattle.right_trace.specs.Time.{now, newest, row_before}
-use Rattle.right_trace.specs.Messages.{Octets}
-use Rattle.right_trace.specs.Places.{is_told}
+use Rattle.right_trace.specs.{Messages.Octets, Places.is_told, Writes.is_unwritten}
 use Rattle.right_trace.specs.Frames.{is_bad, has_bad, came, came_here}
 use Rattle.right_trace.specs.Timers.{ReadTimerIsDue, IdleTimerIsDue}
-use Rattle.right_trace.specs.Writes.{is_unwritten}
 use Rattle.right_trace.specs.Busy.{EndsBadly, ByFault, ByBadFrame, ByReadTimer, IdleAmidWriting}
 use Rattle.right_trace.specs.Orderly.{MayCloseStream, StreamFault, BadFrame, ReadTimer, IdleTimer}
 use Rattle.trace_tables.specs.declared.frames.frames.Brought.{Brought}

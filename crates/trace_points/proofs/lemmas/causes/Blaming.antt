@@ -8,23 +8,18 @@ use Rattle.client_request.specs.declared.error.Error.{Error}
 use Rattle.client_request.specs.declared.error.Error.TheVariants as errors
 use Rattle.client_request.specs.declared.error.QueryError.TheVariants as query
 use Rattle.client_request.specs.declared.fault.Fault.TheVariants as fault
-use Rattle.client_request.specs.declared.event.What.{What}
+use Rattle.client_request.specs.declared.event.{What.What, Via.Via}
 use Rattle.client_request.specs.declared.event.What.TheVariants.{Ask, Opened, OpenFailed, SendFailed, ShortSend, Datagram, RecvFailed, Wrote, WriteFailed, Bytes, ReadFailed, Ended, Tick}
-use Rattle.client_request.specs.declared.event.Via.{Via}
 use Rattle.client_request.specs.declared.event.Via.TheVariants.{Dgram, Stream}
 use Rattle.right_trace.specs.Trace.{History, Conf}
-use Rattle.right_trace.specs.Time.{newest}
+use Rattle.right_trace.specs.{Time.newest, Parts.IsIn, Exchanges.Comes}
 use Rattle.right_trace.specs.Messages.{CarriesBy, answers, base_is_read, passes_count}
 use Rattle.right_trace.specs.Requests.{Asking, asking, same_via}
 use Rattle.right_trace.specs.Places.{Site, site, is_site, is_at, stand, Alive}
-use Rattle.right_trace.specs.Parts.{IsIn}
-use Rattle.right_trace.specs.Exchanges.{Comes}
 use Rattle.right_trace.specs.Causes.{Named, named, IsOneOf, FailedAt, CannotBeComposed, CameWrong}
 use Rattle.trace_tables.specs.declared.books.Books.{Books}
 use Rattle.trace_tables.specs.declared.sends.Sent.{Sent}
-use Rattle.trace_tables.specs.Lists.{listed}
-use Rattle.trace_tables.specs.Requests.{started_seen}
-use Rattle.trace_tables.specs.Sends.{names_of}
+use Rattle.trace_tables.specs.{Lists.listed, Requests.started_seen, Sends.names_of}
 use Rattle.trace_tables.specs.Books as books
 use Rattle.message_judging.specs.matching.Matching.{carries_by}
 use Rattle.message_judging.proofs.lemmas.matching.Requests.{carries_so, so_carries}

@@ -11,8 +11,7 @@ use Rattle.right_trace.specs.Places.{Alive, is_alive}
 use Rattle.right_trace.specs.Frames.{is_bad, came_here, has_frame}
 use Rattle.right_trace.specs.Writes.{Written, is_any, waiting_with}
 use Rattle.right_trace.specs.Timers.{quiet_with, idle_with, told_idle, last_keepalive, IdleTimerIsDue}
-use Rattle.trace_tables.specs.declared.places.Place.{Place}
-use Rattle.trace_tables.specs.declared.places.Stand.{Stand as Seen}
+use Rattle.trace_tables.specs.declared.places.{Place.Place, Stand.Stand as Seen}
 use Rattle.trace_tables.specs.declared.places.Stand.TheVariants as seen
 use Rattle.trace_tables.specs.Known.{stand_of, stand_seen}
 use Rattle.trace_tables.specs.Lists.{list_or_none, listed}

@@ -3,23 +3,19 @@ use Rattle.std.proofs.Common.{◌≡◌, ℕ, ◌==◌, ◌&&◌, Bool, true, fa
 use Rattle.std.specs.Prelude.{is_some}
 use Rattle.std.proofs.lemmas.Bool.Decides.{nat_tests}
 use Rattle.number_table.specs.Entries.{puts, entry_at}
-use Rattle.client_request.specs.declared.event.Event.{Event}
-use Rattle.client_request.specs.declared.event.Out.{Out}
+use Rattle.client_request.specs.declared.event.{Event.Event, Out.Out, Via.Via}
 use Rattle.client_request.specs.declared.event.Out.TheVariants.{Start, OpenDgram, OpenStream, Send, Write, Resume, Close, Stale, Reply}
-use Rattle.client_request.specs.declared.event.Via.{Via}
 use Rattle.client_request.specs.declared.event.Via.TheVariants.{Dgram, Stream}
 use Rattle.right_trace.specs.Trace.{History, Came, Put, Conf}
 use Rattle.right_trace.specs.Time.{now, newest}
-use Rattle.right_trace.specs.Messages.{is_valid}
+use Rattle.right_trace.specs.{Messages.is_valid, Timers.ended_loose}
 use Rattle.right_trace.specs.Requests.{Asking, asking, same_via, start, started}
 use Rattle.right_trace.specs.Frames.{has_frame, came_here}
-use Rattle.right_trace.specs.Timers.{ended_loose}
 use Rattle.right_trace.proofs.Asked.{asking_came}
 use Rattle.trace_tables.proofs.Tables.{at_puts}
 use Rattle.trace_tables.specs.declared.frames.frames.Brought.{Brought}
 use Rattle.trace_tables.specs.declared.frames.ledger.Ledger.{Ledger}
-use Rattle.trace_tables.specs.frames.Frames.{frames_of}
-use Rattle.trace_tables.specs.frames.Waiting.{Waiting}
+use Rattle.trace_tables.specs.frames.{Frames.frames_of, Waiting.Waiting}
 use Rattle.trace_tables.specs.frames.Ledger as ledger
 use Rattle.trace_tables.specs.declared.writes.writing.Writing.{Writing}
 use Rattle.trace_tables.proofs.lemmas.writes.Leaving as leaving

@@ -5,15 +5,12 @@ use Rattle.number_table.specs.Entries.{entry_at}
 use Rattle.client_request.specs.declared.event.Via.{Via}
 use Rattle.client_request.specs.declared.event.Via.TheVariants.{Dgram, Stream}
 use Rattle.right_trace.specs.Trace.{History, Conf}
-use Rattle.right_trace.specs.Time.{response_timeout}
-use Rattle.right_trace.specs.Messages.{Octets}
-use Rattle.right_trace.specs.Requests.{same_via}
+use Rattle.right_trace.specs.{Time.response_timeout, Messages.Octets, Requests.same_via}
 use Rattle.right_trace.specs.Places.{Site, site, Alive, is_alive}
 use Rattle.right_trace.specs.Frames.{brings, came_here, has_frame}
 use Rattle.right_trace.specs.Writes.{Written, IsWritten, waiting, waiting_with}
 use Rattle.right_trace.specs.Timers.{quiet, quiet_with, ends_loose, MayBeQuiet, HeldForLong, EndsLoose, InvalidRequest, ReadTimerIsDue}
-use Rattle.trace_tables.specs.declared.places.Place.{Place}
-use Rattle.trace_tables.specs.declared.places.Stand.{Stand as Seen}
+use Rattle.trace_tables.specs.declared.places.{Place.Place, Stand.Stand as Seen}
 use Rattle.trace_tables.specs.declared.places.Stand.TheVariants as seen
 use Rattle.trace_tables.specs.Known.{stand_of, stand_seen, site_seen}
 use Rattle.trace_tables.specs.Lists.{list_or_none, listed}

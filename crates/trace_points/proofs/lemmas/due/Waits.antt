@@ -3,11 +3,10 @@ use Rattle.std.proofs.Common.{◌≡◌, ℕ, suc, ◌==◌, ◌&&◌, ◌||◌,
 use Rattle.std.proofs.lemmas.Bool.Decides.{nat_tests}
 use Rattle.dns_base.specs.Header.{id_of}
 use Rattle.right_trace.specs.Trace.{History, Came, Put}
-use Rattle.right_trace.specs.Time.{now}
+use Rattle.right_trace.specs.{Time.now, Timers.is_loose_end}
 use Rattle.right_trace.specs.Messages.{Octets, id_in}
 use Rattle.right_trace.specs.Frames.{is_bad, has_id, brings, last_of, but_last}
 use Rattle.right_trace.specs.Writes.{Written, is_write, written_by, waiting_with, is_any}
-use Rattle.right_trace.specs.Timers.{is_loose_end}
 use Rattle.trace_tables.specs.frames.Waiting.{Waiting, waiting_seen, free_seen, is_empty}
 use Rattle.trace_tables.specs.frames.Waiting as waiting
 use Rattle.trace_tables.specs.declared.writes.writing.Writing.{Writing}

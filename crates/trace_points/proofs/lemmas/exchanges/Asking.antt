@@ -1,16 +1,11 @@
 -- In a trace that is right what was not asked is not sent, and not handed on.
 use Rattle.std.proofs.Common.{◌≡◌, ℕ, ◌==◌, ◌&&◌, Bool, true, false, if◌then◌else◌, Option, Some, None, List, [], ◌∷◌, refl, sym, ap, ◌∙◌, arith}
 use Rattle.std.proofs.lemmas.Bool.Decides.{nat_tests}
-use Rattle.client_request.specs.declared.event.Event.{Event}
-use Rattle.client_request.specs.declared.event.What.{What}
-use Rattle.client_request.specs.declared.event.Out.{Out}
+use Rattle.client_request.specs.declared.event.{Event.Event, What.What, Out.Out, Via.Via}
 use Rattle.client_request.specs.declared.event.Out.TheVariants.{Start, OpenDgram, OpenStream, Send, Write, Resume, Close, Stale, Reply}
-use Rattle.client_request.specs.declared.event.Via.{Via}
 use Rattle.right_trace.specs.Trace.{History, Conf, Came, Put, put_all}
-use Rattle.right_trace.specs.Time.{now}
-use Rattle.right_trace.specs.Settings.{Settings}
+use Rattle.right_trace.specs.{Time.now, Settings.Settings, Causes.named}
 use Rattle.right_trace.specs.Requests.{Asking, asking, same_via, start}
-use Rattle.right_trace.specs.Causes.{named}
 use Rattle.right_trace.specs.Right.{OutRight, OutsRight}
 use Rattle.right_trace.proofs.Asked.{asking_came}
 use Rattle.trace_points.specs.exchanges.Asked.{AskedFirst, RightRowsAsk}

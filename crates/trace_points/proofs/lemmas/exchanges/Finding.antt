@@ -4,13 +4,10 @@ use Rattle.std.specs.Prelude.{is_some}
 use Rattle.std.proofs.lemmas.Bool.Decides.{nat_tests}
 use Rattle.std.proofs.lemmas.List.{reverse-append}
 use Rattle.number_table.specs.Entries.{puts, entry_at}
-use Rattle.dns_base.specs.Answering.{is_answer}
-use Rattle.dns_base.specs.Header.{id_of}
+use Rattle.dns_base.specs.{Answering.is_answer, Header.id_of}
 use Rattle.right_trace.specs.Messages.{Octets, id_in}
-use Rattle.right_trace.specs.Requests.{Asking}
-use Rattle.right_trace.specs.Parts.{IsIn}
+use Rattle.right_trace.specs.{Requests.Asking, Parts.IsIn, Writes.Written, Time.read_timeout, Trace.Conf}
 use Rattle.right_trace.specs.Frames.{is_bad, first_with}
-use Rattle.right_trace.specs.Writes.{Written}
 use Rattle.right_trace.specs.Exchanges.{IsAmong, octets_for}
 use Rattle.trace_tables.specs.declared.books.Books.{Books}
 use Rattle.trace_tables.specs.declared.places.Place.{Place}
@@ -23,8 +20,6 @@ use Rattle.message_judging.specs.matching.Matching.{carries_by}
 use Rattle.trace_points.specs.declared.exchanges.coming.Coming.{Coming}
 use Rattle.trace_points.specs.exchanges.Open.{is_for, octets_of}
 use Rattle.trace_points.specs.exchanges.Coming.{is_wanted, comes_on, comes_for, before, found_in, on_write, on_writes, in_frames}
-use Rattle.right_trace.specs.Time.{read_timeout}
-use Rattle.right_trace.specs.Trace.{Conf}
 
 same_number : (a b : ℕ) → (a == b) ≡ true → a ≡ b
 same_number a b e = grind (arith, nat_tests)

@@ -4,10 +4,8 @@ use Rattle.std.proofs.lemmas.Bool.Decides.{nat_tests}
 use Rattle.std.proofs.lemmas.List.{reverse-append}
 use Rattle.number_table.specs.Entries.{puts, frees, entry_at}
 use Rattle.client_request.specs.Request.{Request}
-use Rattle.client_request.specs.declared.event.Event.{Event}
-use Rattle.client_request.specs.declared.event.Out.{Out}
+use Rattle.client_request.specs.declared.event.{Event.Event, Out.Out, Via.Via}
 use Rattle.client_request.specs.declared.event.Out.TheVariants.{Start, OpenDgram, OpenStream, Send, Write, Resume, Close, Stale, Reply}
-use Rattle.client_request.specs.declared.event.Via.{Via}
 use Rattle.client_request.specs.declared.event.Via.TheVariants.{Dgram, Stream}
 use Rattle.dns_base.specs.Answering.{is_answer}
 use Rattle.right_trace.specs.Trace.{History, Came, Put, Conf}
@@ -23,10 +21,8 @@ use Rattle.trace_tables.specs.declared.sends.Sent.{Sent}
 use Rattle.trace_tables.specs.declared.requests.Requests.{Requests}
 use Rattle.trace_tables.specs.Requests as requests
 use Rattle.trace_tables.specs.Lists.{list_or_none, listed}
-use Rattle.trace_tables.proofs.Tables.{at_puts}
-use Rattle.trace_tables.proofs.Listing.{stays}
-use Rattle.trace_tables.specs.declared.frames.frames.Brought.{Brought}
-use Rattle.trace_tables.specs.declared.frames.frames.Frames.{Frames}
+use Rattle.trace_tables.proofs.{Tables.at_puts, Listing.stays}
+use Rattle.trace_tables.specs.declared.frames.frames.{Brought.Brought, Frames.Frames}
 use Rattle.trace_tables.specs.frames.Frames as frames
 use Rattle.trace_points.specs.exchanges.Asked.{AskedFirst}
 use Rattle.trace_points.specs.exchanges.Open.{Open, answered_by, is_answered, left_open, left_at, met, sends_more, has_put, is_for, octets_of, Known, GoesOn}

@@ -11,14 +11,12 @@ use Rattle.right_trace.specs.Time.{now, newest, row_before, stream_timeout, read
 use Rattle.right_trace.specs.Messages.{Octets, answers, id_in}
 use Rattle.right_trace.specs.Requests.{Asking, start}
 use Rattle.right_trace.specs.Places.{Site, site, stand, Alive, is_alive, is_of_kind}
-use Rattle.right_trace.specs.Parts.{IsIn}
+use Rattle.right_trace.specs.{Parts.IsIn, Writes.waiting_with}
 use Rattle.right_trace.specs.Frames.{is_bad, came, came_here, received, first_with}
-use Rattle.right_trace.specs.Writes.{waiting_with}
 use Rattle.right_trace.specs.Exchanges.{Stands, IsAmong, Comes, first_datagram, first_of, waited_for, is_before, unanswered, octets_for}
 use Rattle.trace_tables.specs.declared.books.Books.{Books}
-use Rattle.trace_tables.specs.declared.places.Place.{Place}
+use Rattle.trace_tables.specs.declared.places.{Place.Place, Stand.Stand as Seen}
 use Rattle.trace_tables.specs.declared.sends.Sent.{Sent}
-use Rattle.trace_tables.specs.declared.places.Stand.{Stand as Seen}
 use Rattle.trace_tables.specs.declared.places.Stand.TheVariants as seen
 use Rattle.trace_tables.specs.Known.{stand_of, stand_seen, site_seen}
 use Rattle.trace_tables.specs.Lists.{listed}
@@ -26,8 +24,7 @@ use Rattle.trace_tables.specs.Requests.{replied_seen, start_seen}
 use Rattle.trace_tables.specs.Books as books
 use Rattle.trace_tables.specs.declared.frames.frames.Brought.{Brought}
 use Rattle.trace_tables.specs.declared.frames.ledger.Ledger.{Ledger}
-use Rattle.trace_tables.specs.frames.Frames.{frames_of}
-use Rattle.trace_tables.specs.frames.Waiting.{waiting_seen}
+use Rattle.trace_tables.specs.frames.{Frames.frames_of, Waiting.waiting_seen}
 use Rattle.trace_tables.specs.frames.Ledger as ledger
 use Rattle.message_judging.proofs.lemmas.matching.Requests.{carries_so, so_carries}
 use Rattle.trace_points.specs.declared.exchanges.coming.Coming.{Coming}

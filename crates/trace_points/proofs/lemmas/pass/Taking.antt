@@ -1,9 +1,6 @@
 -- What is known goes on over events, outs and rows.
 use Rattle.std.proofs.Common.{◌≡◌, List, [], ◌∷◌, refl, subst}
-use Rattle.client_request.specs.declared.event.Event.{Event}
-use Rattle.client_request.specs.declared.event.Out.{Out}
-use Rattle.client_request.specs.declared.event.Row.{Row}
-use Rattle.client_request.specs.declared.event.What.{What}
+use Rattle.client_request.specs.declared.event.{Event.Event, Out.Out, Row.Row, What.What}
 use Rattle.right_trace.specs.Trace.{History, Came, Put, put_all, after, Conf}
 use Rattle.right_trace.specs.Time.{newest}
 use Rattle.trace_tables.specs.frames.Ledger as ledger

@@ -8,20 +8,17 @@ use Rattle.client_request.specs.declared.event.Via.{Via}
 use Rattle.client_request.specs.declared.event.Via.TheVariants.{Dgram, Stream}
 use Rattle.right_trace.specs.Trace.{History, Conf}
 use Rattle.right_trace.specs.Messages.{Octets, CarriesBy}
-use Rattle.right_trace.specs.Time.{max_tries}
+use Rattle.right_trace.specs.{Time.max_tries, Causes.sends}
 use Rattle.right_trace.specs.Requests.{Asking, asking, replied, same_via, started}
 use Rattle.right_trace.specs.Places.{Site, site, is_site, is_at, stand, is_alive, Unused, Opening, Alive, Gone}
-use Rattle.right_trace.specs.Causes.{sends}
 use Rattle.right_trace.specs.Orderly.{Sending, sending, MaySend}
 use Rattle.right_trace.specs.Right.{HasServer, IsFirst, IsUnopened}
 use Rattle.trace_tables.specs.declared.books.Books.{Books}
-use Rattle.trace_tables.specs.declared.places.Place.{Place}
+use Rattle.trace_tables.specs.declared.places.{Place.Place, Stand.Stand as Seen}
 use Rattle.trace_tables.specs.declared.sends.Sent.{Sent}
-use Rattle.trace_tables.specs.declared.places.Stand.{Stand as Seen}
 use Rattle.trace_tables.specs.declared.places.Stand.TheVariants as seen
 use Rattle.trace_tables.specs.Known.{stand_of, stand_seen, site_seen}
-use Rattle.trace_tables.specs.Lists.{listed}
-use Rattle.trace_tables.specs.Books.{Known}
+use Rattle.trace_tables.specs.{Lists.listed, Books.Known}
 use Rattle.trace_tables.specs.Requests.{replied_seen, started_seen}
 use Rattle.trace_tables.specs.Sends.{sends_seen, used_seen, last_of}
 use Rattle.message_judging.specs.matching.Matching.{carries_by}

@@ -4,16 +4,14 @@ use Rattle.std.specs.Prelude.{if◌then◌else◌, is_some}
 use Rattle.std.proofs.lemmas.Bool.Decides.{nat_tests}
 use Rattle.number_table.specs.Entries.{entry_at}
 use Rattle.client_request.specs.declared.fault.Fault.{Fault}
-use Rattle.client_request.specs.declared.event.What.{What}
+use Rattle.client_request.specs.declared.event.{What.What, Via.TheVariants.Dgram}
 use Rattle.client_request.specs.declared.event.What.TheVariants.{Ask, Opened, OpenFailed, SendFailed, ShortSend, Datagram, RecvFailed, Wrote, WriteFailed, Bytes, ReadFailed, Ended, Tick}
-use Rattle.client_request.specs.declared.event.Via.TheVariants.{Dgram}
 use Rattle.right_trace.specs.Trace.{History}
 use Rattle.right_trace.specs.Requests.{same_via, started}
 use Rattle.right_trace.specs.Places.{is_site, is_at, Unused, Opening, Gone}
 use Rattle.right_trace.specs.Causes.{FailedToOpen, WasOpening}
-use Rattle.trace_tables.specs.declared.places.Place.{Place}
+use Rattle.trace_tables.specs.declared.places.{Place.Place, Stand.Stand as Seen}
 use Rattle.trace_tables.specs.declared.places.Stand.TheVariants as seen
-use Rattle.trace_tables.specs.declared.places.Stand.{Stand as Seen}
 use Rattle.trace_tables.specs.declared.requests.Requests.{Requests}
 use Rattle.trace_tables.specs.Tables.{Table}
 use Rattle.trace_tables.specs.Known.{Known, stand_of, stand_seen, site_seen}

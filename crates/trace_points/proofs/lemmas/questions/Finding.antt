@@ -3,12 +3,10 @@ use Rattle.std.proofs.Common.{◌≡◌, ℕ, Bool, true, false, ◌==◌, ◌&&
 use Rattle.std.proofs.lemmas.Bool.Decides.{nat_tests}
 use Rattle.number_table.specs.Entries.{entry_at}
 use Rattle.client_request.specs.declared.event.Via.TheVariants.{Stream}
-use Rattle.right_trace.specs.Trace.{History}
-use Rattle.right_trace.specs.Requests.{same_via}
+use Rattle.right_trace.specs.{Trace.History, Requests.same_via}
 use Rattle.right_trace.specs.Places.{is_site, is_opening, Opening}
-use Rattle.trace_tables.specs.declared.places.Place.{Place}
+use Rattle.trace_tables.specs.declared.places.{Place.Place, Stand.Stand as Seen}
 use Rattle.trace_tables.specs.declared.places.Stand.TheVariants as seen
-use Rattle.trace_tables.specs.declared.places.Stand.{Stand as Seen}
 use Rattle.trace_tables.specs.Tables.{Table}
 use Rattle.trace_tables.specs.Known.{Known, stand_of, stand_seen, site_seen}
 use Rattle.trace_points.specs.questions.Searching.{opening_stream, some_entry, NoneOpens}

@@ -8,9 +8,8 @@ use Rattle.client_request.specs.declared.event.Via.TheVariants.{Stream}
 use Rattle.right_trace.specs.Trace.{History, Conf}
 use Rattle.right_trace.specs.Messages.{Octets, CarriesBy}
 use Rattle.right_trace.specs.Requests.{Asking, asking}
-use Rattle.right_trace.specs.Places.{site}
+use Rattle.right_trace.specs.{Places.site, Orderly.MayWrite}
 use Rattle.right_trace.specs.Writes.{Written, waiting_with}
-use Rattle.right_trace.specs.Orderly.{MayWrite}
 use Rattle.trace_tables.specs.declared.books.Books.{Books}
 use Rattle.trace_tables.specs.Books as books
 use Rattle.trace_tables.specs.Requests.{replied_seen, started_seen}

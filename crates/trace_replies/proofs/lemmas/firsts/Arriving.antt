@@ -1,20 +1,17 @@
 -- Behind each row what is kept of messages that came is what the definitions say.
 use Rattle.std.proofs.Common.{◌≡◌, ℕ, ◌&&◌, ◌⊎◌, inl, inr, not, Bool, true, false, List, [], Option, Some, None, refl, sym, ap, ◌∙◌, subst}
 use Rattle.number_table.specs.Entries.{entry_at}
-use Rattle.client_request.specs.declared.event.Row.{Row}
-use Rattle.client_request.specs.declared.event.Via.{Via}
+use Rattle.client_request.specs.declared.event.{Row.Row, Via.Via}
 use Rattle.client_request.specs.declared.event.Via.TheVariants.{Dgram, Stream}
 use Rattle.right_trace.specs.Trace.{History, Conf, after}
 use Rattle.right_trace.specs.Time.{newest, row_before, EarlierRow, OfRow}
 use Rattle.right_trace.specs.Messages.{Octets, answers, truncated}
 use Rattle.right_trace.specs.Places.{site, is_of_kind}
-use Rattle.right_trace.specs.Parts.{IsIn}
-use Rattle.right_trace.specs.Frames.{came}
+use Rattle.right_trace.specs.{Parts.IsIn, Frames.came}
 use Rattle.right_trace.specs.Exchanges.{is_whole, first_of}
 use Rattle.right_trace.specs.Coming.{IsExcused, CameFor, SomeCame}
 use Rattle.trace_tables.specs.declared.places.Place.{Place}
-use Rattle.trace_tables.specs.Known.{site_seen}
-use Rattle.trace_tables.specs.Lists.{listed}
+use Rattle.trace_tables.specs.{Known.site_seen, Lists.listed}
 use Rattle.trace_tables.specs.declared.frames.here.Here.{Here}
 use Rattle.trace_tables.specs.declared.frames.ledger.Ledger.{Ledger}
 use Rattle.trace_tables.specs.frames.Ledger as ledger
@@ -27,8 +24,7 @@ use Rattle.trace_points.specs.exchanges.Coming.{IsComing, AllComing}
 use Rattle.trace_errors.specs.promptness.Heard.{is_passed_over}
 use Rattle.trace_errors.specs.promptness.Prompt.{is_uncut, matches, is_stream, excused_in}
 use Rattle.trace_errors.proofs.lemmas.promptness.Hearing.{before_row, rows_before, before_rows, brought_to, passed_so, so_passed}
-use Rattle.trace_replies.specs.declared.firsts.firsts.Arrived.{Arrived}
-use Rattle.trace_replies.specs.declared.firsts.firsts.News.{News}
+use Rattle.trace_replies.specs.declared.firsts.firsts.{Arrived.Arrived, News.News}
 use Rattle.trace_replies.specs.firsts.Firsts.{Firsts, counted, news_of, all_news, after_row, ByRow, FirstRow, HasCome, Known, GoesOn}
 use Rattle.trace_replies.proofs.lemmas.firsts.Listing.{clash, not_false, counts_so, so_counts, IsNew, added_so, still_listed, new_listed, news_so, so_news}
 

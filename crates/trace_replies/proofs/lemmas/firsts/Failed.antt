@@ -4,11 +4,7 @@ use Rattle.std.specs.List.{list_any}
 use Rattle.right_trace.specs.Trace.{History, Conf}
 use Rattle.right_trace.specs.Time.{newest, row_before, EarlierRow, OfRow}
 use Rattle.right_trace.specs.Messages.{Octets, answers}
-use Rattle.right_trace.specs.Settings.{Settings}
-use Rattle.right_trace.specs.Validity.{is_deferred}
-use Rattle.right_trace.specs.Views.{is_failing_message}
-use Rattle.right_trace.specs.Parts.{IsIn}
-use Rattle.right_trace.specs.Owed.{AllAreDone}
+use Rattle.right_trace.specs.{Settings.Settings, Validity.is_deferred, Views.is_failing_message, Parts.IsIn, Owed.AllAreDone}
 use Rattle.right_trace.specs.Coming.{CameFor, SomeCame, CameFirst, FirstHere, FirstEarlier}
 use Rattle.right_trace.specs.Replies.{IsFresh, InThisRow, Deferred}
 use Rattle.trace_tables.specs.Lists.{listed}

@@ -1,16 +1,14 @@
 -- What is listed of messages that came, once those of a row are added.
 use Rattle.std.proofs.Common.{◌≡◌, ℕ, ◌==◌, ◌&&◌, ◌||◌, ◌⊎◌, inl, inr, not, Bool, true, false, if◌then◌else◌, List, [], ◌∷◌, refl, sym, ap, ◌∙◌, subst, arith}
 use Rattle.std.proofs.lemmas.Bool.Decides.{nat_tests}
-use Rattle.right_trace.specs.Messages.{Octets}
-use Rattle.right_trace.specs.Parts.{IsIn}
+use Rattle.right_trace.specs.{Messages.Octets, Parts.IsIn}
 use Rattle.message_judging.specs.matching.Shapes.{same_octets}
 use Rattle.message_judging.proofs.lemmas.matching.Names.{both, all, octets_same, same_octets_are}
 use Rattle.trace_tables.specs.Lists.{listed, adds}
 use Rattle.trace_tables.proofs.Listing.{listed_adds}
 use Rattle.trace_points.specs.declared.exchanges.coming.Coming.{Coming}
 use Rattle.trace_errors.specs.promptness.Prompt.{matches}
-use Rattle.trace_replies.specs.declared.firsts.firsts.Arrived.{Arrived}
-use Rattle.trace_replies.specs.declared.firsts.firsts.News.{News}
+use Rattle.trace_replies.specs.declared.firsts.firsts.{Arrived.Arrived, News.News}
 use Rattle.trace_replies.specs.firsts.Firsts.{Firsts, some_counts, some_is, some_first, news_of, all_news, add_all}
 
 pub clash : (b : Bool) → b ≡ true → b ≡ false → ⊥

@@ -4,11 +4,9 @@ use Rattle.std.specs.Prelude.{Some}
 use Rattle.client_request.specs.declared.event.Via.{Via}
 use Rattle.client_request.specs.declared.event.Via.TheVariants.{Dgram, Stream}
 use Rattle.right_trace.specs.Trace.{History, Conf}
-use Rattle.right_trace.specs.Time.{newest}
+use Rattle.right_trace.specs.{Time.newest, Parts.IsIn, Coming.CameFor}
 use Rattle.right_trace.specs.Messages.{Octets, answers, truncated}
-use Rattle.right_trace.specs.Parts.{IsIn}
 use Rattle.right_trace.specs.Exchanges.{Comes, Matches, is_whole}
-use Rattle.right_trace.specs.Coming.{CameFor}
 use Rattle.message_judging.specs.matching.Shapes.{same_octets}
 use Rattle.message_judging.proofs.lemmas.matching.Names.{both, all, same_number, number_same, octets_same, same_octets_are}
 use Rattle.trace_tables.specs.declared.books.Books.{Books}

@@ -3,17 +3,12 @@ use Rattle.std.proofs.Common.{◌≡◌, ◌≤◌, ℕ, Bool, true, false, ◌�
 use Rattle.std.specs.Prelude.{Option, Some, Ok, Err, if◌then◌else◌, max}
 use Rattle.std.specs.Map.{lookup}
 use Rattle.number_table.specs.Entries.{entry_at}
-use Rattle.client_request.specs.declared.event.Event.{Event}
-use Rattle.client_request.specs.declared.event.Out.{Out}
-use Rattle.client_request.specs.declared.event.Out.TheVariants.{Reply}
-use Rattle.client_request.specs.declared.event.What.{What}
+use Rattle.client_request.specs.declared.event.{Event.Event, Out.Out, Out.TheVariants.Reply, What.What}
 use Rattle.right_trace.specs.Trace.{History, Conf, Came, Put, put_all, after}
 use Rattle.right_trace.specs.Time.{now, newest, row_before, Ever}
-use Rattle.right_trace.specs.Settings.{Settings}
+use Rattle.right_trace.specs.{Settings.Settings, Parts.IsIn, Errors.DirectCause}
 use Rattle.right_trace.specs.Requests.{Asking, asking}
-use Rattle.right_trace.specs.Parts.{IsIn}
 use Rattle.right_trace.specs.Keys.{Key, key_of, is_cacheable}
-use Rattle.right_trace.specs.Errors.{DirectCause}
 use Rattle.right_trace.specs.Right.{OutRight, OutsRight}
 use Rattle.right_trace.proofs.Asked.{asking_came}
 use Rattle.cache_rules.specs.Key.{same_key, same_itself, same_is_equal}

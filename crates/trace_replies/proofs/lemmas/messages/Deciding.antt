@@ -1,24 +1,18 @@
 -- What is found of a message is what the definitions say of it as a reply.
 use Rattle.std.proofs.Common.{◌≡◌, ℕ, ◌==◌, ◌&&◌, ◌||◌, not, Bool, true, false, ◌⊎◌, inl, inr, [], ◌∷◌, refl, sym, ap, ◌∙◌, subst, arith}
 use Rattle.std.proofs.lemmas.Bool.Decides.{nat_tests}
-use Rattle.client_request.specs.declared.event.Out.{Out}
+use Rattle.client_request.specs.declared.event.{Out.Out, What.What}
 use Rattle.client_request.specs.declared.event.Out.TheVariants.{Start, OpenDgram, OpenStream, Send, Write, Resume, Close, Stale, Reply}
-use Rattle.client_request.specs.declared.event.What.{What}
 use Rattle.right_trace.specs.Trace.{History, Conf, Came, Put}
 use Rattle.right_trace.specs.Time.{newest, row_before, Ever}
-use Rattle.right_trace.specs.Messages.{Octets}
-use Rattle.right_trace.specs.Settings.{Settings}
-use Rattle.right_trace.specs.Requests.{is_marked}
-use Rattle.right_trace.specs.Validity.{is_deferred}
-use Rattle.right_trace.specs.Coming.{CameFor}
+use Rattle.right_trace.specs.{Messages.Octets, Settings.Settings, Requests.is_marked, Validity.is_deferred, Coming.CameFor}
 use Rattle.right_trace.specs.Replies.{IsFresh, InThisRow, Deferred, IsFreshReply, OkIsRight, Fresh, View, IsView}
 use Rattle.right_trace.specs.Stale.{MessageIsRight, Unmarked, Marked}
 use Rattle.trace_tables.specs.declared.books.Books.{Books}
 use Rattle.trace_tables.specs.declared.frames.ledger.Ledger.{Ledger}
 use Rattle.trace_points.specs.exchanges.Open.{Open}
 use Rattle.trace_points.specs.questions.Outs.{Tells}
-use Rattle.trace_replies.specs.given.Coming.{TellsCame}
-use Rattle.trace_replies.specs.given.Earlier.{Table}
+use Rattle.trace_replies.specs.given.{Coming.TellsCame, Earlier.Table}
 use Rattle.trace_replies.specs.views.Serving.{IsSupplied, TellsView, TellsSupplied}
 use Rattle.trace_replies.specs.declared.messages.message.Told.{Told}
 use Rattle.trace_replies.specs.messages.Message.{IsLast, IsTold, IsJudged, TellsMessage, is_marked_seen}

@@ -7,11 +7,9 @@ use Rattle.client_request.specs.declared.error.Error.{Error}
 use Rattle.client_request.specs.declared.event.What.{What}
 use Rattle.right_trace.specs.Trace.{History, Conf}
 use Rattle.right_trace.specs.Time.{now, Ever}
-use Rattle.right_trace.specs.Settings.{Settings}
+use Rattle.right_trace.specs.{Settings.Settings, Parts.IsIn, Errors.is_deadline}
 use Rattle.right_trace.specs.Requests.{Asking, asking}
 use Rattle.right_trace.specs.Keys.{Covers, key_of, is_cacheable}
-use Rattle.right_trace.specs.Parts.{IsIn}
-use Rattle.right_trace.specs.Errors.{is_deadline}
 use Rattle.trace_tables.specs.declared.requests.Requests.{Requests}
 use Rattle.trace_tables.specs.Requests as requests
 use Rattle.trace_points.specs.questions.Outs.{Tells}
@@ -22,9 +20,8 @@ use Rattle.trace_replies.specs.given.Earlier.{Table, replies_to, IsGiven}
 use Rattle.trace_replies.specs.given.Earlier as earlier
 use Rattle.trace_replies.proofs.lemmas.given.Asking.{covers_so, so_covers}
 use Rattle.trace_replies.specs.views.Among.{Yes, No, TellsOne, TellsSome}
-use Rattle.trace_replies.specs.views.Serving.{asked_here_seen}
+use Rattle.trace_replies.specs.views.{Serving.asked_here_seen, Telling.same_error}
 use Rattle.trace_replies.specs.views.Errors.{GivesError, IsRecent, IsFound, TellsFound, TellsKept}
-use Rattle.trace_replies.specs.views.Telling.{same_error}
 use Rattle.trace_replies.proofs.lemmas.views.Among.{never, none_there}
 use Rattle.trace_replies.proofs.lemmas.views.Numbering.{errors_same, same_errors}
 use Rattle.trace_replies.proofs.lemmas.views.Finding.{same_asking, none_some, common_same, here_is}

@@ -7,11 +7,9 @@ use Rattle.client_request.specs.Request.{Request}
 use Rattle.client_request.specs.declared.event.What.{What}
 use Rattle.right_trace.specs.Trace.{History, Conf, Came, Put}
 use Rattle.right_trace.specs.Time.{now, newest, Ever}
-use Rattle.right_trace.specs.Messages.{Octets}
-use Rattle.right_trace.specs.Settings.{Settings}
+use Rattle.right_trace.specs.{Messages.Octets, Settings.Settings, Parts.IsIn}
 use Rattle.right_trace.specs.Requests.{Asking, asking, asks, is_ask, is_asked_here}
 use Rattle.right_trace.specs.Keys.{Key, KeysCover, Covers, Plain, key_of, is_cacheable}
-use Rattle.right_trace.specs.Parts.{IsIn}
 use Rattle.right_trace.specs.Validity.{is_above, validity_of_message}
 use Rattle.trace_tables.specs.declared.requests.Requests.{Requests}
 use Rattle.trace_tables.specs.Requests as requests

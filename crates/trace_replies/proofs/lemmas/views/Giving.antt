@@ -4,10 +4,8 @@ use Rattle.std.specs.Prelude.{Ok, is_ok, nat_lt}
 use Rattle.std.proofs.lemmas.Bool.Decides.{nat_tests}
 use Rattle.client_request.specs.Request.{Request}
 use Rattle.client_settings.specs.Settings.{CacheSettings}
-use Rattle.right_trace.specs.Messages.{Octets}
-use Rattle.right_trace.specs.Settings.{Settings}
+use Rattle.right_trace.specs.{Messages.Octets, Settings.Settings, Validity.validity_of_message}
 use Rattle.right_trace.specs.Keys.{key_of, spelled_name}
-use Rattle.right_trace.specs.Validity.{validity_of_message}
 use Rattle.right_trace.specs.Views.{viewed, view_validity}
 use Rattle.cache_rules.specs.Validity.{cached_by}
 use Rattle.message_judging.specs.declared.views.serving.Flags.{Flags}

@@ -1,8 +1,7 @@
 -- Errors are told apart by their numbers.
 use Rattle.std.proofs.Common.{◌≡◌, ℕ, zero, suc, ◌==◌, true, refl, sym, ap, ◌∙◌}
-use Rattle.client_request.specs.declared.error.Error.{Error}
+use Rattle.client_request.specs.declared.error.{Error.Error, QueryError.QueryError}
 use Rattle.client_request.specs.declared.error.Error.TheVariants as errors
-use Rattle.client_request.specs.declared.error.QueryError.{QueryError}
 use Rattle.client_request.specs.declared.error.QueryError.TheVariants as query
 use Rattle.client_request.specs.declared.fault.Fault.{Fault}
 use Rattle.client_request.specs.declared.fault.Fault.TheVariants as fault

@@ -1,7 +1,6 @@
 -- the rows that are left give what all give
 use Rattle.std.proofs.Common.{◌≡◌, drop}
-use Rattle.trace_hits.specs.timely.Waiting.{nothing}
-use Rattle.trace_hits.specs.timely.Timely.{first_late}
+use Rattle.trace_hits.specs.timely.{Waiting.nothing, Timely.first_late}
 use Rattle.trace_hits.proofs.timely.untimely.find.Given as goal
 
 abbrev pub invariant-loop-i : goal.invariant-loop-i

@@ -1,6 +1,5 @@
 use Rattle.std.proofs.Common.{refl}
-use Rattle.trace_judge.proofs.Ending.{all_busy}
-use Rattle.trace_judge.proofs.Telling.{if_ok}
+use Rattle.trace_judge.proofs.{Ending.all_busy, Telling.if_ok}
 use Rattle.trace_judge.proofs.course.Course.all_busy.Goals as goal
 
 pub returns : goal.returns

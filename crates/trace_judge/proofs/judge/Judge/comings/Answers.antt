@@ -1,5 +1,4 @@
-use Rattle.trace_judge.proofs.Judging.{found}
-use Rattle.trace_judge.proofs.Telling.{if_ok}
+use Rattle.trace_judge.proofs.{Judging.found, Telling.if_ok}
 use Rattle.trace_judge.proofs.judge.Judge.comings.Goals as goal
 
 pub returns : goal.returns

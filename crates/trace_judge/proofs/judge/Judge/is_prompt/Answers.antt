@@ -1,5 +1,4 @@
-use Rattle.trace_judge.proofs.Judging.{prompt}
-use Rattle.trace_judge.proofs.Telling.{if_ok}
+use Rattle.trace_judge.proofs.{Judging.prompt, Telling.if_ok}
 use Rattle.trace_judge.proofs.judge.Judge.is_prompt.Goals as goal
 
 pub returns : goal.returns

@@ -1,5 +1,4 @@
-use Rattle.trace_judge.proofs.Judging.{same_event}
-use Rattle.trace_judge.proofs.Telling.{if_ok}
+use Rattle.trace_judge.proofs.{Judging.same_event, Telling.if_ok}
 use Rattle.trace_judge.proofs.judge.Judge.judge_row.Goals as goal
 
 pub returns : goal.returns

@@ -1,8 +1,7 @@
 use Rattle.std.proofs.Common.{refl, sym, subst}
 use Rattle.trace_judge.specs.declared.judge.Judge.{Judge}
 use Rattle.trace_judge.specs.Judge.{TellsComing}
-use Rattle.trace_judge.proofs.Judging.{runs_of}
-use Rattle.trace_judge.proofs.Telling.{ok_then}
+use Rattle.trace_judge.proofs.{Judging.runs_of, Telling.ok_then}
 use Rattle.trace_judge.proofs.judge.Judge.run.Goals as goal
 
 pub returns : goal.returns

@@ -1,6 +1,5 @@
 use Rattle.std.proofs.Common.{ap, ◌∙◌, cond}
-use Rattle.std.specs.Prelude.{Some}
-use Rattle.std.specs.Map.{lookup}
+use Rattle.std.specs.{Prelude.Some, Map.lookup}
 use Rattle.cache_rules.specs.Key.{same_key}
 use Rattle.trace_replies.proofs.lemmas.given.Keeping.{put_back}
 use Rattle.trace_replies.proofs.given.earlier.add.Goals as goal

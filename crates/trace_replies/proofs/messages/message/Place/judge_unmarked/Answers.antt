@@ -1,6 +1,5 @@
 use Rattle.std.proofs.Common.{sym, subst, ap, ◌∙◌}
-use Rattle.right_trace.specs.Settings.{Settings}
-use Rattle.right_trace.specs.Validity.{is_deferred}
+use Rattle.right_trace.specs.{Settings.Settings, Validity.is_deferred}
 use Rattle.trace_replies.specs.messages.Message.{TellsMessage}
 use Rattle.trace_replies.proofs.lemmas.messages.Deciding.{tells_deferred}
 use Rattle.trace_replies.proofs.messages.message.Place.judge_unmarked.Goals as goal
