@@ -7,8 +7,9 @@ connection by stream with 100 in flight all the time, which are answered in any 
 again, and what is kept of the first answer is the reply at once. The replay of 100,000 events and of
 200,000 is timed, and the ratio of the two told. With a folder that holds the package `plain`, the reference client replays
 the 100,000 events too, and that ratio is told. All run in turn, five times; the least time of each counts. Before that the
-replies are counted, so that nothing else is timed. Then the same is done with one server and with ten among which each
-request chooses; more than twice the time of one server is too long, and ends with status 1.
+replies are counted, so that nothing else is timed. Then the same is done with one server and with fifty among which each
+request chooses; more than 1.2 times the time of one server is too long, and ends with status 1. So it is with datagrams
+that answer nothing, at one place, among a thousand servers; and a request that each of 4,000 servers refuses may take 0.1 s.
 
 Then 1,000, 10,000 and 100,000 requests wait at once, in three scripts: all are asked and one tick comes past their
 deadline; all are asked and each is answered; all are asked and as many ticks come. How many times as long ten times
@@ -27,8 +28,11 @@ QUESTION = "0000010001"
 FOR_A_DAY = "000001000100015180" + "0004c0000201"
 WAITING = (1_000, 10_000, 100_000)
 MOST = 14
-SERVERS = 10
-MOST_FOR_SERVERS = 2
+SERVERS = 50
+MANY_SERVERS = 1_000
+MOST_FOR_SERVERS = 1.2
+REFUSING = 4_000
+MOST_FOR_REFUSING = 0.1
 PAST_THE_DEADLINE = 100_000_000
 
 
@@ -45,7 +49,7 @@ def answer(moment, place):
 
 
 def text_of(lines, conf=(), servers=1):
-    named = ["conf nameserver 192.0.2.%d" % (53 + server) for server in range(servers)]
+    named = ["conf nameserver 10.%d.%d.53" % divmod(server, 256) for server in range(servers)]
     return "\n".join([*named, *conf] + lines) + "\n"
 
 
@@ -78,6 +82,19 @@ def among_servers(events, servers):
         lines += [answer(moment, place) for place in reversed(places)]
         first += AT_A_TIME
     return text_of(lines[:events], servers=servers)
+
+
+def wrong_datagrams(events, servers):
+    """Each comes at the place of the one request, under an id that it doesn't have."""
+    lines = [ask(0), opened(0, 0)]
+    lines += ["at 0 datagram 0 ffff81800001000000000000%s" % QUESTION] * (events - len(lines) - 1)
+    return text_of(lines + [answer(0, 0)], servers=servers)
+
+
+def refused(servers):
+    """Each server refuses in turn to open a place for the one request."""
+    lines = [ask(0)] + ["at 0 open-failed %d refused" % place for place in range(servers)]
+    return text_of(lines, ["set defer-transport-error on"], servers)
 
 
 class Ids:
@@ -194,10 +211,19 @@ def time_events(program, room, name, script, answered=(b" datagram ", b" bytes "
 
 
 def time_servers(program, room):
-    one, many = (time_events(program, room, "servers: %d" % servers, lambda events: among_servers(events, servers))
-                 for servers in (1, SERVERS))
-    print("%d servers take %.2f times as long as one" % (SERVERS, many / one))
-    return many / one
+    worst = 0
+    for name, script, servers in (("servers", among_servers, SERVERS), ("wrong datagrams", wrong_datagrams, MANY_SERVERS)):
+        one, many = (time_events(program, room, "%s: %d" % (name, count), lambda events: script(events, count)) for count in (1, servers))
+        print("%d servers take %.2f times as long as one" % (servers, many / one))
+        worst = max(worst, many / one)
+    return worst
+
+
+def time_refusing(program, room):
+    write(room + "/refused", refused(REFUSING))
+    took = min(seconds(program, room + "/refused") for _ in range(RUNS))
+    print("a request that %d servers refuse takes %.3f s" % (REFUSING, took))
+    return took
 
 
 def time_waiting(program, room):
@@ -224,7 +250,9 @@ def main():
         time_events(program, room, "by stream", by_stream)
         time_events(program, room, "from the cache", from_cache, [b" ask "])
         if time_servers(program, room) > MOST_FOR_SERVERS:
-            sys.exit("%d servers take more than %d times as long as one" % (SERVERS, MOST_FOR_SERVERS))
+            sys.exit("many servers take more than %.1f times as long as one" % MOST_FOR_SERVERS)
+        if time_refusing(program, room) > MOST_FOR_REFUSING:
+            sys.exit("a request that %d servers refuse takes more than %.1f s" % (REFUSING, MOST_FOR_REFUSING))
         if time_waiting(program, room) > MOST:
             sys.exit("ten times as many requests take more than %d times as long" % MOST)
 

@@ -2,11 +2,13 @@ pub mod Absent
 pub mod At
 pub mod Failing
 pub mod Hearing
+pub mod Holding
 pub mod Keeping
+pub mod Known
+pub mod Ordered
+pub mod Placing
 pub mod RootLemmas
 pub mod Saying
 pub mod Sorting
 pub mod StatsLaws
 pub mod Surveying
-pub mod Ordered
-pub mod Placing

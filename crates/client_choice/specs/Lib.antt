@@ -4,6 +4,7 @@ pub mod Bursts
 pub mod Calls
 pub mod Candidates
 pub mod Choice
+pub mod Places
 pub mod Redundant
 pub mod Roots
 pub mod ServeFail

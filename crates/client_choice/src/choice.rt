@@ -1,15 +1,17 @@
 //! The requests of a choice: which server is started when, and whose result is given.
 
-ghost use Rattle.std.specs.Prelude.{◌≡◌, ◌+◌, ◌<◌, OnOk, OnErr, Some};
+ghost use Rattle.std.specs.Prelude.{◌≡◌, ◌+◌, ◌<◌, OnOk, OnErr, Some, true};
 ghost use Rattle.client_request.specs.Calls.{Follows};
 ghost use Rattle.client_request.specs.Cx.{view_of, LendsTheSame};
 ghost use Rattle.client_choice.specs.Calls.{HoldsServers};
 ghost use Rattle.client_choice.specs.Choice as plain;
+ghost use Rattle.client_choice.specs.Places.{IsUnused};
 ghost use Rattle.client_choice.specs.Servers as of_servers;
 
 use crate::job::{ChoiceJob, Started};
-use crate::servers::{Server, give_up_at, judge_at, take_owner};
-use client_request::{Board, ComposeRequest, Cx, Error, Part, SendRequest, TimerId, Words};
+use crate::server_list::{Servers, give_up_at, judge_at, take_owner};
+use crate::sharing::SharesPlaces;
+use client_request::{Board, ComposeRequest, Cx, Error, Part, TimerId, Words};
 use client_settings::redundant::Config;
 use dns_base::{NoMemory, OptRcode};
 use number_table::NumberTable;
@@ -23,16 +25,16 @@ const REFUSED: OptRcode = OptRcode(5);
 const SERVFAIL: OptRcode = OptRcode(2);
 
 /// The servers; the requests by ticket, and the ticket of each timer that starts the next server.
-pub struct Choice<Req, U: SendRequest<Req>> {
+pub struct Choice<Req, U: SharesPlaces<Req>> {
     pub(crate) alloc: Global,
-    pub(crate) servers: Vec<Server<U>>,
+    pub(crate) servers: Servers<Req, U>,
     pub(crate) jobs: NumberTable<ChoiceJob<Req, U::Response>>,
     pub(crate) timers: NumberTable<u64>,
     /// Takes what a server posted while it is settled, and is kept only for its memory.
     pub(crate) board: Board,
 }
 
-impl<Req: Drop, U: SendRequest<Req> + Drop> Drop for Choice<Req, U> {
+impl<Req: Drop, U: SharesPlaces<Req> + Drop> Drop for Choice<Req, U> {
     fn drop(self) {
         let Choice {
             alloc: _,
@@ -44,22 +46,22 @@ impl<Req: Drop, U: SendRequest<Req> + Drop> Drop for Choice<Req, U> {
     }
 }
 
-impl<Req, U: SendRequest<Req>> Model for Choice<Req, U> {
+impl<Req, U: SharesPlaces<Req>> Model for Choice<Req, U> {
     ghost use Rattle.client_choice.specs.Choice.{Choice};
 
     ghost Value = { Choice Req U U.Response };
 
-    ghost view = { λ c. record { servers = c.servers.items; jobs = c.jobs; timers = c.timers } };
+    ghost view = { λ c. record { servers = c.servers; jobs = c.jobs; timers = c.timers } };
 }
 
-impl<Req, U: SendRequest<Req>> Choice<Req, U> {
+impl<Req, U: SharesPlaces<Req>> Choice<Req, U> {
     /// A choice without servers. It takes no memory.
     pub(crate) fn new(alloc: Global) -> Choice<Req, U>
         ensures { result ≡ plain.empty }
     {
         Choice {
             alloc,
-            servers: Vec::new(alloc),
+            servers: Servers::new(alloc),
             jobs: NumberTable::new(alloc),
             timers: NumberTable::new(alloc),
             board: Board::new(alloc),
@@ -67,15 +69,14 @@ impl<Req, U: SendRequest<Req>> Choice<Req, U> {
     }
 }
 
-impl<Req, U: SendRequest<Req> + Drop> Choice<Req, U> {
-    /// Adds a server behind the others. After want of memory none was added.
-    pub(crate) fn add(&mut self, upstream: U) -> Result<(), NoMemory>
+impl<Req, U: SharesPlaces<Req> + Drop> Choice<Req, U> {
+    /// Adds a server behind the others, which may be known to have no place. After want of memory none was added.
+    pub(crate) fn add(&mut self, upstream: U, is_unused: bool) -> Result<(), NoMemory>
+        requires { is_unused ≡ true → IsUnused U.has upstream }
         ensures ok { OnOk result (self.new ≡ plain.with_server upstream self.old) }
         ensures err { OnErr result (self.new ≡ self.old) }
     {
-        let server = Server::new(self.alloc, upstream);
-        self.servers.push(server)?;
-        Ok(())
+        self.servers.add(self.alloc, upstream, is_unused)
     }
 }
 
@@ -131,8 +132,13 @@ pub(crate) fn disarm<W: Words>(
 }
 
 /// Each server that was started is judged, in order.
-fn judge_each<U, P>(servers: &mut Vec<Server<U>>, started: &[Started<P>], giver: usize, now: u64)
-    ensures { servers.new.items ≡ plain.judges_each giver now started.now servers.old.items }
+fn judge_each<Req, U: SharesPlaces<Req>, P>(
+    servers: &mut Servers<Req, U>,
+    started: &[Started<P>],
+    giver: usize,
+    now: u64,
+)
+    ensures { servers.new ≡ plain.judges_each giver now started.now servers.old }
 {
     for s in started {
         judge_at(
@@ -146,7 +152,7 @@ fn judge_each<U, P>(servers: &mut Vec<Server<U>>, started: &[Started<P>], giver:
 
 /// Each server that was started is judged: the one that gave the result, and those that were waited for.
 #[tactic(auto, using(crate::proofs::Keeping::kept_each))]
-pub(crate) fn judge_all<Req: ComposeRequest, U: SendRequest<Req>>(
+pub(crate) fn judge_all<Req: ComposeRequest, U: SharesPlaces<Req>>(
     choice: &mut Choice<Req, U>,
     job: &ChoiceJob<Req, U::Response>,
     giver: usize,
@@ -160,7 +166,7 @@ pub(crate) fn judge_all<Req: ComposeRequest, U: SendRequest<Req>>(
 
 /// The ticket of the request that waits under a ticket at a server, and waits there no more.
 #[tactic(auto, using(crate::proofs::Keeping::kept_disowned))]
-pub(crate) fn disown<Req: ComposeRequest, U: SendRequest<Req>>(
+pub(crate) fn disown<Req: ComposeRequest, U: SharesPlaces<Req>>(
     choice: &mut Choice<Req, U>,
     server: usize,
     lower: u64,
@@ -173,12 +179,12 @@ pub(crate) fn disown<Req: ComposeRequest, U: SendRequest<Req>>(
 }
 
 /// A server gives a request up, if it gave no result yet.
-fn give_up_one<Req: ComposeRequest, U: SendRequest<Req>, W: Words>(
-    servers: &mut Vec<Server<U>>,
+fn give_up_one<Req: ComposeRequest, U: SharesPlaces<Req>, W: Words>(
+    servers: &mut Servers<Req, U>,
     cx: &mut Cx<'_, W>,
     started: Started<U::Response>,
 ) -> Result<(), Error>
-    ensures holds { HoldsServers U.holds_failed W.stream cx.old cx.new result (λ s v. plain.drops_response U.transport started s v started.response) servers.old.items servers.new.items }
+    ensures holds { HoldsServers U.holds_failed W.stream cx.old cx.new result (λ s v. plain.drops_response U.transport started s v started.response) servers.old servers.new }
 {
     let Started {
         server,
@@ -193,12 +199,12 @@ fn give_up_one<Req: ComposeRequest, U: SendRequest<Req>, W: Words>(
 }
 
 /// Each server that gave no result yet gives a request up, in order.
-pub(crate) fn give_up_all<Req: ComposeRequest, U: SendRequest<Req>, W: Words>(
-    servers: &mut Vec<Server<U>>,
+pub(crate) fn give_up_all<Req: ComposeRequest, U: SharesPlaces<Req>, W: Words>(
+    servers: &mut Servers<Req, U>,
     cx: &mut Cx<'_, W>,
     started: Vec<Started<U::Response>>,
 ) -> Result<(), Error>
-    ensures holds { HoldsServers U.holds_failed W.stream cx.old cx.new result (plain.drops_each U.transport started.items) servers.old.items servers.new.items }
+    ensures holds { HoldsServers U.holds_failed W.stream cx.old cx.new result (plain.drops_each U.transport started.items) servers.old servers.new }
 {
     for s in started {
         give_up_one(servers, cx, s)?;

@@ -30,12 +30,12 @@ fn in_order_added<U>(alloc: Global, servers: &[Server<U>]) -> Result<Vec<ListedS
 pub(crate) fn by_estimate<U>(
     alloc: Global,
     servers: &[Server<U>],
-) -> Result<VecDeque<ListedServer>, NoMemory>
-    ensures { IfOk result (λ entries. entries.items ≡ plain.by_estimate servers.now) }
+) -> Result<Vec<ListedServer>, NoMemory>
+    ensures { IfOk result (λ list. list.items ≡ plain.by_estimate servers.now) }
 {
     let mut list = in_order_added(alloc, servers)?;
     list.sort_by_key(|listed| listed.estimate)?;
-    Ok(VecDeque::from(list))
+    Ok(list)
 }
 
 /// The entry behind the first that a word says, of `count`.

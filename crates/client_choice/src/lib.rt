@@ -9,9 +9,10 @@
 //!
 //! It is a transport over any other one, of which it knows nothing but that.
 //!
-//! A choice is over any transport, bound by `SendRequest` alone, and proved from that bound. It has two parts: its servers
-//! (`crates/client_choice/specs/Servers.antt`) and its requests (`Choice.antt`); in which order a request is started at the
-//! servers is said above them.
+//! A choice is over any transport, bound by `SharesPlaces` alone, and proved from that bound: a `SendRequest` with laws that
+//! say which places it has, that what happens at others is nothing to it, and that it draws those that it comes to have. It
+//! has two parts: its servers (`crates/client_choice/specs/Servers.antt`) and its requests (`Choice.antt`); in which order a
+//! request is started at the servers is said above them.
 //!
 //! - A server is its transport, how long it took (`Stats`), how many requests were started there, the request of each
 //!   ticket there, and a board of its own. A call of one server leaves the others as they are (`starts_at`, `hears_at`,
@@ -28,6 +29,9 @@
 //!   were put off (`is_over`) no estimate changes, and neither does one where the request is given up from above.
 //! - A server's result is found by its ticket there, a timer by its number: no call walks the requests. Each signal but
 //!   that of such a timer is heard by each server, and what one posted is settled before the next one hears (`hears_all`).
+//!   What happens at a place is told to the server that drew it alone: it is nothing to the others (`first_concerned`). The
+//!   servers of so many places are known (`Holders`); one that is older is told to each server, and so is a timer of one.
+//!   Which server a place is of is known as long as each was added by `add_unused`, and none posted for other requests.
 //! - What a server posts under a ticket of no request that waits there is handed on as it is: so a request of `send_on`
 //!   gets its result, which counts in no estimate.
 //! - A function that hands on to the servers owes one clause, as `Holds` has it over the flag of each server
@@ -78,17 +82,23 @@
 mod candidates;
 mod choice;
 mod entries;
+mod holders;
 mod job;
 pub mod load_balancer;
 pub mod redundant;
+mod server_list;
 mod servers;
 mod servfail;
+mod sharing;
 mod stats;
 mod steps;
 
 pub use candidates::Candidate;
 pub use choice::Choice;
+pub use holders::Holders;
 pub use job::{ChoiceJob, ListedServer, Started};
+pub use server_list::Servers;
 pub use servers::{Reply, Server};
 pub use servfail::serve_fail;
+pub use sharing::SharesPlaces;
 pub use stats::{Stats, stats_law};

@@ -17,13 +17,15 @@ ghost use Rattle.client_request.specs.Response.{IsRefusal};
 ghost use Rattle.client_settings.specs.Settings.{default_redundant};
 ghost use Rattle.client_choice.specs.Calls.{GivesChoice, HoldsChoice};
 ghost use Rattle.client_choice.specs.Choice as requests;
+ghost use Rattle.client_choice.specs.Places.{IsUnused};
 ghost use Rattle.client_choice.specs.Redundant as plain;
 ghost use Rattle.client_choice.specs.Servers as of_servers;
 
 use crate::choice::Choice;
-use crate::entries::{by_estimate, probe, promote};
+use crate::entries::{probe, promote};
 use crate::job::ListedServer;
-use crate::servers::send_at;
+use crate::server_list::{listed, send_at};
+use crate::sharing::SharesPlaces;
 use crate::steps::{give_up, hear, start_job};
 pub use client_request::Pending as Request;
 use client_request::{
@@ -39,13 +41,13 @@ use std::marker::Model;
 const FIRST_IDENTIFIER: u64 = 10;
 
 /// Several servers, of which the one that is expected to answer first is asked first.
-pub struct Connection<Req, U: SendRequest<Req>> {
+pub struct Connection<Req, U: SharesPlaces<Req>> {
     config: Config,
     choice: Choice<Req, U>,
     failed: Latch,
 }
 
-impl<Req: Drop, U: SendRequest<Req> + Drop> Drop for Connection<Req, U> {
+impl<Req: Drop, U: SharesPlaces<Req> + Drop> Drop for Connection<Req, U> {
     fn drop(self) {
         let Connection {
             config: _,
@@ -58,7 +60,7 @@ impl<Req: Drop, U: SendRequest<Req> + Drop> Drop for Connection<Req, U> {
 /// The same: a connection is a transport.
 pub type Transport<Req, U> = Connection<Req, U>;
 
-impl<Req, U: SendRequest<Req>> Model for Connection<Req, U> {
+impl<Req, U: SharesPlaces<Req>> Model for Connection<Req, U> {
     ghost use Rattle.client_choice.specs.Redundant.{Redundant};
 
     ghost Value = { Redundant Req U U.Response };
@@ -66,7 +68,7 @@ impl<Req, U: SendRequest<Req>> Model for Connection<Req, U> {
     ghost view = { λ c. record { settings = c.config; choice = c.choice; failed = c.failed } };
 }
 
-impl<Req, U: SendRequest<Req>> Connection<Req, U> {
+impl<Req, U: SharesPlaces<Req>> Connection<Req, U> {
     /// A choice without servers, with the default settings: no result is put off. It takes no memory.
     pub fn new(alloc: Global) -> Connection<Req, U>
         ensures { result ≡ plain.started default_redundant }
@@ -97,7 +99,7 @@ fn index_of(id: u64) -> Option<usize>
 }
 
 /// Sends a request to the server of an identifier, past the choice, if there is one.
-pub(crate) fn send_past<Req: ComposeRequest, U: SendRequest<Req>, W: Words>(
+pub(crate) fn send_past<Req: ComposeRequest, U: SharesPlaces<Req>, W: Words>(
     choice: &mut Choice<Req, U>,
     cx: &mut Cx<'_, W>,
     id: u64,
@@ -133,7 +135,7 @@ fn draw_probe<W: Words>(
 }
 
 /// Takes a request on, with the servers in order. Where there is none, it gets that error.
-fn start_listed<Req: ComposeRequest, U: SendRequest<Req>, W: Words>(
+fn start_listed<Req: ComposeRequest, U: SharesPlaces<Req>, W: Words>(
     choice: &mut Choice<Req, U>,
     config: &Config,
     cx: &mut Cx<'_, W>,
@@ -153,7 +155,7 @@ fn start_listed<Req: ComposeRequest, U: SendRequest<Req>, W: Words>(
 }
 
 /// Takes a request on.
-fn take_on<Req: ComposeRequest, U: SendRequest<Req>, W: Words>(
+fn take_on<Req: ComposeRequest, U: SharesPlaces<Req>, W: Words>(
     choice: &mut Choice<Req, U>,
     config: &Config,
     cx: &mut Cx<'_, W>,
@@ -163,12 +165,12 @@ fn take_on<Req: ComposeRequest, U: SendRequest<Req>, W: Words>(
     ensures ticket { IfOk result (λ ticket. ticket ≡ cx.old.ticket) }
 {
     let ticket = cx.draw_ticket()?;
-    let entries = by_estimate(choice.alloc, &choice.servers)?;
+    let entries = listed(&mut choice.servers, choice.alloc)?;
     start_listed(choice, config, cx, ticket, entries, request)?;
     Ok(ticket)
 }
 
-impl<Req: ComposeRequest, U: SendRequest<Req> + Drop> Connection<Req, U> {
+impl<Req: ComposeRequest, U: SharesPlaces<Req> + Drop> Connection<Req, U> {
     /// Adds a server behind the others, whose identifier is one more than that of the last: the first
     /// has 10. It is asked from the next request on. `Failed` comes where an earlier call found no memory
     /// or no number; after `NoMemory` each later call answers `Failed`.
@@ -178,7 +180,23 @@ impl<Req: ComposeRequest, U: SendRequest<Req> + Drop> Connection<Req, U> {
         ensures err { OnErr result (self.new ≡ record self.old { failed = true }) }
     {
         self.failed.check()?;
-        if self.choice.add(conn).is_err() {
+        if self.choice.add(conn, false).is_err() {
+            self.failed.set();
+            return Err(Error::NoMemory);
+        }
+        Ok(())
+    }
+
+    /// The same of a server that has no place: what happens at a place is told to the server that has it, as long as each
+    /// server was added so.
+    pub fn add_unused(&mut self, conn: U) -> Result<(), Error>
+        requires { IsUnused U.has conn }
+        ensures ok { OnOk result (self.new ≡ record self.old { choice = requests.with_server conn self.old.choice }) }
+        ensures refused { IfErr result (λ e. e ≡ (if self.old.failed then Error.Failed else Error.NoMemory)) }
+        ensures err { OnErr result (self.new ≡ record self.old { failed = true }) }
+    {
+        self.failed.check()?;
+        if self.choice.add(conn, true).is_err() {
             self.failed.set();
             return Err(Error::NoMemory);
         }
@@ -186,7 +204,7 @@ impl<Req: ComposeRequest, U: SendRequest<Req> + Drop> Connection<Req, U> {
     }
 }
 
-impl<Req: ComposeRequest, U: SendRequest<Req>> Connection<Req, U> {
+impl<Req: ComposeRequest, U: SharesPlaces<Req>> Connection<Req, U> {
     /// Sends a request to the server of an identifier, past the choice: its result stands on the board under
     /// the response's ticket, and counts in no estimate. `RedundantTransportNotFound` comes exactly where
     /// no server was added under the identifier; then nothing is changed. `Failed` comes where an earlier
@@ -218,7 +236,7 @@ impl<Req: ComposeRequest, U: SendRequest<Req>> Connection<Req, U> {
     }
 }
 
-impl<Req: ComposeRequest, U: SendRequest<Req>> SendRequest<Req> for Connection<Req, U> {
+impl<Req: ComposeRequest, U: SharesPlaces<Req>> SendRequest<Req> for Connection<Req, U> {
     type Response = Pending;
 
     ghost has_failed = { λ c. c.failed };

@@ -1,16 +1,18 @@
 //! The servers of a choice.
 
-ghost use Rattle.std.specs.Prelude.{◌≡◌, ◌<◌, length, false, IfOk, [], Some, None, Ok, is_some, nat_lt};
+ghost use Rattle.std.specs.Prelude.{◌≡◌, ◌<◌, length, true, false, IfOk, [], Some, None, Ok, is_some, nat_lt};
 ghost use Rattle.client_request.specs.Calls.{Holds};
 ghost use Rattle.client_request.specs.Cx.{view_of, heard};
 ghost use Rattle.client_choice.specs.Calls.{Gives, GivesServers, HoldsServers};
+ghost use Rattle.client_choice.specs.Places.{IsQuiet};
 ghost use Rattle.client_choice.specs.Servers as plain;
 ghost use Rattle.client_choice.specs.Stats as estimates;
 
+use crate::sharing::SharesPlaces;
 use crate::stats::Stats;
 use client_request::{
-    Board, ComposeRequest, Cx, Error, GetResponse, Part, SendRequest, Signal, Words, cancel_below,
-    send_below, step_below,
+    Board, ComposeRequest, Cx, Error, GetResponse, Part, Signal, Words, cancel_below, send_below,
+    step_below,
 };
 use number_table::NumberTable;
 use std::alloc::Global;
@@ -81,7 +83,7 @@ impl<U> Server<U> {
 }
 
 /// Starts a request, the one of `ticket`, at a server.
-fn start<Req: ComposeRequest, U: SendRequest<Req>, W: Words>(
+fn start<Req: ComposeRequest, U: SharesPlaces<Req>, W: Words>(
     server: &mut Server<U>,
     cx: &mut Cx<'_, W>,
     ticket: u64,
@@ -102,7 +104,7 @@ fn start<Req: ComposeRequest, U: SendRequest<Req>, W: Words>(
 }
 
 /// Sends a request to a server past the choice: its result comes under its ticket there.
-fn send<Req: ComposeRequest, U: SendRequest<Req>, W: Words>(
+fn send<Req: ComposeRequest, U: SharesPlaces<Req>, W: Words>(
     server: &mut Server<U>,
     cx: &mut Cx<'_, W>,
     request: Req,
@@ -118,7 +120,7 @@ fn send<Req: ComposeRequest, U: SendRequest<Req>, W: Words>(
 }
 
 /// A server hears a signal. What it posted is taken to `board`.
-fn hear<Req: ComposeRequest, U: SendRequest<Req>, W: Words>(
+fn hear<Req: ComposeRequest, U: SharesPlaces<Req>, W: Words>(
     server: &mut Server<U>,
     board: &mut Board,
     cx: &mut Cx<'_, W>,
@@ -133,7 +135,7 @@ fn hear<Req: ComposeRequest, U: SendRequest<Req>, W: Words>(
 }
 
 /// Gives a request up at a server.
-fn give_up<Req: ComposeRequest, U: SendRequest<Req>, W: Words>(
+fn give_up<Req: ComposeRequest, U: SharesPlaces<Req>, W: Words>(
     server: &mut Server<U>,
     cx: &mut Cx<'_, W>,
     lower: u64,
@@ -146,7 +148,7 @@ fn give_up<Req: ComposeRequest, U: SendRequest<Req>, W: Words>(
 }
 
 /// Starts a request at the server of an index, if there is one. The others stay as they are.
-pub(crate) fn start_at<Req: ComposeRequest, U: SendRequest<Req>, W: Words>(
+pub(crate) fn start_in<Req: ComposeRequest, U: SharesPlaces<Req>, W: Words>(
     servers: &mut Vec<Server<U>>,
     index: usize,
     cx: &mut Cx<'_, W>,
@@ -163,7 +165,7 @@ pub(crate) fn start_at<Req: ComposeRequest, U: SendRequest<Req>, W: Words>(
 }
 
 /// Sends a request to the server of an index past the choice, if there is one.
-pub(crate) fn send_at<Req: ComposeRequest, U: SendRequest<Req>, W: Words>(
+pub(crate) fn send_in<Req: ComposeRequest, U: SharesPlaces<Req>, W: Words>(
     servers: &mut Vec<Server<U>>,
     index: usize,
     cx: &mut Cx<'_, W>,
@@ -183,7 +185,7 @@ pub(crate) fn send_at<Req: ComposeRequest, U: SendRequest<Req>, W: Words>(
 }
 
 /// The server of an index hears a signal. What it posted is taken to `board`.
-pub(crate) fn hear_at<Req: ComposeRequest, U: SendRequest<Req>, W: Words>(
+pub(crate) fn hear_in<Req: ComposeRequest, U: SharesPlaces<Req>, W: Words>(
     servers: &mut Vec<Server<U>>,
     index: usize,
     board: &mut Board,
@@ -200,7 +202,7 @@ pub(crate) fn hear_at<Req: ComposeRequest, U: SendRequest<Req>, W: Words>(
 }
 
 /// Gives a request up at the server of an index.
-pub(crate) fn give_up_at<Req: ComposeRequest, U: SendRequest<Req>, W: Words>(
+pub(crate) fn give_up_in<Req: ComposeRequest, U: SharesPlaces<Req>, W: Words>(
     servers: &mut Vec<Server<U>>,
     index: usize,
     cx: &mut Cx<'_, W>,
@@ -216,7 +218,7 @@ pub(crate) fn give_up_at<Req: ComposeRequest, U: SendRequest<Req>, W: Words>(
 }
 
 /// The server of an index answered, or was waited for while another one did.
-pub(crate) fn judge_at<U>(servers: &mut Vec<Server<U>>, index: usize, is_giver: bool, elapsed: u64)
+pub(crate) fn judge_in<U>(servers: &mut Vec<Server<U>>, index: usize, is_giver: bool, elapsed: u64)
     ensures value { servers.new.items ≡ plain.judges index is_giver elapsed servers.old.items }
 {
     let Some(server) = servers.get_mut(index) else {
@@ -226,10 +228,20 @@ pub(crate) fn judge_at<U>(servers: &mut Vec<Server<U>>, index: usize, is_giver: 
 }
 
 /// The ticket of the request that waits under a ticket at the server of an index, and waits there no more.
-pub(crate) fn take_owner<U>(servers: &mut Vec<Server<U>>, index: usize, lower: u64) -> Option<u64>
+pub(crate) fn take_in<U>(servers: &mut Vec<Server<U>>, index: usize, lower: u64) -> Option<u64>
     ensures value { result ≡ plain.owner index lower servers.old.items }
     ensures after { servers.new.items ≡ plain.disowned index lower servers.old.items }
 {
     let server = servers.get_mut(index)?;
     server.waiting.remove(lower)
+}
+
+/// Whether nothing stands on the board of the server of an index.
+pub(crate) fn is_quiet<U>(servers: &[Server<U>], index: usize) -> bool
+    ensures { result ≡ true → IsQuiet index servers.now }
+{
+    match servers.get(index) {
+        None => true,
+        Some(server) => server.posted.len() == 0,
+    }
 }

@@ -8,17 +8,16 @@ ghost use Rattle.client_choice.specs.Servers as of_servers;
 
 use crate::choice::{Choice, arm, disarm, disown, give_up_all, is_deferred, judge_all};
 use crate::job::{ChoiceJob, ListedServer, parted};
-use crate::servers::{hear_at, start_at};
-use client_request::{
-    Board, ComposeRequest, Cx, Error, Part, Posted, SendRequest, Signal, TimerId, Words,
-};
+use crate::server_list::{hear_at, start_at};
+use crate::sharing::SharesPlaces;
+use client_request::{Board, ComposeRequest, Cx, Error, Part, Posted, Signal, TimerId, Words};
 use client_settings::redundant::Config;
 use dns_base::NoMemory;
 use std::collections::VecDeque;
 use std::mem;
 
 /// Starts a request at a server. When the estimate of that one has passed, the next one is started.
-fn start_server<Req: ComposeRequest, U: SendRequest<Req>, W: Words>(
+fn start_server<Req: ComposeRequest, U: SharesPlaces<Req>, W: Words>(
     choice: &mut Choice<Req, U>,
     cx: &mut Cx<'_, W>,
     ticket: u64,
@@ -40,7 +39,7 @@ fn start_server<Req: ComposeRequest, U: SendRequest<Req>, W: Words>(
 }
 
 /// Keeps a request that waits.
-fn keep_job<Req: ComposeRequest, U: SendRequest<Req>>(
+fn keep_job<Req: ComposeRequest, U: SharesPlaces<Req>>(
     choice: &mut Choice<Req, U>,
     ticket: u64,
     job: ChoiceJob<Req, U::Response>,
@@ -52,7 +51,7 @@ fn keep_job<Req: ComposeRequest, U: SendRequest<Req>>(
 }
 
 /// A server gave the result of a request: each that was started is judged, and the others give it up.
-fn give_result<Req: ComposeRequest, U: SendRequest<Req>, W: Words>(
+fn give_result<Req: ComposeRequest, U: SharesPlaces<Req>, W: Words>(
     choice: &mut Choice<Req, U>,
     cx: &mut Cx<'_, W>,
     ticket: u64,
@@ -69,7 +68,7 @@ fn give_result<Req: ComposeRequest, U: SendRequest<Req>, W: Words>(
 }
 
 /// A request waits on. Where each server gave a result, the best of those that were put off is given.
-fn keep_or_give_deferred<Req: ComposeRequest, U: SendRequest<Req>, W: Words>(
+fn keep_or_give_deferred<Req: ComposeRequest, U: SharesPlaces<Req>, W: Words>(
     choice: &mut Choice<Req, U>,
     cx: &mut Cx<'_, W>,
     ticket: u64,
@@ -100,7 +99,7 @@ fn keep_or_give_deferred<Req: ComposeRequest, U: SendRequest<Req>, W: Words>(
 
 /// The servers that are left are started in order, up to the first whose result is not put off at
 /// once.
-fn start_next_servers<Req: ComposeRequest, U: SendRequest<Req>, W: Words>(
+fn start_next_servers<Req: ComposeRequest, U: SharesPlaces<Req>, W: Words>(
     choice: &mut Choice<Req, U>,
     config: &Config,
     cx: &mut Cx<'_, W>,
@@ -126,7 +125,7 @@ fn start_next_servers<Req: ComposeRequest, U: SendRequest<Req>, W: Words>(
 }
 
 /// The result of a server was put off: where that one was started last, the next one is started.
-fn start_next_if_last<Req: ComposeRequest, U: SendRequest<Req>, W: Words>(
+fn start_next_if_last<Req: ComposeRequest, U: SharesPlaces<Req>, W: Words>(
     choice: &mut Choice<Req, U>,
     config: &Config,
     cx: &mut Cx<'_, W>,
@@ -146,7 +145,7 @@ fn start_next_if_last<Req: ComposeRequest, U: SendRequest<Req>, W: Words>(
 }
 
 /// A server gave its result for a request, which is in no table any more.
-fn defer_or_give<Req: ComposeRequest, U: SendRequest<Req>, W: Words>(
+fn defer_or_give<Req: ComposeRequest, U: SharesPlaces<Req>, W: Words>(
     choice: &mut Choice<Req, U>,
     config: &Config,
     cx: &mut Cx<'_, W>,
@@ -167,7 +166,7 @@ fn defer_or_give<Req: ComposeRequest, U: SendRequest<Req>, W: Words>(
 
 /// What a server posted is the result of the request that waits under that ticket. Else it is handed
 /// on as it is: it is of a request that was sent past the choice.
-fn settle<Req: ComposeRequest, U: SendRequest<Req>, W: Words>(
+fn settle<Req: ComposeRequest, U: SharesPlaces<Req>, W: Words>(
     choice: &mut Choice<Req, U>,
     config: &Config,
     cx: &mut Cx<'_, W>,
@@ -194,7 +193,7 @@ fn settle<Req: ComposeRequest, U: SendRequest<Req>, W: Words>(
 }
 
 /// What a server posted is settled, in order.
-fn settle_all<Req: ComposeRequest, U: SendRequest<Req>, W: Words>(
+fn settle_all<Req: ComposeRequest, U: SharesPlaces<Req>, W: Words>(
     choice: &mut Choice<Req, U>,
     config: &Config,
     cx: &mut Cx<'_, W>,
@@ -210,7 +209,7 @@ fn settle_all<Req: ComposeRequest, U: SendRequest<Req>, W: Words>(
 }
 
 /// A server hears a signal, and what it posted is settled.
-fn hear_one<Req: ComposeRequest, U: SendRequest<Req>, W: Words>(
+fn hear_one<Req: ComposeRequest, U: SharesPlaces<Req>, W: Words>(
     choice: &mut Choice<Req, U>,
     config: &Config,
     cx: &mut Cx<'_, W>,
@@ -224,8 +223,8 @@ fn hear_one<Req: ComposeRequest, U: SendRequest<Req>, W: Words>(
     settle_all(choice, config, cx, server, board)
 }
 
-/// The servers hear a signal one after another.
-fn hear_all<Req: ComposeRequest, U: SendRequest<Req>, W: Words>(
+/// The servers hear a signal one after another, but those that it does not concern.
+fn hear_all<Req: ComposeRequest, U: SharesPlaces<Req>, W: Words>(
     choice: &mut Choice<Req, U>,
     config: &Config,
     cx: &mut Cx<'_, W>,
@@ -234,15 +233,18 @@ fn hear_all<Req: ComposeRequest, U: SendRequest<Req>, W: Words>(
     ensures holds { HoldsChoice U.holds_failed W.stream cx.old cx.new result (plain.hears_all U.transport config.now (heard signal.entry)) choice.old choice.new }
 {
     let mut board = mem::replace(&mut choice.board, Board::new(choice.alloc));
-    for server in 0..choice.servers.len() {
+    let count = choice.servers.len();
+    let mut server = choice.servers.first_concerned(signal, 0);
+    while server < count {
         hear_one(choice, config, cx, &mut board, server, signal)?;
+        server = choice.servers.first_concerned(signal, server + 1);
     }
     choice.board = board;
     Ok(())
 }
 
 /// An estimate has passed: the next server is started.
-fn start_after_estimate<Req: ComposeRequest, U: SendRequest<Req>, W: Words>(
+fn start_after_estimate<Req: ComposeRequest, U: SharesPlaces<Req>, W: Words>(
     choice: &mut Choice<Req, U>,
     config: &Config,
     cx: &mut Cx<'_, W>,
@@ -259,7 +261,7 @@ fn start_after_estimate<Req: ComposeRequest, U: SendRequest<Req>, W: Words>(
 }
 
 /// A timer fired: that of a request, or one of a server.
-fn fire_timer<Req: ComposeRequest, U: SendRequest<Req>, W: Words>(
+fn fire_timer<Req: ComposeRequest, U: SharesPlaces<Req>, W: Words>(
     choice: &mut Choice<Req, U>,
     config: &Config,
     cx: &mut Cx<'_, W>,
@@ -274,7 +276,7 @@ fn fire_timer<Req: ComposeRequest, U: SendRequest<Req>, W: Words>(
 }
 
 /// What a signal does.
-pub(crate) fn hear<Req: ComposeRequest, U: SendRequest<Req>, W: Words>(
+pub(crate) fn hear<Req: ComposeRequest, U: SharesPlaces<Req>, W: Words>(
     choice: &mut Choice<Req, U>,
     config: &Config,
     cx: &mut Cx<'_, W>,
@@ -289,7 +291,7 @@ pub(crate) fn hear<Req: ComposeRequest, U: SendRequest<Req>, W: Words>(
 }
 
 /// Takes a request on, with the servers that it is to be started at, in order.
-pub(crate) fn start_job<Req: ComposeRequest, U: SendRequest<Req>, W: Words>(
+pub(crate) fn start_job<Req: ComposeRequest, U: SharesPlaces<Req>, W: Words>(
     choice: &mut Choice<Req, U>,
     config: &Config,
     cx: &mut Cx<'_, W>,
@@ -311,7 +313,7 @@ pub(crate) fn start_job<Req: ComposeRequest, U: SendRequest<Req>, W: Words>(
 }
 
 /// Gives a request up, where it waits.
-pub(crate) fn give_up<Req: ComposeRequest, U: SendRequest<Req>, W: Words>(
+pub(crate) fn give_up<Req: ComposeRequest, U: SharesPlaces<Req>, W: Words>(
     choice: &mut Choice<Req, U>,
     cx: &mut Cx<'_, W>,
     ticket: u64,

@@ -47,6 +47,7 @@ fn upstream_at(
 }
 
 /// Adds a server of this number. A number past 32 bits counts as want of memory.
+#[tactic(auto, using(client_steps::specs::Sharing::unused_at))]
 pub(crate) fn add_server(
     alloc: Global,
     servers: &mut Servers,
@@ -63,7 +64,7 @@ pub(crate) fn add_server(
     }
     let by_streams = by_streams_alone(use_vc, server);
     let upstream = upstream_at(alloc, transports, number as u32, by_streams)?;
-    match servers.add(upstream) {
+    match servers.add_unused(upstream) {
         Ok(()) => Ok(()),
         Err(_) => Err(NoMemory),
     }

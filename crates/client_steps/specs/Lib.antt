@@ -1,5 +1,8 @@
-pub mod Upstream
 pub mod Client
-pub mod Machines
-pub mod Whole
+pub mod DgramSharing
 pub mod Headline
+pub mod Machines
+pub mod SamePlaces
+pub mod Sharing
+pub mod Upstream
+pub mod Whole

@@ -1,8 +1,11 @@
 //! One server, by the transports that are used for it.
 
 ghost use Rattle.std.specs.Prelude.{◌≡◌, true, false};
+ghost use Rattle.client_steps.specs.DgramSharing as by_dgrams;
+ghost use Rattle.client_steps.specs.Sharing as sharing;
 ghost use Rattle.client_steps.specs.Upstream as plain;
 
+use client_choice::SharesPlaces;
 use client_multi::{dgram_stream, multi_stream};
 use client_request::{
     Board, ComposeRequest, Cx, Error, GetResponse, Out, Poll, SendRequest, Signal, Via, Words,
@@ -167,4 +170,28 @@ impl<CR: ComposeRequest> SendRequest<CR> for Upstream<CR> {
             _ => Ok(()),
         }
     }
+}
+
+impl<CR: ComposeRequest> SharesPlaces<CR> for Upstream<CR> {
+    ghost has = { sharing.has };
+
+    ghost ignores = { sharing.ignores CR.requests };
+
+    ghost sends = { sharing.sends CR.requests };
+
+    ghost steps = { sharing.steps CR.requests };
+
+    ghost cancels = { sharing.cancels CR.requests };
+}
+
+impl<CR: ComposeRequest> SharesPlaces<CR> for client_dgram::Connection<CR> {
+    ghost has = { by_dgrams.has };
+
+    ghost ignores = { by_dgrams.ignores CR.requests };
+
+    ghost sends = { by_dgrams.sends CR.requests };
+
+    ghost steps = { by_dgrams.steps CR.requests };
+
+    ghost cancels = { by_dgrams.cancels CR.requests };
 }

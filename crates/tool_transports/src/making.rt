@@ -42,11 +42,14 @@ fn choice_config(words: &str) -> redundant::Config {
     config
 }
 
+#[tactic(auto, using(client_steps::specs::DgramSharing::unused_at))]
 fn choice(alloc: Global, words: &str) -> Option<Transport> {
     let (count, put_off) = first_word(words);
     let mut choice = redundant::Connection::with_config(alloc, choice_config(put_off));
     for server in 0..count.parse::<u32>().ok()? {
-        choice.add(Server::new(alloc, server).ok()?).ok()?;
+        choice
+            .add_unused(Server::new(alloc, server).ok()?)
+            .ok()?;
     }
     Some(Transport::Choice(choice))
 }

@@ -13,6 +13,7 @@ use crate::load_balancer::config::{Config, ConnConfig};
 use crate::load_balancer::parts::Parts;
 use crate::load_balancer::steps::{give_up, hear, take_on};
 use crate::redundant::send_past;
+use crate::sharing::SharesPlaces;
 use client_request::{
     ComposeRequest, Cx, Error, GetResponse, Latch, Pending, SendRequest, Signal, Words,
 };
@@ -21,7 +22,7 @@ use std::marker::Model;
 
 /// Servers that requests are spread over. Each is a transport of its own.
 #[derive(Drop)]
-pub struct Connection<Req, U: SendRequest<Req>> {
+pub struct Connection<Req, U: SharesPlaces<Req>> {
     config: Config,
     parts: Parts<Req, U>,
     failed: Latch,
@@ -30,13 +31,13 @@ pub struct Connection<Req, U: SendRequest<Req>> {
 /// A connection is the transport, too.
 pub type Transport<Req, U> = Connection<Req, U>;
 
-impl<Req, U: SendRequest<Req>> Model for Connection<Req, U> {
+impl<Req, U: SharesPlaces<Req>> Model for Connection<Req, U> {
     ghost Value = { plain.Balancer Req U U.Response };
 
     ghost view = { λ c. record { settings = c.config; parts = c.parts; failed = c.failed } };
 }
 
-impl<Req, U: SendRequest<Req>> Connection<Req, U> {
+impl<Req, U: SharesPlaces<Req>> Connection<Req, U> {
     /// A balancer without servers, with the default settings. It takes no memory.
     pub fn new(alloc: Global) -> Connection<Req, U>
         ensures { result ≡ plain.started default_balancer }
@@ -56,7 +57,7 @@ impl<Req, U: SendRequest<Req>> Connection<Req, U> {
     }
 }
 
-impl<Req, U: SendRequest<Req> + Drop> Connection<Req, U> {
+impl<Req, U: SharesPlaces<Req> + Drop> Connection<Req, U> {
     /// Adds a server behind the others, at any time. Servers are numbered from 10 on. `label` has no effect.
     /// `NoMemory`, and `Failed` after a call gave up.
     pub fn add(&mut self, label: &str, config: &ConnConfig, conn: U) -> Result<(), Error>
@@ -78,7 +79,7 @@ impl<Req, U: SendRequest<Req> + Drop> Connection<Req, U> {
     }
 }
 
-impl<Req: ComposeRequest, U: SendRequest<Req>> Connection<Req, U> {
+impl<Req: ComposeRequest, U: SharesPlaces<Req>> Connection<Req, U> {
     /// Sends a request to the server of an identifier, past the balancer: its result stands on the board under
     /// the response's ticket, and counts in no estimate, queue or burst. `RedundantTransportNotFound` comes
     /// exactly where no server was added under the identifier; then nothing is changed. `Failed` comes where
@@ -110,7 +111,7 @@ impl<Req: ComposeRequest, U: SendRequest<Req>> Connection<Req, U> {
     }
 }
 
-impl<Req: ComposeRequest, U: SendRequest<Req>> SendRequest<Req> for Connection<Req, U> {
+impl<Req: ComposeRequest, U: SharesPlaces<Req>> SendRequest<Req> for Connection<Req, U> {
     type Response = Pending;
 
     ghost has_failed = { λ c. c.failed };

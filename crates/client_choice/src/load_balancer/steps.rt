@@ -11,8 +11,9 @@ use crate::load_balancer::bursts::survey;
 use crate::load_balancer::config::Config;
 use crate::load_balancer::parts::Parts;
 use crate::servfail::serve_fail;
+use crate::sharing::SharesPlaces;
 use crate::steps;
-use client_request::{ComposeRequest, Cx, Error, Part, SendRequest, Signal, Words};
+use client_request::{ComposeRequest, Cx, Error, Part, Signal, Words};
 use dns_base::{Message, NoMemory};
 use std::alloc::Global;
 
@@ -40,7 +41,7 @@ fn unserved<Req: ComposeRequest>(alloc: Global, request: &Req) -> Result<Part, N
 
 /// Starts a request at the servers whose burst has room, in order. Where there is none it has its result at
 /// once.
-fn start_at_candidates<Req: ComposeRequest, U: SendRequest<Req>, W: Words>(
+fn start_at_candidates<Req: ComposeRequest, U: SharesPlaces<Req>, W: Words>(
     parts: &mut Parts<Req, U>,
     config: &Config,
     cx: &mut Cx<'_, W>,
@@ -68,7 +69,7 @@ fn start_at_candidates<Req: ComposeRequest, U: SendRequest<Req>, W: Words>(
 }
 
 /// Takes a request on.
-pub(crate) fn take_on<Req: ComposeRequest, U: SendRequest<Req>, W: Words>(
+pub(crate) fn take_on<Req: ComposeRequest, U: SharesPlaces<Req>, W: Words>(
     parts: &mut Parts<Req, U>,
     config: &Config,
     cx: &mut Cx<'_, W>,
@@ -79,13 +80,18 @@ pub(crate) fn take_on<Req: ComposeRequest, U: SendRequest<Req>, W: Words>(
 {
     let ticket = cx.draw_ticket()?;
     let alloc = parts.choice.alloc;
-    let candidates = survey(alloc, &mut parts.limits, &parts.choice.servers, cx.now.0)?;
+    let candidates = survey(
+        alloc,
+        &mut parts.limits,
+        parts.choice.servers.all(),
+        cx.now.0,
+    )?;
     start_at_candidates(parts, config, cx, ticket, &candidates, request)?;
     Ok(ticket)
 }
 
 /// The servers hear what happened.
-pub(crate) fn hear<Req: ComposeRequest, U: SendRequest<Req>, W: Words>(
+pub(crate) fn hear<Req: ComposeRequest, U: SharesPlaces<Req>, W: Words>(
     parts: &mut Parts<Req, U>,
     config: &Config,
     cx: &mut Cx<'_, W>,
@@ -97,7 +103,7 @@ pub(crate) fn hear<Req: ComposeRequest, U: SendRequest<Req>, W: Words>(
 }
 
 /// Gives a request up, where it waits.
-pub(crate) fn give_up<Req: ComposeRequest, U: SendRequest<Req>, W: Words>(
+pub(crate) fn give_up<Req: ComposeRequest, U: SharesPlaces<Req>, W: Words>(
     parts: &mut Parts<Req, U>,
     cx: &mut Cx<'_, W>,
     ticket: u64,

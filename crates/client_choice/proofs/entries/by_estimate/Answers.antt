@@ -9,4 +9,4 @@ returns g c =
     let expected : ListedServer → ℕ = λ e. e.estimate in
     let sorted = c.in_ok-sort_by_key.ensures.sorted expected (answers_always _ _ _ (λ f a r next called. search rules)) in
     let stable = c.sort_by_key.ensures.stable expected (answers_always _ _ _ (λ f a r next called. search rules)) in
-    c.from.ensures.0 ∙ sorted_is c.args.servers.now c.in_ok-list.list.items c.sort_by_key.new.self.items c.in_ok-list.ensures sorted stable
+    sorted_is c.args.servers.now c.in_ok-list.list.items c.sort_by_key.new.self.items c.in_ok-list.ensures sorted stable

@@ -2,7 +2,7 @@ use Rattle.std.proofs.Common.{refl, rules, IsErrOf, arith}
 use Rattle.std.proofs.lemmas.Grind.{common_steps}
 use Rattle.client_request.specs.declared.error.Error.TheVariants.{Failed}
 use Rattle.client_choice.proofs.At.{kept_at, any_at, found_at}
-use Rattle.client_choice.proofs.servers.send_at.Goals as goal
+use Rattle.client_choice.proofs.servers.send_in.Goals as goal
 
 pub returns-in_err-response-clause-holds : goal.returns-in_err-response-clause-holds
 returns-in_err-response-clause-holds g c =

@@ -2,7 +2,7 @@ use Rattle.std.proofs.Common.{refl, rules, IsErrOf, arith}
 use Rattle.std.proofs.lemmas.Grind.{common_steps}
 use Rattle.client_request.specs.declared.error.Error.TheVariants.{Failed}
 use Rattle.client_choice.proofs.At.{kept_at, any_at, found_at}
-use Rattle.client_choice.proofs.servers.start_at.Goals as goal
+use Rattle.client_choice.proofs.servers.start_in.Goals as goal
 
 pub returns-in_err-reply : goal.returns-in_err-reply
 returns-in_err-reply g c =
