@@ -1,6 +1,6 @@
 -- The places of a transport by datagrams: what happens at others is nothing to it, and it draws those that it comes to have.
-use Rattle.std.specs.Prelude.{◌≡◌, ℕ, zero, suc, ◌+◌, ◌-◌, ◌<◌, ◌≤◌, ◌⊎◌, nat_lt, take, Bool, true, false, if◌then◌else◌, List, [], ◌∷◌, Option, Some, None, option_and_then, Result, Ok, Err}
-use Rattle.std.proofs.Common.{refl, ap, sym, ◌∙◌, subst, le_refl, inl, inr}
+use Rattle.std.specs.Prelude.{◌≡◌, ℕ, zero, suc, ◌+◌, nat_lt, take, Bool, true, false, if◌then◌else◌, List, [], ◌∷◌, Option, Some, None, option_and_then, Result, Ok, Err}
+use Rattle.std.proofs.Common.{refl, ap, subst, le_refl, inl}
 use Rattle.client_request.specs.Board.{Part}
 use Rattle.client_request.specs.Numbered.{frees, entry_at}
 use Rattle.client_request.specs.Requests.{Requests}
@@ -19,7 +19,7 @@ use Rattle.client_settings.specs.Dgram.{Settings}
 use Rattle.client_dgram.specs.declared.job.Job.{Job}
 use Rattle.client_dgram.specs.declared.job.Stage.{Stage}
 use Rattle.client_dgram.specs.declared.job.Stage.TheVariants as at
-use Rattle.proof_sharing.specs.Growing.{Leads, Opens, AreKnown, chain, fewer, one_more, place_in, place_of}
+use Rattle.proof_sharing.specs.Growing.{Leads, Opens, AreKnown, fewer, one_more, place_in, place_of}
 use Rattle.proof_sharing.specs.Tables.{has_key, freed, put, no_entry}
 
 -- whether it has a place
@@ -208,6 +208,6 @@ module _ {R : Type 0} (requests : Requests R) where
 
   -- it is nothing to it
   pub ignores : (h : Heard) (p : ℕ) (s : Dgram R) (v : View) → place_of h ≡ Some p → has s p ≡ false → dgram.plain_step requests h s v ≡ Some (s, v)
-  ignores (told what) p s v e no = ap (dgram.with_tables s) (told_nothing s.server s.settings s.tables v p (no_entry p s.tables.places no) what e)
-  ignores (more_at q) p s v e no = refl
-  ignores (due_timer t) p s v e no = absurd (cc)
+  ignores (told what) p s v e absent = ap (dgram.with_tables s) (told_nothing s.server s.settings s.tables v p (no_entry p s.tables.places absent) what e)
+  ignores (more_at q) p s v e absent = refl
+  ignores (due_timer t) p s v e absent = absurd (cc)

@@ -1,10 +1,10 @@
 -- The places of a server by datagrams and streams, over any two transports: those of either.
 use Rattle.std.specs.Prelude.{◌≡◌, ℕ, ◌+◌, ◌<◌, ◌≤◌, ◌⊎◌, ◌||◌, Bool, true, false, if◌then◌else◌, List, [], ◌∷◌, Option, Some, None, option_and_then, option_map}
-use Rattle.std.proofs.Common.{refl, ap, sym, subst, ◌∙◌, le_refl, inl, inr, arith}
+use Rattle.std.proofs.Common.{refl, ap, subst, ◌∙◌, le_refl, inl, inr}
 use Rattle.client_request.specs.Board.{Part}
 use Rattle.client_request.specs.Numbered.{entry_at}
 use Rattle.client_request.specs.Timers.{can_draw}
-use Rattle.client_request.specs.View.{View, Heard, Transport, answers}
+use Rattle.client_request.specs.View.{View, Heard, Transport}
 use Rattle.client_request.specs.declared.board.Posted.{Posted}
 use Rattle.client_multi.specs.Fallback as both
 use Rattle.client_multi.specs.Fallback.{Fallback, Parts, Tables}
@@ -97,7 +97,7 @@ module _ {R D S P Q : Type 0} (has_d : D → ℕ → Bool) (has_s : S → ℕ �
     collected : (from_dgram from_stream : List Posted) (s : Parts R D S P Q) (v : View) → Grown s v → Grows (both.collects server stream from_dgram from_stream s v)
     collected from_dgram from_stream s v g = by (both.settles_all server stream from_dgram s from_stream v) (settled_all from_dgram s from_stream v g)
       where
-        by : (o : both.Settling R D S P Q) → GrowsSo o → Grows (option_map (λ x. both.gives_rest x.0.1 x.0.0 x.1) o)
+        by : (o : both.Settling R D S P Q) → GrowsSo o → Grows (option_map (λ x. both.gives_rest server stream x.0.1 x.0.0 x.1) o)
         by None l = tt
         by (Some x) l = l
 
@@ -152,7 +152,7 @@ module _ {R D S P Q : Type 0} (has_d : D → ℕ → Bool) (has_s : S → ℕ �
 
     -- neither does anything with what happens at another place
     pub ignores : Ignores has_d dgram → Ignores has_s stream → Ignores has (both.transport dgram stream)
-    ignores by_d by_s h p f v e no =
-        let x = neither (has_d f.parts.dgram p) (has_s f.parts.stream p) no in
+    ignores by_d by_s h p f v e absent =
+        let x = neither (has_d f.parts.dgram p) (has_s f.parts.stream p) absent in
         let w = both.onto [] v in
         ap (both.with_parts f) (ap (option_and_then (both.hears_stream f.server dgram stream h f.parts v)) (by_d h p f.parts.dgram w e x.0) ∙ ap (option_and_then (both.settles_stream f.server dgram stream [] f.parts v)) (by_s h p f.parts.stream w e x.1))

@@ -15,7 +15,7 @@ use Rattle.client_transfer.specs.States.{checked}
 use Rattle.client_transfer.specs.Transfers.{part_given}
 use Rattle.client_transfer.specs.declared.state.XfrState.{XfrState}
 use Rattle.client_stream.specs.Frames.{first_frame, behind_frame, has_frame}
-use Rattle.client_stream.specs.IdTable.{removed, next_id}
+use Rattle.client_stream.specs.IdTable.{removed}
 use Rattle.client_stream.specs.Plain as plain
 use Rattle.client_stream.specs.Plain.{Line, Stream, Asked, has_ended, message_id}
 use Rattle.client_settings.specs.Stream.{Settings}

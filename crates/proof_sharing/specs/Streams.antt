@@ -1,6 +1,6 @@
 -- The places of reconnection: what happens at others is nothing to it, and it draws those that it comes to have.
-use Rattle.std.specs.Prelude.{◌≡◌, ℕ, ◌+◌, ◌<◌, ◌≤◌, ◌⊎◌, ◌==◌, ◌||◌, nat_lt, Bool, true, false, if◌then◌else◌, List, [], ◌∷◌, Option, Some, None, option_and_then, option_map, Err}
-use Rattle.std.proofs.Common.{refl, ap, sym, subst, ◌∙◌, le_refl, inl, inr, arith}
+use Rattle.std.specs.Prelude.{◌≡◌, ℕ, ◌+◌, ◌⊎◌, ◌==◌, ◌||◌, nat_lt, Bool, true, false, if◌then◌else◌, List, [], ◌∷◌, Option, Some, None, option_and_then, option_map, Err}
+use Rattle.std.proofs.Common.{refl, ap, sym, subst, le_refl, inl, inr, arith}
 use Rattle.std.proofs.lemmas.Bool.Decides.{nat_tests}
 use Rattle.client_request.specs.Board.{Part}
 use Rattle.client_request.specs.Numbered.{puts, frees, entry_at}
@@ -11,12 +11,10 @@ use Rattle.client_request.specs.declared.error.Error.TheVariants as errors
 use Rattle.client_request.specs.declared.event.Out.TheVariants.{OpenStream}
 use Rattle.client_request.specs.declared.event.What.{What}
 use Rattle.client_request.specs.declared.event.What.TheVariants.{Ask, Opened, OpenFailed, SendFailed, ShortSend, Datagram, RecvFailed, Wrote, WriteFailed, Bytes, ReadFailed, Ended, Tick}
-use Rattle.client_stream.specs.Plain.{Asked, asked}
-use Rattle.client_settings.specs.Stream.{Settings as StreamSettings}
+use Rattle.client_stream.specs.Plain.{asked}
 use Rattle.client_settings.specs.MultiStream.{Settings}
 use Rattle.client_multi.specs.MultiStream as multi
 use Rattle.client_multi.specs.MultiStream.{OneStream, Tables, MultiStream}
-use Rattle.client_multi.specs.Retry.{retry_time}
 use Rattle.client_multi.specs.declared.multi_stream.job.Job.{Job}
 use Rattle.client_multi.specs.declared.multi_stream.job.Stage.{Stage}
 use Rattle.client_multi.specs.declared.multi_stream.job.Stage.TheVariants.{Waiting, Resting, Held}
@@ -99,7 +97,7 @@ module _ {R S : Type 0} (below : OneStream R S) (none : DrawsNone below.calls) (
     where
       by : (p : ℕ) → (has_key s.connections p ≡ true) ⊎ (false ≡ true) → has_in s p ≡ true
       by p (inl e) = or_left (has_key s.connections p) (multi.is_number p s.opening) e
-      by p (inr no) = absurd (cc)
+      by p (inr absent) = absurd (cc)
 
   failed_to_open : (place : ℕ) (s : Tables R S) (v : View) → Grown s v → Grows (multi.open_fails place s v)
   failed_to_open place s v g = by (multi.is_number place s.opening)
@@ -301,7 +299,7 @@ module _ {R S : Type 0} (below : OneStream R S) (none : DrawsNone below.calls) w
 
 -- what happens at another place
 not_own : (q p : ℕ) → Some q ≡ Some p → (o : Option ℕ) → multi.is_number p o ≡ false → multi.is_number q o ≡ false
-not_own q p e o no = (let same : p ≡ q = cc in subst (λ q. multi.is_number q o ≡ false) same no)
+not_own q p e o absent = (let same : p ≡ q = cc in subst (λ q. multi.is_number q o ≡ false) same absent)
 
 same_entry : {A : Type 0} (q p : ℕ) → Some q ≡ Some p → (es : List (ℕ × A)) → entry_at p es ≡ None → entry_at q es ≡ None
 same_entry q p e es none = (let same : p ≡ q = cc in subst (λ q. entry_at q es ≡ None) same none)
@@ -312,28 +310,28 @@ module _ {R S : Type 0} (below : OneStream R S) where
 
   told_nothing : (server : ℕ) (settings : Settings) (s : Tables R S) (v : View) (p : ℕ) → entry_at p s.connections ≡ None → multi.is_number p s.opening ≡ false → (what : What) → place_in what ≡ Some p
       → multi.tells below server settings what s v ≡ Some (s, v)
-  told_nothing server settings s v p none no (Opened q) e = ap (λ b. if b then multi.each (multi.hands below server) s.waiting (multi.opened below server settings.stream q s) v else Some (s, v)) (not_own q p e s.opening no)
-  told_nothing server settings s v p none no (OpenFailed q f) e = ap (λ b. if b then multi.each multi.backs_off s.waiting (multi.refused s v) (drawn v) else Some (s, v)) (not_own q p e s.opening no)
-  told_nothing server settings s v p none no (Bytes q o) e = called_nothing q (below.calls.step (told (Bytes q o))) s v (same_entry q p e s.connections none)
-  told_nothing server settings s v p none no (Wrote q k) e = called_nothing q (below.calls.step (told (Wrote q k))) s v (same_entry q p e s.connections none)
-  told_nothing server settings s v p none no (WriteFailed q f) e = called_nothing q (below.calls.step (told (WriteFailed q f))) s v (same_entry q p e s.connections none)
-  told_nothing server settings s v p none no (ReadFailed q f) e = called_nothing q (below.calls.step (told (ReadFailed q f))) s v (same_entry q p e s.connections none)
-  told_nothing server settings s v p none no (Ended q) e = called_nothing q (below.calls.step (told (Ended q))) s v (same_entry q p e s.connections none)
-  told_nothing server settings s v p none no (Ask r) e = refl
-  told_nothing server settings s v p none no (SendFailed q f) e = refl
-  told_nothing server settings s v p none no (ShortSend q) e = refl
-  told_nothing server settings s v p none no (Datagram q o) e = refl
-  told_nothing server settings s v p none no (RecvFailed q f) e = refl
-  told_nothing server settings s v p none no Tick e = refl
+  told_nothing server settings s v p none absent (Opened q) e = ap (λ b. if b then multi.each (multi.hands below server) s.waiting (multi.opened below server settings.stream q s) v else Some (s, v)) (not_own q p e s.opening absent)
+  told_nothing server settings s v p none absent (OpenFailed q f) e = ap (λ b. if b then multi.each multi.backs_off s.waiting (multi.refused s v) (drawn v) else Some (s, v)) (not_own q p e s.opening absent)
+  told_nothing server settings s v p none absent (Bytes q o) e = called_nothing q (below.calls.step (told (Bytes q o))) s v (same_entry q p e s.connections none)
+  told_nothing server settings s v p none absent (Wrote q k) e = called_nothing q (below.calls.step (told (Wrote q k))) s v (same_entry q p e s.connections none)
+  told_nothing server settings s v p none absent (WriteFailed q f) e = called_nothing q (below.calls.step (told (WriteFailed q f))) s v (same_entry q p e s.connections none)
+  told_nothing server settings s v p none absent (ReadFailed q f) e = called_nothing q (below.calls.step (told (ReadFailed q f))) s v (same_entry q p e s.connections none)
+  told_nothing server settings s v p none absent (Ended q) e = called_nothing q (below.calls.step (told (Ended q))) s v (same_entry q p e s.connections none)
+  told_nothing server settings s v p none absent (Ask r) e = refl
+  told_nothing server settings s v p none absent (SendFailed q f) e = refl
+  told_nothing server settings s v p none absent (ShortSend q) e = refl
+  told_nothing server settings s v p none absent (Datagram q o) e = refl
+  told_nothing server settings s v p none absent (RecvFailed q f) e = refl
+  told_nothing server settings s v p none absent Tick e = refl
 
   heard_nothing : (server : ℕ) (settings : Settings) (s : Tables R S) (v : View) (p : ℕ) → entry_at p s.connections ≡ None → multi.is_number p s.opening ≡ false → (h : Heard) → place_of h ≡ Some p
       → multi.hears below server settings h s v ≡ Some (s, v)
-  heard_nothing server settings s v p none no (told what) e = told_nothing server settings s v p none no what e
-  heard_nothing server settings s v p none no (more_at q) e = called_nothing q (below.calls.step (more_at q)) s v (same_entry q p e s.connections none)
-  heard_nothing server settings s v p none no (due_timer t) e = absurd (cc)
+  heard_nothing server settings s v p none absent (told what) e = told_nothing server settings s v p none absent what e
+  heard_nothing server settings s v p none absent (more_at q) e = called_nothing q (below.calls.step (more_at q)) s v (same_entry q p e s.connections none)
+  heard_nothing server settings s v p none absent (due_timer t) e = absurd (cc)
 
   -- it is nothing to it
   pub ignores : (h : Heard) (p : ℕ) (s : MultiStream R S) (v : View) → place_of h ≡ Some p → has s p ≡ false → multi.plain_step below h s v ≡ Some (s, v)
-  ignores h p s v e no =
-      let x = neither (has_key s.tables.connections p) (multi.is_number p s.tables.opening) no in
+  ignores h p s v e absent =
+      let x = neither (has_key s.tables.connections p) (multi.is_number p s.tables.opening) absent in
       ap (multi.with_tables s) (heard_nothing s.server s.settings s.tables v p (no_entry p s.tables.connections x.0) x.1 h e)

@@ -1,6 +1,6 @@
 -- Which keys a table by number has.
-use Rattle.std.specs.Prelude.{◌≡◌, ℕ, ◌==◌, ◌||◌, ◌⊎◌, Bool, true, false, List, [], ◌∷◌, Option, Some, None, is_some, if◌then◌else◌}
-use Rattle.std.proofs.Common.{inl, inr, refl, ap, sym, ◌∙◌, cond, arith, Ordering, Less, Equal, Greater, nat_cmp, is_eq}
+use Rattle.std.specs.Prelude.{◌≡◌, ℕ, ◌||◌, ◌⊎◌, Bool, true, false, List, [], ◌∷◌, Option, Some, None, is_some}
+use Rattle.std.proofs.Common.{inl, inr, refl, ap, cond, arith, Ordering, Less, Equal, Greater, nat_cmp, is_eq}
 use Rattle.std.proofs.lemmas.Bool.Decides.{nat_tests}
 use Rattle.std.specs.Ordering.{match_ordering}
 use Rattle.client_request.specs.Numbered.{puts, frees, entry_at}
@@ -43,15 +43,15 @@ module _ {A : Type 0} where
   -- where one is freed, no other comes
   pub freed : (k p : ℕ) (es : List (ℕ × A)) → has_key (frees k es) p ≡ true → has_key es p ≡ true
   freed k p [] e = e
-  freed k p (x ∷ es) e = by (is_eq (nat_cmp k x.0)) e
+  freed k p (x ∷ es) e = by (is_eq (nat_cmp k x.0)) (λ e. freed k p es e) e
     where
-      kept : (p ≡ x.0) ⊎ (has_key (frees k es) p ≡ true) → has_key (x ∷ es) p ≡ true
-      kept (inl same) = first p x.0 x.1 (entry_at p es) same
-      kept (inr e) = behind p x.0 x.1 (entry_at p es) (freed k p es e)
+      kept : (has_key (frees k es) p ≡ true → has_key es p ≡ true) → (p ≡ x.0) ⊎ (has_key (frees k es) p ≡ true) → has_key (x ∷ es) p ≡ true
+      kept rest (inl same) = first p x.0 x.1 (entry_at p es) same
+      kept rest (inr e) = behind p x.0 x.1 (entry_at p es) (rest e)
 
-      by : (b : Bool) → has_key (cond b es (x ∷ frees k es)) p ≡ true → has_key (x ∷ es) p ≡ true
-      by true e = behind p x.0 x.1 (entry_at p es) e
-      by false e = kept (ahead p x.0 x.1 (entry_at p (frees k es)) e)
+      by : (b : Bool) → (has_key (frees k es) p ≡ true → has_key es p ≡ true) → has_key (cond b es (x ∷ frees k es)) p ≡ true → has_key (x ∷ es) p ≡ true
+      by true rest e = behind p x.0 x.1 (entry_at p es) e
+      by false rest e = kept rest (ahead p x.0 x.1 (entry_at p (frees k es)) e)
 
   -- where one is put, it alone comes
   pub put : (k p : ℕ) (a : A) (es : List (ℕ × A)) → has_key (puts k a es) p ≡ true → (has_key es p ≡ true) ⊎ (p ≡ k)
@@ -59,8 +59,8 @@ module _ {A : Type 0} where
     where
       last : (p ≡ k) ⊎ (false ≡ true) → (false ≡ true) ⊎ (p ≡ k)
       last (inl same) = inr same
-      last (inr no) = inl no
-  put k p a (x ∷ es) e = by (nat_cmp k x.0) e
+      last (inr e) = inl e
+  put k p a (x ∷ es) e = by (nat_cmp k x.0) (λ e. put k p a es e) e
     where
       turned : {B : Type 0} → (p ≡ k) ⊎ B → B ⊎ (p ≡ k)
       turned (inl same) = inr same
@@ -70,18 +70,19 @@ module _ {A : Type 0} where
       over (inl same) = first p x.0 x.1 (entry_at p es) same
       over (inr e) = behind p x.0 x.1 (entry_at p es) e
 
-      beyond : (p ≡ x.0) ⊎ (has_key (puts k a es) p ≡ true) → (has_key (x ∷ es) p ≡ true) ⊎ (p ≡ k)
-      beyond (inl same) = inl (first p x.0 x.1 (entry_at p es) same)
-      beyond (inr e) = passed (put k p a es e)
-        where
-          passed : (has_key es p ≡ true) ⊎ (p ≡ k) → (has_key (x ∷ es) p ≡ true) ⊎ (p ≡ k)
-          passed (inl e) = inl (behind p x.0 x.1 (entry_at p es) e)
-          passed (inr same) = inr same
+      passed : (has_key es p ≡ true) ⊎ (p ≡ k) → (has_key (x ∷ es) p ≡ true) ⊎ (p ≡ k)
+      passed (inl e) = inl (behind p x.0 x.1 (entry_at p es) e)
+      passed (inr same) = inr same
 
-      by : (o : Ordering) → has_key (match_ordering o ((k, a) ∷ x ∷ es) ((x.0, a) ∷ es) (x ∷ puts k a es)) p ≡ true → (has_key (x ∷ es) p ≡ true) ⊎ (p ≡ k)
-      by Less e = turned (ahead p k a (entry_at p (x ∷ es)) e)
-      by Equal e = inl (over (ahead p x.0 a (entry_at p es) e))
-      by Greater e = beyond (ahead p x.0 x.1 (entry_at p (puts k a es)) e)
+      beyond : (has_key (puts k a es) p ≡ true → (has_key es p ≡ true) ⊎ (p ≡ k)) → (p ≡ x.0) ⊎ (has_key (puts k a es) p ≡ true) → (has_key (x ∷ es) p ≡ true) ⊎ (p ≡ k)
+      beyond rest (inl same) = inl (first p x.0 x.1 (entry_at p es) same)
+      beyond rest (inr e) = passed (rest e)
+
+      by : (o : Ordering) → (has_key (puts k a es) p ≡ true → (has_key es p ≡ true) ⊎ (p ≡ k)) → has_key (match_ordering o ((k, a) ∷ x ∷ es) ((x.0, a) ∷ es) (x ∷ puts k a es)) p ≡ true
+          → (has_key (x ∷ es) p ≡ true) ⊎ (p ≡ k)
+      by Less rest e = turned (ahead p k a (entry_at p (x ∷ es)) e)
+      by Equal rest e = inl (over (ahead p x.0 a (entry_at p es) e))
+      by Greater rest e = beyond rest (ahead p x.0 x.1 (entry_at p (puts k a es)) e)
 
 -- one of two
 pub either_or : (a b : Bool) → (a || b) ≡ true → (a ≡ true) ⊎ (b ≡ true)
