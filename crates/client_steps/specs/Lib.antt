@@ -1,5 +1,4 @@
 pub mod Client
-pub mod DgramSharing
 pub mod Headline
 pub mod Machines
 pub mod SamePlaces

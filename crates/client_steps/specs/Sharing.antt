@@ -4,6 +4,7 @@ use Rattle.std.proofs.Common.{refl, ap, sym, subst, ◌∙◌, le_refl, inl}
 use Rattle.client_request.specs.Request.{Request}
 use Rattle.client_request.specs.Requests.{Requests, for_several}
 use Rattle.client_request.specs.View.{View, Heard}
+use Rattle.client_request.specs.declared.event.Via.TheVariants as via
 use Rattle.client_choice.specs.Places.{IsUnused, Opens, place_of}
 use Rattle.client_dgram.specs.Plain as dgram
 use Rattle.client_multi.specs.Fallback as fallback
@@ -62,9 +63,9 @@ module _ {R : Type 0} (requests : Requests R) where
   lifted of had c v (Some y) same l = same y.0 y.1 l
 
   sent : (r : R) (u : Upstream R) (v : View) → growing.Leads (Opens has u v) (plain.plain_send requests r u v)
-  sent r (server.Dgram c) v = lifted server.Dgram by_dgrams.has c v _ (λ d x o. o) (by_dgrams_drawn.sends r c _)
-  sent r (server.Stream c) v = lifted server.Stream streams_have c v _ (λ d x o. o) (by_streams_drawn.sends r c _)
-  sent r (server.DgramStream c) v = lifted server.DgramStream (by_either.has by_dgrams.has streams_have) c v _ (λ d x o. o) (by_both_drawn.sends r c _)
+  sent r (server.Dgram c) v = lifted server.Dgram by_dgrams.has c v _ (λ d x o. o) (by_dgrams_drawn.sends r c (plain.started requests c.server via.Dgram v))
+  sent r (server.Stream c) v = lifted server.Stream streams_have c v _ (λ d x o. o) (by_streams_drawn.sends r c (plain.started requests c.server via.Stream v))
+  sent r (server.DgramStream c) v = lifted server.DgramStream (by_either.has by_dgrams.has streams_have) c v _ (λ d x o. o) (by_both_drawn.sends r c (plain.started requests c.server via.Dgram v))
 
   stepped : (h : Heard) (u : Upstream R) (v : View) → growing.Leads (Opens has u v) (plain.plain_step requests h u v)
   stepped h (server.Dgram c) v = lifted server.Dgram by_dgrams.has c v _ (λ d x o. o) (by_dgrams_drawn.steps h c v)
@@ -91,11 +92,11 @@ module _ {R : Type 0} (requests : Requests R) where
 
   -- what happens at another place is nothing to it
   pub ignores : (h : Heard) (p : ℕ) (u : Upstream R) (v : View) → place_of h ≡ Some p → has u p ≡ false → plain.plain_step requests h u v ≡ Some (u, v)
-  ignores h p (server.Dgram c) v e no = ap (leaves server.Dgram) (by_dgrams.ignores requests h p c v (same_place h ∙ e) no)
-  ignores h p (server.Stream c) v e no = ap (leaves server.Stream) (by_stream.ignores (one_stream requests) h p c v (same_place h ∙ e) no)
-  ignores h p (server.DgramStream c) v e no =
+  ignores h p (server.Dgram c) v e absent = ap (leaves server.Dgram) (by_dgrams.ignores requests h p c v (same_place h ∙ e) absent)
+  ignores h p (server.Stream c) v e absent = ap (leaves server.Stream) (by_stream.ignores (one_stream requests) h p c v (same_place h ∙ e) absent)
+  ignores h p (server.DgramStream c) v e absent =
       ap (leaves server.DgramStream)
-      (by_either.ignores by_dgrams.has streams_have (dgram.transport requests) (by_streams requests) (by_dgrams.ignores requests) (by_stream.ignores (one_stream requests)) h p c v (same_place h ∙ e) no)
+      (by_either.ignores by_dgrams.has streams_have (dgram.transport requests) (by_streams requests) (by_dgrams.ignores requests) (by_stream.ignores (one_stream requests)) h p c v (same_place h ∙ e) absent)
 
 -- it has none as it begins
 unused : (t : Transports) (number : ℕ) (by_streams : Bool) (p : ℕ) → has (upstream_at t number by_streams) p ≡ false

@@ -1,7 +1,6 @@
 //! One server, by the transports that are used for it.
 
 ghost use Rattle.std.specs.Prelude.{◌≡◌, true, false};
-ghost use Rattle.client_steps.specs.DgramSharing as by_dgrams;
 ghost use Rattle.client_steps.specs.Sharing as sharing;
 ghost use Rattle.client_steps.specs.Upstream as plain;
 
@@ -182,16 +181,4 @@ impl<CR: ComposeRequest> SharesPlaces<CR> for Upstream<CR> {
     ghost steps = { sharing.steps CR.requests };
 
     ghost cancels = { sharing.cancels CR.requests };
-}
-
-impl<CR: ComposeRequest> SharesPlaces<CR> for client_dgram::Connection<CR> {
-    ghost has = { by_dgrams.has };
-
-    ghost ignores = { by_dgrams.ignores CR.requests };
-
-    ghost sends = { by_dgrams.sends CR.requests };
-
-    ghost steps = { by_dgrams.steps CR.requests };
-
-    ghost cancels = { by_dgrams.cancels CR.requests };
 }

@@ -1,6 +1,6 @@
 -- The places of a transport by datagrams: what happens at others is nothing to it, and it draws those that it comes to have.
 use Rattle.std.specs.Prelude.{◌≡◌, ℕ, zero, suc, ◌+◌, nat_lt, take, Bool, true, false, if◌then◌else◌, List, [], ◌∷◌, Option, Some, None, option_and_then, Result, Ok, Err}
-use Rattle.std.proofs.Common.{refl, ap, subst, le_refl, inl}
+use Rattle.std.proofs.Common.{refl, ap, le_refl, inl}
 use Rattle.client_request.specs.Board.{Part}
 use Rattle.client_request.specs.Numbered.{frees, entry_at}
 use Rattle.client_request.specs.Requests.{Requests}
@@ -20,7 +20,7 @@ use Rattle.client_dgram.specs.declared.job.Job.{Job}
 use Rattle.client_dgram.specs.declared.job.Stage.{Stage}
 use Rattle.client_dgram.specs.declared.job.Stage.TheVariants as at
 use Rattle.proof_sharing.specs.Growing.{Leads, Opens, AreKnown, fewer, one_more, place_in, place_of}
-use Rattle.proof_sharing.specs.Tables.{has_key, freed, put, no_entry}
+use Rattle.proof_sharing.specs.Tables.{has_key, freed, put, no_entry, same_entry}
 
 -- whether it has a place
 abbrev pub has : {R : Type 0} → Dgram R → ℕ → Bool
@@ -183,9 +183,6 @@ module _ {R : Type 0} where
     cancels ticket s v = whole s v (dgram.drops s.server ticket s.tables v) (dropped requests s.server s.settings (has s) v.place ticket s.tables v (at_first s.tables v))
 
 -- what happens at another place
-same_entry : (q p : ℕ) → Some q ≡ Some p → (es : List (ℕ × ℕ)) → entry_at p es ≡ None → entry_at q es ≡ None
-same_entry q p e es none = (let same : p ≡ q = cc in subst (λ q. entry_at q es ≡ None) same none)
-
 module _ {R : Type 0} where
   tells_nothing : (s : Tables R) (v : View) (p : ℕ) → entry_at p s.places ≡ None → (f : ℕ → Job R → Tables R → View → dgram.After R) → dgram.at_place f p s v ≡ Some (s, v)
   tells_nothing s v p none f = ap (λ o. dgram.at_ticket f s v o) none

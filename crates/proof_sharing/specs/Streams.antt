@@ -20,7 +20,7 @@ use Rattle.client_multi.specs.declared.multi_stream.job.Stage.{Stage}
 use Rattle.client_multi.specs.declared.multi_stream.job.Stage.TheVariants.{Waiting, Resting, Held}
 use Rattle.proof_sharing.specs.Growing.{Leads, Opens, AreKnown, IsKnown, chain, fewer, one_more, place_in, place_of}
 use Rattle.proof_sharing.specs.Lines.{DrawsNone}
-use Rattle.proof_sharing.specs.Tables.{has_key, has_entry, freed, put, no_entry, either_or, or_left, or_right, neither}
+use Rattle.proof_sharing.specs.Tables.{has_key, has_entry, freed, put, no_entry, same_entry, either_or, or_left, or_right, neither}
 
 module _ {R S : Type 0} where
   -- whether the tables have a place, and whether it does
@@ -29,13 +29,6 @@ module _ {R S : Type 0} where
 
   abbrev pub has : MultiStream R S → ℕ → Bool
   has s p = has_in s.tables p
-
-is_own : (p : ℕ) (o : Option ℕ) → multi.is_number p o ≡ true → o ≡ Some p
-is_own p None e = absurd (cc)
-is_own p (Some q) e = ap Some (same e)
-  where
-    same : (p == q) ≡ true → q ≡ p
-    same e = grind (arith, nat_tests)
 
 its_number : (p m : ℕ) → multi.is_number p (Some m) ≡ true → p ≡ m
 its_number p m e = grind (arith, nat_tests)
@@ -300,9 +293,6 @@ module _ {R S : Type 0} (below : OneStream R S) (none : DrawsNone below.calls) w
 -- what happens at another place
 not_own : (q p : ℕ) → Some q ≡ Some p → (o : Option ℕ) → multi.is_number p o ≡ false → multi.is_number q o ≡ false
 not_own q p e o absent = (let same : p ≡ q = cc in subst (λ q. multi.is_number q o ≡ false) same absent)
-
-same_entry : {A : Type 0} (q p : ℕ) → Some q ≡ Some p → (es : List (ℕ × A)) → entry_at p es ≡ None → entry_at q es ≡ None
-same_entry q p e es none = (let same : p ≡ q = cc in subst (λ q. entry_at q es ≡ None) same none)
 
 module _ {R S : Type 0} (below : OneStream R S) where
   called_nothing : (place : ℕ) (step : Step S) (s : Tables R S) (v : View) → entry_at place s.connections ≡ None → multi.calls_at below place step s v ≡ Some (s, v)

@@ -1,6 +1,6 @@
 -- Which keys a table by number has.
 use Rattle.std.specs.Prelude.{◌≡◌, ℕ, ◌||◌, ◌⊎◌, Bool, true, false, List, [], ◌∷◌, Option, Some, None, is_some}
-use Rattle.std.proofs.Common.{inl, inr, refl, ap, cond, arith, Ordering, Less, Equal, Greater, nat_cmp, is_eq}
+use Rattle.std.proofs.Common.{inl, inr, refl, ap, subst, cond, arith, Ordering, Less, Equal, Greater, nat_cmp, is_eq}
 use Rattle.std.proofs.lemmas.Bool.Decides.{nat_tests}
 use Rattle.std.specs.Ordering.{match_ordering}
 use Rattle.client_request.specs.Numbered.{puts, frees, entry_at}
@@ -18,6 +18,9 @@ module _ {A : Type 0} where
       by : (o : Option A) → is_some o ≡ false → o ≡ None
       by None e = refl
       by (Some a) e = absurd (cc)
+
+  pub same_entry : (q p : ℕ) → Some q ≡ Some p → (es : List (ℕ × A)) → entry_at p es ≡ None → entry_at q es ≡ None
+  same_entry q p e es none = (let same : p ≡ q = cc in subst (λ q. entry_at q es ≡ None) same none)
 
   -- a key that is there is first, or behind
   ahead : (p x : ℕ) (a : A) (o : Option A) → is_some (cond (is_eq (nat_cmp p x)) (Some a) o) ≡ true → (p ≡ x) ⊎ (is_some o ≡ true)

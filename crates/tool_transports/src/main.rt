@@ -18,6 +18,7 @@ mod poor;
 mod reading;
 mod resolving;
 mod saying;
+mod server;
 mod servers;
 mod settings;
 mod sockets;

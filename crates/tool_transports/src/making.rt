@@ -7,7 +7,8 @@
 //! least estimate one is slow.
 
 use crate::reading::{first_word, number};
-use crate::transport::{Server, Transport};
+use crate::server::Server;
+use crate::transport::Transport;
 use client_choice::{load_balancer, redundant};
 use client_multi::dgram_stream;
 use std::alloc::Global;
@@ -17,7 +18,7 @@ fn dgram(alloc: Global, words: &str) -> Option<Transport> {
     let mut config = client_dgram::Config::new();
     config.set_max_parallel(number(parallel)? as usize);
     config.set_max_retries(retries.parse::<u8>().ok()?);
-    let server = Server::with_config(alloc, 0, config).ok()?;
+    let server = client_dgram::Connection::with_config(alloc, 0, config).ok()?;
     Some(Transport::Dgram(server))
 }
 
@@ -42,7 +43,7 @@ fn choice_config(words: &str) -> redundant::Config {
     config
 }
 
-#[tactic(auto, using(client_steps::specs::DgramSharing::unused_at))]
+#[tactic(auto, using(crate::specs::Sharing::unused_at))]
 fn choice(alloc: Global, words: &str) -> Option<Transport> {
     let (count, put_off) = first_word(words);
     let mut choice = redundant::Connection::with_config(alloc, choice_config(put_off));

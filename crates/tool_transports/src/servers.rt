@@ -6,7 +6,7 @@
 
 use crate::reading::{first_word, message_of, number};
 use crate::saying::{say_name, say_octets, say_value};
-use crate::transport::Server;
+use crate::server::Server;
 use client_cache::Connection;
 use client_choice::{Stats, serve_fail};
 use client_request::RequestMessage;

@@ -1,6 +1,7 @@
 //! A transport, and its calls.
 
 use crate::lent::{Lent, Response};
+use crate::server::Server;
 use crate::streams::multi::Multi;
 use crate::streams::stream::Stream;
 use client_choice::{load_balancer, redundant};
@@ -8,11 +9,9 @@ use client_multi::dgram_stream;
 use client_request::{Cx, Error, ListWords, Pending, RequestMessage, SendRequest, Signal};
 use std::alloc::Global;
 
-/// A server that is asked by datagrams.
-pub type Server = client_dgram::Connection<RequestMessage>;
-
 pub enum Transport {
-    Dgram(Server),
+    /// A server that is asked by datagrams.
+    Dgram(client_dgram::Connection<RequestMessage>),
     /// A server by datagrams, and by streams where one was truncated.
     Fallback(dgram_stream::Connection<RequestMessage>),
     /// Servers of which the one that is expected to answer first is asked first.

@@ -1,4 +1,4 @@
--- The places of a transport by datagrams: what happens at others is nothing to it, and it draws those that it comes to have.
+-- The places of a server by datagrams: what happens at others is nothing to it, and it draws those that it comes to have.
 use Rattle.std.specs.Prelude.{◌≡◌, ℕ, Bool, false, Some}
 use Rattle.std.proofs.Common.{refl, sym, subst, ◌∙◌}
 use Rattle.client_request.specs.Requests.{Requests}
@@ -16,7 +16,7 @@ has c p = drawn.has c p
 
 module _ {R : Type 0} (requests : Requests R) where
   pub ignores : (h : Heard) (p : ℕ) (c : Dgram R) (v : View) → place_of h ≡ Some p → has c p ≡ false → dgram.plain_step requests h c v ≡ Some (c, v)
-  ignores h p c v e no = drawn.ignores requests h p c v (same_place h ∙ e) no
+  ignores h p c v e absent = drawn.ignores requests h p c v (same_place h ∙ e) absent
 
   pub sends : (r : R) (c : Dgram R) (v : View) (d : Dgram R) (x : View) → dgram.plain_send requests r c v ≡ Some (d, x) → Opens has c v d x
   sends r c v d x e = growing.led (Opens has c v) (dgram.plain_send requests r c v) d x (drawn.sends requests r c v) e
