@@ -47,7 +47,6 @@ fn upstream_at(
 }
 
 /// Adds a server of this number. A number past 32 bits counts as want of memory.
-#[tactic(auto, using(client_steps::specs::Sharing::unused_at))]
 pub(crate) fn add_server(
     alloc: Global,
     servers: &mut Servers,

@@ -11,6 +11,8 @@
 //!   is truncated. It tells by `Start` that a request goes to the server, before the transport takes it, and `Handed` is
 //!   the transport's response. A request of another transport is given up by doing nothing. The client takes the last two
 //!   kinds, by `upstream_at`: streams alone where `options use-vc` or the server says so.
+//!   It may be one of several (`SharesPlaces`): what happens at a place that its transport does not have is nothing to it, and
+//!   it comes to have no places but those that it draws (`Sharing`).
 //! - `take_in`, over any transport: the plain client's step (`ClientHolds`: what is lent, the step, used-up numbers, the
 //!   flags of what it holds, and each refusal). Timers that are due fire until none is due, then the event happens, then
 //!   timers that are due fire again. Where 2^64 - 1 of them were not enough the answer is `NumbersUsed`, since each has a

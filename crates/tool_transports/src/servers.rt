@@ -6,11 +6,12 @@
 
 use crate::reading::{first_word, message_of, number};
 use crate::saying::{say_name, say_octets, say_value};
-use crate::server::Server;
 use client_cache::Connection;
 use client_choice::{Stats, serve_fail};
 use client_request::RequestMessage;
 use std::alloc::Global;
+
+type Server = client_dgram::Connection<RequestMessage>;
 
 fn hear(stats: &mut Stats, words: &str) -> Option<()> {
     let (word, micros) = first_word(words);
