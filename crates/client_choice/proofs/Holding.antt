@@ -18,7 +18,7 @@ module _ {A : Type 0} where
   -- the entry at a key that is put
   at_put : (k : ℕ) (v : A) (es : List (ℕ × A)) → entry_at k (puts k v es) ≡ Some v
   at_put k v [] = here k k v None refl
-  at_put k v (e ∷ es) = by (nat_cmp k e.0) refl
+  at_put k v (e ∷ es) = by (nat_cmp k e.0) refl (at_put k v es)
     where
       same : nat_cmp k e.0 ≡ Equal → k ≡ e.0
       same h = grind (arith, nat_tests)
@@ -26,10 +26,10 @@ module _ {A : Type 0} where
       other : nat_cmp k e.0 ≡ Greater → k ≡ e.0 → ⊥
       other h s = grind (arith, nat_tests)
 
-      by : (r : Ordering) → nat_cmp k e.0 ≡ r → entry_at k (match_ordering r ((k, v) ∷ e ∷ es) ((e.0, v) ∷ es) (e ∷ puts k v es)) ≡ Some v
-      by Less h = here k k v _ refl
-      by Equal h = here k e.0 v _ (same h)
-      by Greater h = there k e.0 e.1 _ (other h) ∙ at_put k v es
+      by : (r : Ordering) → nat_cmp k e.0 ≡ r → entry_at k (puts k v es) ≡ Some v → entry_at k (match_ordering r ((k, v) ∷ e ∷ es) ((e.0, v) ∷ es) (e ∷ puts k v es)) ≡ Some v
+      by Less h later = here k k v _ refl
+      by Equal h later = here k e.0 v _ (same h)
+      by Greater h later = there k e.0 e.1 _ (other h) ∙ later
 
   same_after : (q x : ℕ) (v : A) (o p : Option A) → o ≡ p → cond (is_eq (nat_cmp q x)) (Some v) o ≡ cond (is_eq (nat_cmp q x)) (Some v) p
   same_after q x v o p e = ap (cond (is_eq (nat_cmp q x)) (Some v)) e
@@ -37,15 +37,15 @@ module _ {A : Type 0} where
   -- and at each other
   beside_put : (k q : ℕ) (v : A) (es : List (ℕ × A)) → (q ≡ k → ⊥) → entry_at q (puts k v es) ≡ entry_at q es
   beside_put k q v [] ne = there q k v None ne
-  beside_put k q v (e ∷ es) ne = by (nat_cmp k e.0) refl
+  beside_put k q v (e ∷ es) ne = by (nat_cmp k e.0) refl (beside_put k q v es ne)
     where
       apart : nat_cmp k e.0 ≡ Equal → q ≡ e.0 → ⊥
       apart h s = ne (let same : k ≡ e.0 = grind (arith, nat_tests) in s ∙ sym same)
 
-      by : (r : Ordering) → nat_cmp k e.0 ≡ r → entry_at q (match_ordering r ((k, v) ∷ e ∷ es) ((e.0, v) ∷ es) (e ∷ puts k v es)) ≡ entry_at q (e ∷ es)
-      by Less h = there q k v _ ne
-      by Equal h = there q e.0 v (entry_at q es) (apart h) ∙ sym (there q e.0 e.1 (entry_at q es) (apart h))
-      by Greater h = same_after q e.0 e.1 _ _ (beside_put k q v es ne)
+      by : (r : Ordering) → nat_cmp k e.0 ≡ r → entry_at q (puts k v es) ≡ entry_at q es → entry_at q (match_ordering r ((k, v) ∷ e ∷ es) ((e.0, v) ∷ es) (e ∷ puts k v es)) ≡ entry_at q (e ∷ es)
+      by Less h later = there q k v _ ne
+      by Equal h later = there q e.0 v (entry_at q es) (apart h) ∙ sym (there q e.0 e.1 (entry_at q es) (apart h))
+      by Greater h later = same_after q e.0 e.1 _ _ later
 
 or_right : (a b : Bool) → b ≡ true → (a || b) ≡ true
 or_right true b e = refl

@@ -1,11 +1,11 @@
 -- What is known of the places of servers, as one of them is changed, and what that spares.
 use Rattle.std.proofs.Common.{◌≡◌, ℕ, zero, suc, ◌+◌, ◌<◌, ◌≤◌, ◌⊎◌, inl, inr, Bool, true, false, ◌==◌, List, [], ◌∷◌, ◌++◌, length, Option, Some, None, refl, sym, ap, subst, ◌∙◌, arith, slice_get, slice_set}
-use Rattle.std.specs.Prelude.{option_map, set, ◌&&◌}
+use Rattle.std.specs.Prelude.{option_map, set}
 use Rattle.std.proofs.lemmas.Bool.Decides.{nat_tests}
 use Rattle.client_request.specs.View.{View, Heard, Transport}
 use Rattle.client_choice.specs.Places.{may_hold, is_number, Learns, AreKnown, IsQuiet, Opens, IsUnused, place_of}
 use Rattle.client_choice.specs.Redundant.{all_lined_up, by_estimate, entry_of, lined_up}
-use Rattle.client_choice.specs.Servers.{Server, added, onto, hears, hears_at, hears_found, heard, starts, started, starts_at, starts_found, sends, sent, sends_at, sends_found, hands_on, drops, dropped, drops_at, drops_found, judged, judges, judges_found, disowned, disowned_at}
+use Rattle.client_choice.specs.Servers.{Server, added, onto, hears, hears_at, hears_found, heard, starts, started, starts_at, starts_found, sends, sent, sends_at, sends_found, hands_on, drops, dropped, drops_at, drops_found, disowned, disowned_at}
 use Rattle.client_choice.specs.declared.job.ListedServer.{ListedServer}
 use Rattle.client_choice.specs.declared.holders.Holders.{Holders}
 use Rattle.client_choice.specs.declared.servers.Reply.{Reply}
@@ -87,9 +87,20 @@ set_same [] i x e = absurd (cc)
 set_same (y ∷ xs) zero x e = (let same : y ≡ x = cc in ap (λ z. z ∷ xs) (sym same))
 set_same (y ∷ xs) (suc i) x e = ap (λ zs. y ∷ zs) (set_same xs i x e)
 
+module _ {A U : Type 0} where
+  -- What a call of the server of an index leaves of all servers.
+  abbrev answered : ℕ → List (Server U) → (A × Server U) × View → (Option A × List (Server U)) × View
+  answered i servers x = ((Some x.0.0, set servers i x.0.1), x.1)
+
+  abbrev told : ℕ → List (Server U) → (A × Server U) × View → (A × List (Server U)) × View
+  told i servers x = ((x.0.0, set servers i x.0.1), x.1)
+
+abbrev left : {U : Type 0} → ℕ → List (Server U) → Server U × View → List (Server U) × View
+left i servers x = (set servers i x.0, x.1)
+
 not_true : (b : Bool) → (b ≡ true → ⊥) → b ≡ false
-not_true true no = absurd (no refl)
-not_true false no = refl
+not_true true is_not = absurd (is_not refl)
+not_true false is_not = refl
 
 module _ {R U P : Type 0} (has : U → ℕ → Bool) (below : Transport R U P) where
   -- the laws of a transport that leaves alone places of others
@@ -100,18 +111,24 @@ module _ {R U P : Type 0} (has : U → ℕ → Bool) (below : Transport R U P) w
   nothing_heard s v o step quiet = ap (option_map (heard below s v)) step ∙ ap (λ (b : List Posted). Some ((b, record s { posted = [] }), v)) quiet ∙ ap (λ (b : List Posted). Some (([], record s { posted = b }), v)) (sym quiet)
 
   -- A server that may not have the place hears nothing.
-  pub passed_over : (k : Holders) (servers : List (Server U)) (h : Heard) (p : ℕ) → Ignores → AreKnown has k servers → place_of h ≡ Some p
+  passed_over : (k : Holders) (servers : List (Server U)) (h : Heard) (p : ℕ) → Ignores → AreKnown has k servers → place_of h ≡ Some p
       → (i : ℕ) (v : View) → may_hold k p i ≡ false → hears_at below i h servers v ≡ Some (([], servers), v)
-  passed_over k servers h p ignores known at i v no = by (slice_get servers i) refl
+  passed_over k servers h p ignores known at i v other = by (slice_get servers i) refl
     where
       has_not : (s : Server U) → slice_get servers i ≡ Some s → has s.upstream p ≡ false
-      has_not s e = not_true (has s.upstream p) (λ is. (let yes = known.held i s p e is in cc))
+      has_not s e = not_true (has s.upstream p) (λ is. (let held = known.held i s p e is in cc))
 
       by : (o : Option (Server U)) → slice_get servers i ≡ o → hears_found below i h servers v o ≡ Some (([], servers), v)
       by None e = refl
       by (Some s) e =
-          ap (option_map (λ x. ((x.0.0, set servers i x.0.1), x.1))) (nothing_heard s v (below.step h s.upstream (onto s.posted v)) (ignores h p s.upstream (onto s.posted v) at (has_not s e)) (known.quiet i s e))
+          ap (option_map (told i servers)) (nothing_heard s v (below.step h s.upstream (onto s.posted v)) (ignores h p s.upstream (onto s.posted v) at (has_not s e)) (known.quiet i s e))
           ∙ ap (λ (xs : List (Server U)). Some (([], xs), v)) (set_same servers i s e)
+
+  -- the same, as the servers are seen
+  pub passed_over_at : (k : Holders) (servers now : List (Server U)) (h : Heard) (p : ℕ) → servers ≡ now → Ignores → AreKnown has k servers → place_of h ≡ Some p
+      → (i : ℕ) (v : View) → may_hold k p i ≡ false → hears_at below i h now v ≡ Some (([], now), v)
+  passed_over_at k servers now h p same ignores known at i v other =
+      subst (λ (xs : List (Server U)). hears_at below i h xs v ≡ Some (([], xs), v)) same (passed_over k servers h p ignores known at i v other)
 
   -- ---- what a call of its transport leaves of a server
 
@@ -170,10 +187,6 @@ module _ {R U P : Type 0} (has : U → ℕ → Bool) (below : Transport R U P) w
       by None e = absurd (cc)
       by (Some x) e = (let same : heard below s v x ≡ ((b, t), w) = cc in subst (λ (y : (List Posted × Server U) × View). y.0.1.posted ≡ []) same refl)
 
-both_true : (a b : Bool) → (a && b) ≡ true → (a ≡ true) × (b ≡ true)
-both_true true b e = (refl, e)
-both_true false b e = absurd (cc)
-
 -- ---- the order of servers
 
 module _ {U : Type 0} where
@@ -205,10 +218,10 @@ module _ {R U P : Type 0} (has : U → ℕ → Bool) (below : Transport R U P) (
   pub all_started : (ticket : ℕ) (r : R) (servers new : List (Server U)) (v w : View) (b : Option (Reply P)) → Law below.send → starts_at below i ticket r servers v ≡ Some ((b, new), w) → AreCalled servers v new w
   all_started ticket r servers new v w b law e = by (slice_get servers i) refl e
     where
-      one : (s : Server U) → slice_get servers i ≡ Some s → (o : Option ((Reply P × Server U) × View)) → starts below ticket r s v ≡ o → option_map (λ x. ((Some x.0.0, set servers i x.0.1), x.1)) o ≡ Some ((b, new), w) → AreCalled servers v new w
+      one : (s : Server U) → slice_get servers i ≡ Some s → (o : Option ((Reply P × Server U) × View)) → starts below ticket r s v ≡ o → option_map (answered i servers) o ≡ Some ((b, new), w) → AreCalled servers v new w
       one s at None is e = absurd (cc)
       one s at (Some x) is e =
-          let same : ((Some x.0.0, set servers i x.0.1), x.1) ≡ ((b, new), w) = cc in
+          let same : answered i servers x ≡ ((b, new), w) = cc in
           inr (s, x.0.1, at, sym (ap (λ (y : (Option (Reply P) × List (Server U)) × View). y.0.1) same), subst (λ w. Called has below s v x.0.1 w) (ap (λ (y : (Option (Reply P) × List (Server U)) × View). y.1) same) (was_started has below ticket r s x.0.1 v x.1 x.0.0 (law r) is))
 
       by : (o : Option (Server U)) → slice_get servers i ≡ o → starts_found below i ticket r servers v o ≡ Some ((b, new), w) → AreCalled servers v new w
@@ -218,10 +231,10 @@ module _ {R U P : Type 0} (has : U → ℕ → Bool) (below : Transport R U P) (
   pub all_sent : (r : R) (servers new : List (Server U)) (v w : View) (b : Option P) → Law below.send → sends_at below i r servers v ≡ Some ((b, new), w) → AreCalled servers v new w
   all_sent r servers new v w b law e = by (slice_get servers i) refl e
     where
-      one : (s : Server U) → slice_get servers i ≡ Some s → (o : Option ((P × Server U) × View)) → sends below r s v ≡ o → option_map (λ x. ((Some x.0.0, set servers i x.0.1), x.1)) o ≡ Some ((b, new), w) → AreCalled servers v new w
+      one : (s : Server U) → slice_get servers i ≡ Some s → (o : Option ((P × Server U) × View)) → sends below r s v ≡ o → option_map (answered i servers) o ≡ Some ((b, new), w) → AreCalled servers v new w
       one s at None is e = absurd (cc)
       one s at (Some x) is e =
-          let same : ((Some x.0.0, set servers i x.0.1), x.1) ≡ ((b, new), w) = cc in
+          let same : answered i servers x ≡ ((b, new), w) = cc in
           inr (s, x.0.1, at, sym (ap (λ (y : (Option P × List (Server U)) × View). y.0.1) same), subst (λ w. Called has below s v x.0.1 w) (ap (λ (y : (Option P × List (Server U)) × View). y.1) same) (was_sent has below r s x.0.1 v x.1 x.0.0 (law r) is))
 
       by : (o : Option (Server U)) → slice_get servers i ≡ o → sends_found below i r servers v o ≡ Some ((b, new), w) → AreCalled servers v new w
@@ -232,10 +245,10 @@ module _ {R U P : Type 0} (has : U → ℕ → Bool) (below : Transport R U P) (
       → hears_at below i h servers v ≡ Some ((b, new), w) → AreCalled servers v new w
   all_heard h servers new v w b law e = by (slice_get servers i) refl e
     where
-      one : (s : Server U) → slice_get servers i ≡ Some s → (o : Option ((List Posted × Server U) × View)) → hears below h s v ≡ o → option_map (λ x. ((x.0.0, set servers i x.0.1), x.1)) o ≡ Some ((b, new), w) → AreCalled servers v new w
+      one : (s : Server U) → slice_get servers i ≡ Some s → (o : Option ((List Posted × Server U) × View)) → hears below h s v ≡ o → option_map (told i servers) o ≡ Some ((b, new), w) → AreCalled servers v new w
       one s at None is e = absurd (cc)
       one s at (Some x) is e =
-          let same : ((x.0.0, set servers i x.0.1), x.1) ≡ ((b, new), w) = cc in
+          let same : told i servers x ≡ ((b, new), w) = cc in
           inr (s, x.0.1, at, sym (ap (λ (y : (List Posted × List (Server U)) × View). y.0.1) same), subst (λ w. Called has below s v x.0.1 w) (ap (λ (y : (List Posted × List (Server U)) × View). y.1) same) (was_heard has below h s x.0.1 v x.1 x.0.0 law is))
 
       by : (o : Option (Server U)) → slice_get servers i ≡ o → hears_found below i h servers v o ≡ Some ((b, new), w) → AreCalled servers v new w
@@ -246,10 +259,10 @@ module _ {R U P : Type 0} (has : U → ℕ → Bool) (below : Transport R U P) (
       → drops_at below i lower r servers v ≡ Some (new, w) → AreCalled servers v new w
   all_dropped lower r servers new v w law e = by (slice_get servers i) refl e
     where
-      one : (s : Server U) → slice_get servers i ≡ Some s → (o : Option (Server U × View)) → drops below lower r s v ≡ o → option_map (λ x. (set servers i x.0, x.1)) o ≡ Some (new, w) → AreCalled servers v new w
+      one : (s : Server U) → slice_get servers i ≡ Some s → (o : Option (Server U × View)) → drops below lower r s v ≡ o → option_map (left i servers) o ≡ Some (new, w) → AreCalled servers v new w
       one s at None is e = absurd (cc)
       one s at (Some x) is e =
-          let same : (set servers i x.0, x.1) ≡ (new, w) = cc in
+          let same : left i servers x ≡ (new, w) = cc in
           inr (s, x.0, at, sym (ap (λ (y : List (Server U) × View). y.0) same), subst (λ w. Called has below s v x.0 w) (ap (λ (y : List (Server U) × View). y.1) same) (was_dropped has below lower r s x.0 v x.1 law is))
 
       by : (o : Option (Server U)) → slice_get servers i ≡ o → drops_found below i lower r servers v o ≡ Some (new, w) → AreCalled servers v new w
@@ -267,45 +280,43 @@ module _ {R U P : Type 0} (has : U → ℕ → Bool) (below : Transport R U P) (
   order_after servers new v w (inr x) = ap by_estimate x.3 ∙ order_kept servers i x.0 x.1 x.2 x.4.stats
 
   -- What is known after a call, where it was known before and the board is empty; and the order stays.
-  pub kept_after : (h k : Holders) (order : List ListedServer) (servers new : List (Server U)) (v w : View) (was quiet was_ordered : Bool) → AreCalled servers v new w → Learns h k i v.place w.place → (quiet ≡ true → IsQuiet i new)
+  pub kept_after : (h k : Holders) (order : List ListedServer) (servers new seen : List (Server U)) (v w : View) (was known was_ordered : Bool)
+      → AreCalled servers v new w → Learns h k i v.place w.place → (known ≡ true → was ≡ true) → (known ≡ true → IsQuiet i seen) → seen ≡ new
       → (was ≡ true → AreKnown has h servers) × (was_ordered ≡ true → order ≡ by_estimate servers)
-      → ((was && quiet) ≡ true → AreKnown has k new) × (was_ordered ≡ true → order ≡ by_estimate new)
-  kept_after h k order servers new v w was quiet was_ordered called learns empty before = (
-    λ is. (let x = both_true was quiet is in known_after h k servers new v w called learns (empty x.1) (before.0 x.0)),
+      → (known ≡ true → AreKnown has k new) × (was_ordered ≡ true → order ≡ by_estimate new)
+  kept_after h k order servers new seen v w was known was_ordered called learns only quiet same before = (
+    λ is. known_after h k servers new v w called learns (subst (IsQuiet i) same (quiet is)) (before.0 (only is)),
     λ is. before.1 is ∙ sym (order_after servers new v w called),
   )
 
 module _ {U : Type 0} (has : U → ℕ → Bool) where
-  -- how long a server takes is told anew
-  pub judged_known : (h : Holders) (i : ℕ) (is_giver : Bool) (elapsed : ℕ) (servers : List (Server U)) → AreKnown has h servers → AreKnown has h (judges i is_giver elapsed servers)
-  judged_known h i is_giver elapsed servers known = by (slice_get servers i) refl
-    where
-      by : (o : Option (Server U)) → slice_get servers i ≡ o → AreKnown has h (judges_found i is_giver elapsed servers o)
-      by None e = known
-      by (Some s) e = retouched has h servers i s (judged is_giver elapsed s) e refl refl known
-
   -- a request waits at a server no more
-  pub disowned_known : (h : Holders) (i lower : ℕ) (servers : List (Server U)) → AreKnown has h servers → AreKnown has h (disowned i lower servers)
+  disowned_known : (h : Holders) (i lower : ℕ) (servers : List (Server U)) → AreKnown has h servers → AreKnown has h (disowned i lower servers)
   disowned_known h i lower servers known = by (slice_get servers i) refl
     where
       by : (o : Option (Server U)) → slice_get servers i ≡ o → AreKnown has h (disowned_at i lower servers o)
       by None e = known
       by (Some s) e = retouched has h servers i s _ e refl refl known
 
-  pub disowned_order : (i lower : ℕ) (servers : List (Server U)) → by_estimate (disowned i lower servers) ≡ by_estimate servers
+  disowned_order : (i lower : ℕ) (servers : List (Server U)) → by_estimate (disowned i lower servers) ≡ by_estimate servers
   disowned_order i lower servers = by (slice_get servers i) refl
     where
       by : (o : Option (Server U)) → slice_get servers i ≡ o → by_estimate (disowned_at i lower servers o) ≡ by_estimate servers
       by None e = refl
       by (Some s) e = order_kept servers i s _ e refl
 
-module _ {U : Type 0} where
-  pub quiet_where_empty : (i : ℕ) (servers : List (Server U)) (s : Server U) → slice_get servers i ≡ Some s → (length s.posted == 0) ≡ true → IsQuiet i servers
-  quiet_where_empty i servers s at empty t e = (let same : s ≡ t = cc in subst (λ (s : Server U). s.posted ≡ []) same (none s.posted empty))
-    where
-      none : (ps : List Posted) → (length ps == 0) ≡ true → ps ≡ []
-      none [] e = refl
-      none (p ∷ ps) e = absurd (grind (arith, nat_tests))
+  pub kept_disowned : (h : Holders) (order : List ListedServer) (i lower : ℕ) (servers new : List (Server U)) (known is_ordered : Bool) → new ≡ disowned i lower servers
+      → (known ≡ true → AreKnown has h servers) × (is_ordered ≡ true → order ≡ by_estimate servers)
+      → (known ≡ true → AreKnown has h new) × (is_ordered ≡ true → order ≡ by_estimate new)
+  kept_disowned h order i lower servers new known is_ordered same before = (
+    λ is. subst (AreKnown has h) (sym same) (disowned_known h i lower servers (before.0 is)),
+    λ is. before.1 is ∙ sym (ap by_estimate same ∙ disowned_order i lower servers),
+  )
 
-  pub quiet_where_none : (i : ℕ) (servers : List (Server U)) → slice_get servers i ≡ None → IsQuiet i servers
-  quiet_where_none i servers at t e = absurd (cc)
+module _ {U : Type 0} where
+  none_of : (ps : List Posted) → (length ps == 0) ≡ true → ps ≡ []
+  none_of [] e = refl
+  none_of (p ∷ ps) e = absurd (grind (arith, nat_tests))
+
+  pub quiet_where_empty : (i : ℕ) (servers : List (Server U)) (s : Server U) → slice_get servers i ≡ Some s → (length s.posted == 0) ≡ true → IsQuiet i servers
+  quiet_where_empty i servers s at empty t e = (let same : s ≡ t = cc in subst (λ (s : Server U). s.posted ≡ []) same (none_of s.posted empty))

@@ -13,7 +13,7 @@ use crate::entries::by_estimate;
 use crate::holders::Holders;
 use crate::job::ListedServer;
 use crate::servers::{
-    Reply, Server, give_up_in, hear_in, is_quiet, judge_in, send_in, start_in, take_in,
+    Reply, Server, give_up_in, hear_in, judge_in, send_in, start_in, stays_known, take_in,
 };
 use crate::sharing::SharesPlaces;
 use client_request::{Board, ComposeRequest, Cx, Error, Signal, What, Words};
@@ -188,7 +188,7 @@ pub(crate) fn start_at<Req: ComposeRequest, U: SharesPlaces<Req>, W: Words>(
     servers.is_ordered = false;
     let done = start_in(&mut servers.list, index, cx, ticket, request)?;
     servers.holders.learn(index, first, cx.place)?;
-    servers.is_known = was_known && is_quiet(servers.list.as_slice(), index);
+    servers.is_known = stays_known(was_known, servers.list.as_slice(), index);
     servers.is_ordered = was_ordered;
     Ok(done)
 }
@@ -206,12 +206,15 @@ pub(crate) fn send_at<Req: ComposeRequest, U: SharesPlaces<Req>, W: Words>(
     ensures none { result ≡ Ok None → servers.new ≡ servers.old }
     ensures none_view { result ≡ Ok None → view_of W.stream cx.new ≡ view_of W.stream cx.old }
 {
+    if index >= servers.list.len() {
+        return Ok(None);
+    }
     let (was_known, was_ordered, first) = (servers.is_known, servers.is_ordered, cx.place);
     servers.is_known = false;
     servers.is_ordered = false;
     let done = send_in(&mut servers.list, index, cx, request)?;
     servers.holders.learn(index, first, cx.place)?;
-    servers.is_known = was_known && is_quiet(servers.list.as_slice(), index);
+    servers.is_known = stays_known(was_known, servers.list.as_slice(), index);
     servers.is_ordered = was_ordered;
     Ok(done)
 }
@@ -231,7 +234,7 @@ pub(crate) fn hear_at<Req: ComposeRequest, U: SharesPlaces<Req>, W: Words>(
     servers.is_ordered = false;
     hear_in(&mut servers.list, index, board, cx, signal)?;
     servers.holders.learn(index, first, cx.place)?;
-    servers.is_known = was_known && is_quiet(servers.list.as_slice(), index);
+    servers.is_known = stays_known(was_known, servers.list.as_slice(), index);
     servers.is_ordered = was_ordered;
     Ok(())
 }
@@ -251,7 +254,7 @@ pub(crate) fn give_up_at<Req: ComposeRequest, U: SharesPlaces<Req>, W: Words>(
     servers.is_ordered = false;
     give_up_in(&mut servers.list, index, cx, lower, response)?;
     servers.holders.learn(index, first, cx.place)?;
-    servers.is_known = was_known && is_quiet(servers.list.as_slice(), index);
+    servers.is_known = stays_known(was_known, servers.list.as_slice(), index);
     servers.is_ordered = was_ordered;
     Ok(())
 }

@@ -236,10 +236,14 @@ pub(crate) fn take_in<U>(servers: &mut Vec<Server<U>>, index: usize, lower: u64)
     server.waiting.remove(lower)
 }
 
-/// Whether nothing stands on the board of the server of an index.
-pub(crate) fn is_quiet<U>(servers: &[Server<U>], index: usize) -> bool
-    ensures { result ≡ true → IsQuiet index servers.now }
+/// Whether it was known, and nothing stands on the board of the server of an index.
+pub(crate) fn stays_known<U>(was_known: bool, servers: &[Server<U>], index: usize) -> bool
+    ensures was { result ≡ true → was_known ≡ true }
+    ensures quiet { result ≡ true → IsQuiet index servers.now }
 {
+    if !was_known {
+        return false;
+    }
     match servers.get(index) {
         None => true,
         Some(server) => server.posted.len() == 0,
