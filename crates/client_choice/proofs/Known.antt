@@ -1,5 +1,5 @@
 -- What is known of the places of servers, as one of them is changed, and what that spares.
-use Rattle.std.proofs.Common.{◌≡◌, ℕ, zero, suc, ◌+◌, ◌<◌, ◌≤◌, ◌⊎◌, inl, inr, Bool, true, false, ◌==◌, List, [], ◌∷◌, ◌++◌, length, Option, Some, None, refl, sym, ap, subst, ◌∙◌, arith, slice_get, slice_set}
+use Rattle.std.proofs.Common.{◌≡◌, ℕ, zero, suc, ◌+◌, ◌<◌, ◌≤◌, ◌⊎◌, inl, inr, Bool, true, false, ◌==◌, nat_eq, List, [], ◌∷◌, ◌++◌, length, Option, Some, None, refl, sym, ap, subst, ◌∙◌, arith, slice_get, slice_set}
 use Rattle.std.specs.Prelude.{option_map, set}
 use Rattle.std.proofs.lemmas.Bool.Decides.{nat_tests}
 use Rattle.client_request.specs.View.{View, Heard, Transport}
@@ -86,6 +86,9 @@ set_same : {A : Type 0} (xs : List A) (i : ℕ) (x : A) → slice_get xs i ≡ S
 set_same [] i x e = absurd (cc)
 set_same (y ∷ xs) zero x e = (let same : y ≡ x = cc in ap (λ z. z ∷ xs) (sym same))
 set_same (y ∷ xs) (suc i) x e = ap (λ zs. y ∷ zs) (set_same xs i x e)
+
+same_some : {A : Type 0} (x y : A) → Some x ≡ Some y → x ≡ y
+same_some x y e = cc
 
 module _ {A U : Type 0} where
   -- What a call of the server of an index leaves of all servers.
@@ -225,7 +228,7 @@ module _ {R U P : Type 0} (has : U → ℕ → Bool) (below : Transport R U P) (
           inr (s, x.0.1, at, sym (ap (λ (y : (Option (Reply P) × List (Server U)) × View). y.0.1) same), subst (λ w. Called has below s v x.0.1 w) (ap (λ (y : (Option (Reply P) × List (Server U)) × View). y.1) same) (was_started has below ticket r s x.0.1 v x.1 x.0.0 (law r) is))
 
       by : (o : Option (Server U)) → slice_get servers i ≡ o → starts_found below i ticket r servers v o ≡ Some ((b, new), w) → AreCalled servers v new w
-      by None at e = inl (let same : servers ≡ new = cc in sym same)
+      by None at e = inl (sym (ap (λ (y : (Option (Reply P) × List (Server U)) × View). y.0.1) (same_some {A = (Option (Reply P) × List (Server U)) × View} ((None, servers), v) ((b, new), w) e)))
       by (Some s) at e = one s at (starts below ticket r s v) refl e
 
   pub all_sent : (r : R) (servers new : List (Server U)) (v w : View) (b : Option P) → Law below.send → sends_at below i r servers v ≡ Some ((b, new), w) → AreCalled servers v new w
@@ -238,7 +241,7 @@ module _ {R U P : Type 0} (has : U → ℕ → Bool) (below : Transport R U P) (
           inr (s, x.0.1, at, sym (ap (λ (y : (Option P × List (Server U)) × View). y.0.1) same), subst (λ w. Called has below s v x.0.1 w) (ap (λ (y : (Option P × List (Server U)) × View). y.1) same) (was_sent has below r s x.0.1 v x.1 x.0.0 (law r) is))
 
       by : (o : Option (Server U)) → slice_get servers i ≡ o → sends_found below i r servers v o ≡ Some ((b, new), w) → AreCalled servers v new w
-      by None at e = inl (let same : servers ≡ new = cc in sym same)
+      by None at e = inl (sym (ap (λ (y : (Option P × List (Server U)) × View). y.0.1) (same_some {A = (Option P × List (Server U)) × View} ((None, servers), v) ((b, new), w) e)))
       by (Some s) at e = one s at (sends below r s v) refl e
 
   pub all_heard : (h : Heard) (servers new : List (Server U)) (v w : View) (b : List Posted) → ((u : U) (v : View) (w : U) (x : View) → below.step h u v ≡ Some (w, x) → Opens has u v w x)
@@ -252,7 +255,7 @@ module _ {R U P : Type 0} (has : U → ℕ → Bool) (below : Transport R U P) (
           inr (s, x.0.1, at, sym (ap (λ (y : (List Posted × List (Server U)) × View). y.0.1) same), subst (λ w. Called has below s v x.0.1 w) (ap (λ (y : (List Posted × List (Server U)) × View). y.1) same) (was_heard has below h s x.0.1 v x.1 x.0.0 law is))
 
       by : (o : Option (Server U)) → slice_get servers i ≡ o → hears_found below i h servers v o ≡ Some ((b, new), w) → AreCalled servers v new w
-      by None at e = inl (let same : servers ≡ new = cc in sym same)
+      by None at e = inl (sym (ap (λ (y : (List Posted × List (Server U)) × View). y.0.1) (same_some {A = (List Posted × List (Server U)) × View} (([], servers), v) ((b, new), w) e)))
       by (Some s) at e = one s at (hears below h s v) refl e
 
   pub all_dropped : (lower : ℕ) (r : P) (servers new : List (Server U)) (v w : View) → ((u : U) (v : View) (w : U) (x : View) → below.cancel r u v ≡ Some (w, x) → Opens has u v w x)
@@ -266,7 +269,7 @@ module _ {R U P : Type 0} (has : U → ℕ → Bool) (below : Transport R U P) (
           inr (s, x.0, at, sym (ap (λ (y : List (Server U) × View). y.0) same), subst (λ w. Called has below s v x.0 w) (ap (λ (y : List (Server U) × View). y.1) same) (was_dropped has below lower r s x.0 v x.1 law is))
 
       by : (o : Option (Server U)) → slice_get servers i ≡ o → drops_found below i lower r servers v o ≡ Some (new, w) → AreCalled servers v new w
-      by None at e = inl (let same : servers ≡ new = cc in sym same)
+      by None at e = inl (sym (ap (λ (y : List (Server U) × View). y.0) (same_some {A = List (Server U) × View} (servers, v) (new, w) e)))
       by (Some s) at e = one s at (drops below lower r s v) refl e
 
   known_after : (h k : Holders) (servers new : List (Server U)) (v w : View) → AreCalled servers v new w → Learns h k i v.place w.place → IsQuiet i new → AreKnown has h servers → AreKnown has k new
@@ -313,10 +316,10 @@ module _ {U : Type 0} (has : U → ℕ → Bool) where
     λ is. before.1 is ∙ sym (ap by_estimate same ∙ disowned_order i lower servers),
   )
 
-module _ {U : Type 0} where
-  none_of : (ps : List Posted) → (length ps == 0) ≡ true → ps ≡ []
-  none_of [] e = refl
-  none_of (p ∷ ps) e = absurd (grind (arith, nat_tests))
+none_of : (ps : List Posted) (n : ℕ) → n ≡ length ps → nat_eq n 0 ≡ true → ps ≡ []
+none_of [] n is empty = refl
+none_of (p ∷ ps) n is empty = absurd (grind (arith, nat_tests))
 
-  pub quiet_where_empty : (i : ℕ) (servers : List (Server U)) (s : Server U) → slice_get servers i ≡ Some s → (length s.posted == 0) ≡ true → IsQuiet i servers
-  quiet_where_empty i servers s at empty t e = (let same : s ≡ t = cc in subst (λ (s : Server U). s.posted ≡ []) same (none_of s.posted empty))
+-- Nothing stands on the board of a server, where so much stands there.
+pub quiet_where_empty : {U : Type 0} (i : ℕ) (servers : List (Server U)) (s : Server U) (n : ℕ) → slice_get servers i ≡ Some s → n ≡ length s.posted → nat_eq n 0 ≡ true → IsQuiet i servers
+quiet_where_empty {U} i servers s n at is empty t e = (let same : s ≡ t = cc in subst (λ (s : Server U). s.posted ≡ []) same (none_of s.posted n is empty))
