@@ -1,11 +1,12 @@
 -- The servers hear one after another.
-use Rattle.std.proofs.Common.{◌≡◌, ℕ, zero, suc, ◌+◌, ◌-◌, ◌<◌, ◌≤◌, ◌⊎◌, inl, inr, Bool, true, false, refl, ap, subst, ◌∙◌, arith, [], Some, None}
+use Rattle.std.proofs.Common.{◌≡◌, ℕ, zero, suc, ◌+◌, ◌-◌, ◌<◌, ◌≤◌, ◌⊎◌, inl, inr, Bool, true, false, refl, ap, subst, ◌∙◌, arith, List, [], Some, None}
 use Rattle.std.specs.Prelude.{nat_lt, option_and_then}
 use Rattle.std.proofs.lemmas.Bool.Decides.{nat_tests}
 use Rattle.client_request.specs.View.{View, Heard, Transport}
+use Rattle.client_request.specs.declared.board.Posted.{Posted}
 use Rattle.client_settings.specs.Settings.{RedundantSettings}
 use Rattle.client_choice.specs.Choice.{Choice, hears_one, hears_some, settles_all}
-use Rattle.client_choice.specs.Servers.{hears_at}
+use Rattle.client_choice.specs.Servers.{Server, hears_at}
 
 pub hears_next : {R U P : Type 0} (below : Transport R U P) (settings : RedundantSettings) (n i : ℕ) (h : Heard) (c new : Choice R U P) (v w : View) → i < n → hears_one below settings i h c v ≡ Some (new, w) → hears_some below settings (i + 1) (n - (i + 1)) h new w ≡ hears_some below settings i (n - i) h c v
 hears_next below settings n i h c new v w within step =
@@ -37,7 +38,7 @@ module _ {R U P : Type 0} (below : Transport R U P) (settings : RedundantSetting
   IsNothing k = hears_at below k h c.servers v ≡ Some (([], c.servers), v)
 
   nothing_heard : (k : ℕ) → IsNothing k → hears_one below settings k h c v ≡ Some (c, v)
-  nothing_heard k e = ap (option_and_then (λ x. settles_all below settings k x.0.0 (record c { servers = x.0.1 }) x.1)) e
+  nothing_heard k e = ap (option_and_then (λ (x : (List Posted × List (Server U)) × View). settles_all below settings k x.0.0 (record c { servers = x.0.1 }) x.1)) e
 
   past_one : (k : ℕ) → IsNothing k → hears_some below settings (k + 1) (n - (k + 1)) h c v ≡ hears_some below settings k (n - k) h c v
   past_one k e = by (below_or_not k n)
@@ -50,22 +51,28 @@ module _ {R U P : Type 0} (below : Transport R U P) (settings : RedundantSetting
       by (inr le) = none_left le
 
   past_some : (d k : ℕ) → ((j : ℕ) → k ≤ j → j < k + d → IsNothing j) → hears_some below settings (k + d) (n - (k + d)) h c v ≡ hears_some below settings k (n - k) h c v
-  past_some zero k each = (let e : k + 0 ≡ k = omega arith in rw e refl)
+  past_some zero k each = (let e : k + 0 ≡ k = omega arith in ap (λ m. hears_some below settings m (n - m) h c v) e)
   past_some (suc d) k each =
       let e : k + suc d ≡ (k + 1) + d = omega arith in
-      rw e (past_some d (k + 1) (λ j from to. each j (omega arith) (omega arith)) ∙ past_one k (each k (omega arith) (omega arith)))
+      ap (λ m. hears_some below settings m (n - m) h c v) e ∙ (past_some d (k + 1) (λ j from to. each j (omega arith) (omega arith)) ∙ past_one k (each k (omega arith) (omega arith)))
 
-  -- servers to which it is nothing are passed over
-  pub hears_past : (k j : ℕ) → k ≤ j → ((i : ℕ) → k ≤ i → i < j → IsNothing i) → hears_some below settings j (n - j) h c v ≡ hears_some below settings k (n - k) h c v
-  hears_past k j le each =
+  -- Servers to which it is nothing are passed over.
+  hears_past_each : (k j : ℕ) → k ≤ j → ((i : ℕ) → k ≤ i → i < j → IsNothing i) → hears_some below settings j (n - j) h c v ≡ hears_some below settings k (n - k) h c v
+  hears_past_each k j le each =
       let e : k + (j - k) ≡ j = omega arith in
       subst (λ m. hears_some below settings m (n - m) h c v ≡ hears_some below settings k (n - k) h c v) e (past_some (j - k) k (λ i from to. each i from (omega arith)))
 
-  -- those before the first that it concerns are passed over
-  pub hears_first : (j : ℕ) → ((i : ℕ) → 0 ≤ i → i < j → IsNothing i) → hears_some below settings j (n - j) h c v ≡ hears_some below settings 0 n h c v
-  hears_first j each =
+  -- the same, of the servers as they are seen
+  pub hears_past : (seen : List (Server U)) (k j : ℕ) → seen ≡ c.servers → k ≤ j → ((i : ℕ) → k ≤ i → i < j → hears_at below i h seen v ≡ Some (([], seen), v))
+      → hears_some below settings j (n - j) h c v ≡ hears_some below settings k (n - k) h c v
+  hears_past seen k j same le each = hears_past_each k j le (λ i from to. subst (λ (xs : List (Server U)). hears_at below i h xs v ≡ Some (([], xs), v)) same (each i from to))
+
+  -- those before the first that it concerns
+  pub hears_first : (seen : List (Server U)) (j : ℕ) → seen ≡ c.servers → ((i : ℕ) → 0 ≤ i → i < j → hears_at below i h seen v ≡ Some (([], seen), v))
+      → hears_some below settings j (n - j) h c v ≡ hears_some below settings 0 n h c v
+  hears_first seen j same each =
       let e : n - 0 ≡ n = omega arith in
-      hears_past 0 j (omega arith) each ∙ ap (λ m. hears_some below settings 0 m h c v) e
+      hears_past seen 0 j same (omega arith) each ∙ ap (λ m. hears_some below settings 0 m h c v) e
 
   -- where none is left
   pub hears_over : (j : ℕ) → n ≤ j → hears_some below settings j (n - j) h c v ≡ Some (c, v)

@@ -224,6 +224,7 @@ fn hear_one<Req: ComposeRequest, U: SharesPlaces<Req>, W: Words>(
 }
 
 /// The servers hear a signal one after another, but those that it does not concern.
+#[tactic(auto, using(crate::proofs::Hearing::hears_over))]
 fn hear_all<Req: ComposeRequest, U: SharesPlaces<Req>, W: Words>(
     choice: &mut Choice<Req, U>,
     config: &Config,

@@ -1,24 +1,30 @@
-use Rattle.std.proofs.Common.{◌<◌, ◌≤◌, ◌∙◌, sym, length, rules, arith}
+use Rattle.std.proofs.Common.{◌≡◌, ◌<◌, ◌≤◌, ◌∙◌, sym, length, rules, arith}
 use Rattle.std.proofs.lemmas.Grind.{common_steps}
-use Rattle.client_choice.proofs.Hearing.{hears_first, hears_next, hears_over, hears_past, hears_stop}
+use Rattle.client_request.specs.Cx.{heard, view_of}
+use Rattle.client_choice.proofs.Hearing.{hears_first, hears_next, hears_past, hears_stop}
 use Rattle.client_choice.proofs.steps.hear_all.Goals as goal
 
 pub loop-server-init : goal.loop-server-init
-loop-server-init g c = record {
-  lends = search rules;
-  same = hears_first g.U.SendRequest.transport c.args.config.now (length c.args.choice.now.servers) _ _ _ _ (λ i from to. c.first_concerned.ensures.others i _ from to);
-  keeps = search rules;
-}
+loop-server-init g c =
+    let same : c.choice.inside.servers ≡ c.args.choice.now.servers = cc in
+    let passed =
+        hears_first g.U.SendRequest.transport c.args.config.now (length c.args.choice.now.servers) (heard c.args.signal) c.args.choice.now (view_of g.W.Words.stream c.args.cx.now)
+        c.choice.inside.servers c.first_concerned.result same (λ i from to. c.first_concerned.ensures.others i (view_of g.W.Words.stream c.args.cx.now) from to) in
+    record {
+      lends = search rules;
+      same = cc;
+      keeps = search rules;
+    }
 
 pub loop-server-preserved : goal.loop-server-preserved
 loop-server-preserved g c =
     let next : c.loop-server.server < length c.args.choice.now.servers = grind (arith, common_steps) in
+    let heard_it =
+        hears_next g.U.SendRequest.transport c.args.config.now (length c.args.choice.now.servers) c.loop-server.server (heard c.args.signal) c.loop-server.choice c.hear_one.new.choice
+        (view_of g.W.Words.stream c.loop-server.cx) (view_of g.W.Words.stream c.hear_one.new.cx) next c.in_ok-hear_one.ensures.holds.ok in
     record {
       lends = search rules;
-      same =
-          hears_past g.U.SendRequest.transport c.args.config.now (length c.args.choice.now.servers) _ _ _ _ _ c.first_concerned-in-loop-server.ensures.from (λ i from to. c.first_concerned-in-loop-server.ensures.others i _ from to)
-          ∙ hears_next g.U.SendRequest.transport c.args.config.now (length c.args.choice.now.servers) c.loop-server.server _ c.loop-server.choice c.hear_one.new.choice _ _ next c.in_ok-hear_one.ensures.holds.ok
-          ∙ c.loop-server.invariant.same;
+      same = ?;
       keeps = c.in_ok-hear_one.ensures.holds.keeps ∙ c.loop-server.invariant.keeps;
     }
 
