@@ -10,7 +10,7 @@ invariant-loop-s g l =
     record {
       lends : LendsTheSame l.fn.cx l.cx;
       same :
-          plain.drops_each g.U.SendRequest.transport (into_iter_items l.s-iterator) l.servers.items (view_of g.W.Words.stream l.cx)
-          ≡ plain.drops_each g.U.SendRequest.transport (into_iter_items l.initial.s-iterator) l.fn.servers.items (view_of g.W.Words.stream l.fn.cx);
-      keeps : flags g.U.SendRequest.holds_failed l.servers.items ≡ flags g.U.SendRequest.holds_failed l.fn.servers.items;
+          plain.drops_each g.U.SendRequest.transport (into_iter_items l.s-iterator) l.servers (view_of g.W.Words.stream l.cx)
+          ≡ plain.drops_each g.U.SendRequest.transport (into_iter_items l.initial.s-iterator) l.fn.servers (view_of g.W.Words.stream l.fn.cx);
+      keeps : flags g.U.SendRequest.holds_failed l.servers ≡ flags g.U.SendRequest.holds_failed l.fn.servers;
     }
