@@ -7,3 +7,4 @@ pub mod Saying
 pub mod ViewLaws
 pub mod EmptySections
 pub mod LowerNames
+pub mod ViewSizes

@@ -1,2 +1,3 @@
 mod Waiting
 mod LookUps
+pub mod Weighing

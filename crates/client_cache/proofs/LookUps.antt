@@ -3,7 +3,7 @@ use Rattle.std.proofs.Common.{◌≡◌, ℕ, Bool, true, false, cond, ◌&&◌,
 use Rattle.std.specs.Prelude.{◌==◌, is_some, option_map, if◌then◌else◌}
 use Rattle.std.specs.Option.{option_map_or}
 use Rattle.std.specs.Map.{lookup, lookup_entry, remove_entry, set_value}
-use Rattle.lru.specs.LruCache.{lru_cache, promoted}
+use Rattle.lru.specs.LruCache.{promoted}
 use Rattle.lru.proofs.CallerLemmas.{Contains-lookup_entry}
 use Rattle.lru.proofs.Pairs.{lookup-lookup_entry}
 use Rattle.dns_names.specs.Name.{Labels}
@@ -15,7 +15,7 @@ use Rattle.cache_rules.specs.declared.key.AdDo.{AdDo}
 use Rattle.cache_rules.specs.declared.key.AdDo.TheVariants as classes
 use Rattle.cache_rules.specs.Key.{flag_class, asked_key, same_key}
 use Rattle.client_cache.specs.declared.table.Flags.{Flags}
-use Rattle.client_cache.specs.Keeping.{Outcome, Entry, Table, Asked, asked_about, asked_in, entry_under, uses, with_flags, if_kept, or_else, flags, first_above_ad, first_from_ad, first_of_class, first_class, first_kept, same_class, is_own, serves, gives_own, takes_own, takes_other, takes, found}
+use Rattle.client_cache.specs.Keeping.{Outcome, Entry, Table, Asked, asked_about, asked_in, with_entries, entry_under, uses, with_flags, if_kept, or_else, flags, first_above_ad, first_from_ad, first_of_class, first_class, first_kept, same_class, is_own, serves, gives_own, takes_own, takes_other, takes, found}
 use Rattle.client_cache.specs.Plain.{way_asked, way_looked, way_found, found_way}
 use Rattle.client_cache.specs.Serving.{is_given}
 
@@ -97,19 +97,19 @@ own_way s now t after a answer there gives =
 
 -- what it gives, where it stays as it was
 pub own_used : (a : Asked) (now : ℕ) (t : Table) (e left : Entry) (answer : Option Outcome) → Some e ≡ entry_under a.key t → answer ≡ serves a now e → left ≡ e
-    → takes_own a now t ≡ found answer (lru_cache (set_value (same_key a.key) (promoted (same_key a.key) t.entries) left) t.cap)
+    → takes_own a now t ≡ found answer (with_entries (set_value (same_key a.key) (promoted (same_key a.key) t.entries) left) t)
 own_used a now t e left answer there given same =
     ap (gives_own a now (uses a.key t)) (sym there)
-    ∙ ap (λ (es : List (Key × Entry)). found (serves a now e) (lru_cache es t.cap)) (sym (used_same (same_key a.key) t.entries e (sym there)))
-    ∙ ap (λ (x : Option Outcome). found x (lru_cache (set_value (same_key a.key) (promoted (same_key a.key) t.entries) e) t.cap)) (sym given)
-    ∙ ap (λ (x : Entry). found answer (lru_cache (set_value (same_key a.key) (promoted (same_key a.key) t.entries) x) t.cap)) (sym same)
+    ∙ ap (λ (es : List (Key × Entry)). found (serves a now e) (with_entries es t)) (sym (used_same (same_key a.key) t.entries e (sym there)))
+    ∙ ap (λ (x : Option Outcome). found x (with_entries (set_value (same_key a.key) (promoted (same_key a.key) t.entries) e) t)) (sym given)
+    ∙ ap (λ (x : Entry). found answer (with_entries (set_value (same_key a.key) (promoted (same_key a.key) t.entries) x) t)) (sym same)
 
 -- where no entry is there under the key itself, its own flags give nothing
 pub none_taken : (s : CacheSettings) (a : Asked) (now : ℕ) (t : Table) (f : Flags) → entry_under a.key t ≡ None → is_own f a.key ≡ true → takes s a now t (Some f) ≡ found None t
 none_taken s a now t f none own =
     ap (λ b. if b then takes_own a now t else takes_other s a f now t) own
     ∙ ap (gives_own a now (uses a.key t)) none
-    ∙ ap (λ (es : List (Key × Entry)). found None (lru_cache es t.cap)) (missed_same (same_key a.key) t.entries none)
+    ∙ ap (λ (es : List (Key × Entry)). found None (with_entries es t)) (missed_same (same_key a.key) t.entries none)
 
 -- and the classes above its own are tried
 none_own : (t : Table) (k : Key) (c : AdDo) → entry_under k t ≡ None → flag_class c ≡ k.flags → if_kept t k (flags c k.rd) ≡ None

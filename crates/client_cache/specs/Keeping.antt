@@ -3,14 +3,15 @@
 --   the request's key ──► its own flags, then those that have more; then all with RD set ──► the first entry that is there
 --                               │ under its own key                      │ under another: what is derived is stored under its own
 --                               └──────► in time: as it is at its age ◄──┘
-use Rattle.std.specs.Prelude.{ℕ, ◌-◌, ◌/◌, ◌==◌, ◌&&◌, min, not, nat_le, is_some, Bool, true, false, if◌then◌else◌, List, Option, Some, None, option_map, Result, Ok, Err}
-use Rattle.std.specs.Map.{lookup}
+use Rattle.std.specs.Prelude.{ℕ, zero, suc, ◌-◌, ◌/◌, ◌==◌, ◌&&◌, min, not, nat_le, is_some, Bool, true, false, if◌then◌else◌, List, [], ◌∷◌, length, Option, Some, None, option_map, Result, Ok, Err}
+use Rattle.std.specs.List.{sum_by}
+use Rattle.std.specs.Map.{lookup, remove_entry, values_of}
 use Rattle.dns_names.specs.Name.{Labels}
 use Rattle.dns_base.specs.Header.{with_aa}
 use Rattle.dns_base.specs.Message.{Asked as Question, header_of, sole_question}
 use Rattle.client_request.specs.declared.error.Error.{Error}
 use Rattle.client_settings.specs.Settings.{CacheSettings}
-use Rattle.lru.specs.LruCache.{LruCache, lru_cache, promoted, put_entries}
+use Rattle.lru.specs.LruCache.{promoted}
 use Rattle.right_trace.specs.Keys.{FlagClass, Do, Ad, Plain, Key, is_do, is_signing, question_or}
 use Rattle.cache_rules.specs.declared.key.AdDo.{AdDo}
 use Rattle.cache_rules.specs.declared.key.AdDo.TheVariants as classes
@@ -20,6 +21,7 @@ use Rattle.cache_rules.specs.Viewing.{header_between, drops_signing, octets_by, 
 use Rattle.cache_rules.specs.declared.copying.Ttls.TheVariants.{Stale}
 use Rattle.dns_base.specs.OptRecord.{opt_rcode}
 use Rattle.right_trace.specs.Views.{tells_of_name}
+use Rattle.right_trace.specs.Weights.{Room, weight}
 use Rattle.client_cache.specs.declared.table.Flags.{Flags}
 
 -- a message, or why there is none
@@ -37,9 +39,25 @@ pub record Entry : Type 0 where
   pub validity : ℕ
   pub outcome : Result Stored Error
 
--- the entries, the most recently used first, and how many there may be
-abbrev pub Table : Type 0
-Table = LruCache Key Entry
+-- the octets of a message that is kept; an error has none
+abbrev pub octets_kept : Result Stored Error → ℕ
+octets_kept (Ok m) = length m.message
+octets_kept (Err e) = 0
+
+-- what an entry weighs, and what entries weigh together
+abbrev pub weight_of : Entry → ℕ
+weight_of e = weight (octets_kept e.outcome)
+
+abbrev pub weights : List (Key × Entry) → ℕ
+weights es = sum_by weight_of (values_of es)
+
+-- the entries, the most recently used first, and for how many and how heavy ones there is room
+pub record Table : Type 0 where
+  pub entries : List (Key × Entry)
+  pub room : Room
+
+abbrev pub with_entries : List (Key × Entry) → Table → Table
+with_entries es t = record t { entries = es }
 
 -- what is kept under a key
 abbrev pub entry_under : Key → Table → Option Entry
@@ -47,11 +65,21 @@ entry_under k t = lookup (same_key k) t.entries
 
 -- an entry is used: it goes first
 abbrev pub uses : Key → Table → Table
-uses k t = lru_cache (promoted (same_key k) t.entries) t.cap
+uses k t = with_entries (promoted (same_key k) t.entries) t
 
--- An entry is stored, and is used by that. Where there is no room, the entry that was not used for longest gives way.
+-- Those for which there is room, from the first on: so many at most, which weigh so much at most. So the others, which were not used for longest, give way.
+abbrev pub with_room : (count octets : ℕ) → List (Key × Entry) → List (Key × Entry)
+with_room n w [] = []
+with_room zero w (e ∷ es) = []
+with_room (suc n) w (e ∷ es) = if nat_le (weight_of e.1) w then e ∷ with_room n (w - weight_of e.1) es else []
+
+-- what stands under a key is taken out, and of the rest those stay that have room beside an entry
+abbrev pub beside : Key → Entry → Table → List (Key × Entry)
+beside k e t = with_room (t.room.entries - 1) (t.room.octets - weight_of e) (remove_entry (same_key k) t.entries)
+
+-- An entry is stored, and is used by that; what alone weighs more than all may is not put in, and what stood under its key goes all the same.
 abbrev pub stores : Key → Entry → Table → Table
-stores k e t = lru_cache (put_entries same_key t k e) t.cap
+stores k e t = with_entries (if nat_le (weight_of e) t.room.octets then (k, e) ∷ beside k e t else remove_entry (same_key k) t.entries) t
 
 -- ---- what may serve a request
 

@@ -10,8 +10,8 @@ use Rattle.client_request.specs.Requests.{Requests}
 use Rattle.client_request.specs.View.{View, Heard, Transport, answers, answers_stale, draws_ticket}
 use Rattle.client_request.specs.declared.board.Posted.{Posted}
 use Rattle.client_settings.specs.Settings.{CacheSettings}
-use Rattle.lru.specs.LruCache.{lru_cache}
 use Rattle.right_trace.specs.Keys.{Key}
+use Rattle.right_trace.specs.Weights.{Room}
 use Rattle.client_cache.specs.declared.steps.Way.{Way}
 use Rattle.client_cache.specs.declared.steps.Way.TheVariants.{Given, Asks}
 use Rattle.client_cache.specs.Keeping.{Outcome, Table, Asked, Found, Spare, asked_in, first_kept, takes as takes_kept, keeps, spare_in, spare_stands_in}
@@ -141,13 +141,13 @@ pub record Response (P : Type 0) : Type 0 where
   pub given : Bool
   pub below : Option P
 
--- how many entries there may be
-abbrev pub room_of : CacheSettings → ℕ
-room_of s = max 1 s.max_cache_entries
+-- how many entries there may be, and what they may weigh together
+abbrev pub room_of : CacheSettings → Room
+room_of s = record { entries = max 1 s.max_cache_entries; octets = s.max_cache_octets }
 
 -- nothing is kept yet
 abbrev pub empty : CacheSettings → Kept
-empty s = record { settings = s; table = lru_cache [] (room_of s); waiting = [] }
+empty s = record { settings = s; table = record { entries = []; room = room_of s }; waiting = [] }
 
 abbrev pub started : {U : Type 0} → CacheSettings → U → Cached U
 started s upstream = record { upstream = upstream; kept = empty s; failed = false }

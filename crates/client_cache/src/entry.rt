@@ -44,8 +44,8 @@ impl<'a> Model for Asked<'a> {
 pub struct Stored {
     header: Header,
     message: Message,
-    /// How it is given to requests with the flags of its key. It takes at most twice the octets that came and 512, and
-    /// four for each record of these.
+    /// How it is given to requests with the flags of its key. It takes at most the octets that came and 512, and four for
+    /// each record of these.
     form: Form,
 }
 
@@ -290,6 +290,16 @@ pub(crate) fn is_same_class(first: AdDo, second: AdDo) -> bool
 }
 
 impl Entry {
+    /// What it weighs: 1024, and two for each octet of its message.
+    pub(crate) fn weight(&self) -> u128
+        ensures { result ≡ plain.weight_of self.now }
+    {
+        match &self.outcome {
+            Err(_) => 1024,
+            Ok(stored) => 1024 + 2 * stored.message.as_slice().len() as u128,
+        }
+    }
+
     /// Whether its validity has not passed at a moment.
     pub(crate) fn is_valid(&self, now: u64) -> bool
         ensures { result ≡ nat_le (now - self.now.moment) self.now.validity }

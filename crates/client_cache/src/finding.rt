@@ -5,7 +5,7 @@ ghost use Rattle.cache_rules.specs.Key.{flag_class};
 ghost use Rattle.client_cache.specs.Keeping as plain;
 
 use crate::entry::{Answer, Asked, Entry, is_same_class};
-use crate::table::{Flags, Table, holds, set_flags, store};
+use crate::table::{Flags, Table, set_flags};
 use cache_rules::{AdDo, Key, is_signing};
 use client_request::Error;
 use client_settings::cache::Config;
@@ -19,7 +19,7 @@ fn if_kept(table: &Table, key: &mut Key, flags: Flags) -> Option<Flags>
 {
     let own = Flags::new(key.addo(), key.rd());
     set_flags(key, flags);
-    let is_kept = holds(table, &*key);
+    let is_kept = table.holds(&*key);
     set_flags(key, own);
     if is_kept { Some(flags) } else { None }
 }
@@ -103,10 +103,10 @@ pub(crate) fn serve_own(
     ensures present { IfOk result (λ served. IfSome served (λ _. IsSome (plain.entry_under asked.now.key table.old))) }
     ensures given { IfOk result (λ served. IfSome served (λ answer. plain.takes_own asked.now now table.old ≡ plain.found answer table.new)) }
 {
-    if table.is_empty() {
+    if table.entries.is_empty() {
         return Ok(None);
     }
-    match table.get_mut(&asked.key) {
+    match table.entries.get_mut(&asked.key) {
         None => Ok(None),
         Some(entry) => {
             let answer = entry.serve(alloc, asked, now)?;
@@ -115,7 +115,36 @@ pub(crate) fn serve_own(
     }
 }
 
-/// What is derived for a request from the entry under its key with other flags, which is used.
+/// The key of a request with other flags.
+fn key_with(alloc: Global, asked: &Asked<'_>, flags: Flags) -> Result<Key, NoMemory>
+    ensures { IfOk result (λ key. key ≡ plain.with_flags flags asked.now.key) }
+{
+    let mut key = asked.key.try_clone(alloc)?;
+    set_flags(&mut key, flags);
+    Ok(key)
+}
+
+/// What is derived for a request from the entry under its key with other flags. It is not used.
+pub(crate) fn derive_unused(
+    table: &Table,
+    alloc: Global,
+    config: &Config,
+    asked: &Asked<'_>,
+    flags: Flags,
+) -> Result<Option<Result<Entry, Error>>, NoMemory>
+    ensures { IfOk result (λ e. e ≡ option_map (plain.derived config.now (flag_class flags.class) asked.now) (plain.entry_under (plain.with_flags flags asked.now.key) table.now)) }
+{
+    let key = key_with(alloc, asked, flags)?;
+    match table.peek(&key) {
+        None => Ok(None),
+        Some(entry) => {
+            let derived = entry.derive(alloc, config, flags.class, asked)?;
+            Ok(Some(derived))
+        }
+    }
+}
+
+/// The same, and it is used.
 fn derive_from(
     table: &mut Table,
     alloc: Global,
@@ -126,36 +155,10 @@ fn derive_from(
     ensures entry { IfOk result (λ e. e ≡ option_map (plain.derived config.now (flag_class flags.class) asked.now) (plain.entry_under (plain.with_flags flags asked.now.key) table.old)) }
     ensures used { OnOk result (table.new ≡ plain.uses (plain.with_flags flags asked.now.key) table.old) }
 {
-    let mut key = asked.key.try_clone(alloc)?;
-    set_flags(&mut key, flags);
-    match table.get(&key) {
-        None => Ok(None),
-        Some(entry) => {
-            let derived = entry.derive(alloc, config, flags.class, asked)?;
-            Ok(Some(derived))
-        }
-    }
-}
-
-/// The same, and it is not used.
-pub(crate) fn derive_unused(
-    table: &Table,
-    alloc: Global,
-    config: &Config,
-    asked: &Asked<'_>,
-    flags: Flags,
-) -> Result<Option<Result<Entry, Error>>, NoMemory>
-    ensures { IfOk result (λ e. e ≡ option_map (plain.derived config.now (flag_class flags.class) asked.now) (plain.entry_under (plain.with_flags flags asked.now.key) table.now)) }
-{
-    let mut key = asked.key.try_clone(alloc)?;
-    set_flags(&mut key, flags);
-    match table.peek(&key) {
-        None => Ok(None),
-        Some(entry) => {
-            let derived = entry.derive(alloc, config, flags.class, asked)?;
-            Ok(Some(derived))
-        }
-    }
+    let derived = derive_unused(&*table, alloc, config, asked, flags)?;
+    let key = key_with(alloc, asked, flags)?;
+    table.uses(&key);
+    Ok(derived)
 }
 
 /// Stores an entry under the request's own key, and says what it gives.
@@ -170,7 +173,7 @@ fn store_and_serve(
 {
     let answer = entry.serve(alloc, asked, now)?;
     let key = asked.key.try_clone(alloc)?;
-    store(table, key, entry)?;
+    table.store(key, entry)?;
     Ok(answer)
 }
 
@@ -190,7 +193,7 @@ fn store_with_rd(
     let mut key = asked.key.try_clone(alloc)?;
     key.set_rd(true);
     let entry = entry.copy()?;
-    store(table, key, entry)
+    table.store(key, entry)
 }
 
 /// Stores what was derived for a request, and says what it gives.

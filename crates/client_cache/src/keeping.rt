@@ -4,7 +4,7 @@ ghost use Rattle.std.specs.Prelude.{◌≡◌, IfOk, OnOk, Ok};
 ghost use Rattle.client_cache.specs.Keeping as plain;
 
 use crate::entry::{Entry, kept_of};
-use crate::table::{Table, store};
+use crate::table::Table;
 use cache_rules::{Key, validity};
 use client_request::Error;
 use client_settings::cache::Config;
@@ -28,7 +28,7 @@ fn keep_for(
         validity: lasts,
         outcome: kept_of(outcome)?,
     };
-    store(table, key, entry)
+    table.store(key, entry)
 }
 
 /// Keeps a result that came for a request, and says what the request is given: a message of which it can't be told

@@ -7,7 +7,7 @@ ghost use Rattle.client_cache.specs.Plain as plain;
 
 use crate::entry::{Spared, tells_of_name};
 use crate::keeping::keep_result;
-use crate::table::{Table, new_table};
+use crate::table::Table;
 use cache_rules::Key;
 use client_request::{Board, Cx, Error, Posted, Words};
 use client_settings::cache::Config;
@@ -57,7 +57,7 @@ impl Kept {
     pub(crate) fn new(alloc: Global, config: Config, seed: u64) -> Result<Kept, NoMemory>
         ensures { IfOk result (λ k. k ≡ plain.empty config) }
     {
-        let table = new_table(alloc, &config, seed)?;
+        let table = Table::new(alloc, &config, seed)?;
         Ok(Kept {
             alloc,
             config,

@@ -29,10 +29,10 @@ fn message_of(octets: Vec<u8>) -> Result<Message, NoMemory>
 
 /// Whether what was composed of a message is long beside it.
 fn is_long(composed: &Message, message: &Message) -> bool
-    ensures { result ≡ nat_lt (2 * length message.now + 512) (length composed.now) }
+    ensures { result ≡ nat_lt (length message.now + 512) (length composed.now) }
 {
     let came = message.as_slice().len();
-    came.saturating_mul(2).saturating_add(512) < composed.as_slice().len()
+    came.saturating_add(512) < composed.as_slice().len()
 }
 
 /// The octets of a message that was composed, and the places of its question's name and of its TTLs.
@@ -86,7 +86,7 @@ impl Template {
 
     /// The template of a message's views, made of the view of no age: for a request with the same flags, under any
     /// header, with the name in any spelling. None where the message has several questions or its view is long, that is
-    /// of more than twice its own octets and 512.
+    /// of more than its own octets and 512.
     ///
     /// `NoMemory`, or `MessageParseError` where the message or the data of a record can't be read by its type.
     pub fn of_views(
@@ -97,7 +97,7 @@ impl Template {
         name: &Name,
     ) -> Result<Option<Template>, Error>
         ensures gives { IfOk result (λ found. IfSome found (GivesViews false message.now)) }
-        ensures short { IfOk result (λ found. IfSome found (λ t. length t.octets ≤ 2 * length message.now + 512)) }
+        ensures short { IfOk result (λ found. IfSome found (λ t. length t.octets ≤ length message.now + 512)) }
     {
         is_viewable(header, message, name);
         let composed = view_under(alloc, header, message, class, class, name, 0)?;

@@ -18,6 +18,7 @@ use Rattle.proof_right.specs.machine.Served.{served}
 use Rattle.proof_right.specs.machine.Client.{begun, IsRun}
 use Rattle.proof_right.specs.machine.Exact.{RunCached}
 use Rattle.right_trace.specs.StaleServed.{AllServeStale}
+use Rattle.right_trace.specs.Weights.{Room}
 use Rattle.proof_right.specs.machine.Single as single
 
 -- Every run of a client of any number of servers, by datagrams and streams, is right and timely, with deferring and the cache, however messages are composed, whatever happens and whatever is chosen.
@@ -27,13 +28,13 @@ EveryRunIsRight = (c : Conf) (s : Settings) (compose : Request → Result Octets
 
 -- In every run whose cache is exact, an asking with the key of a message that is kept, few enough askings and replies later, is answered in its own row.
 abbrev pub EveryCachedRunHits : Type 0
-EveryCachedRunHits = (c : Conf) (s : Settings) (compose : Request → Result Octets Error) (eq : Key → Key → Bool) (cap : ℕ) (rows : List Row)
-    → Composes c compose → TellsKeys eq → AllAskedInOctets (map (λ row. row.event) rows) → (run : IsRun c s compose (served c) (begun c s compose (served c)) rows) → RunCached c s compose (served c) eq cap (begun c s compose (served c)) rows run [] → AllHit c s compose cap [] rows
+EveryCachedRunHits = (c : Conf) (s : Settings) (compose : Request → Result Octets Error) (eq : Key → Key → Bool) (room : Room) (rows : List Row)
+    → Composes c compose → TellsKeys eq → AllAskedInOctets (map (λ row. row.event) rows) → (run : IsRun c s compose (served c) (begun c s compose (served c)) rows) → RunCached c s compose (served c) eq room (begun c s compose (served c)) rows run [] → AllHit c s compose room [] rows
 
 -- In every such run, a request for which a message that is kept had expired does not fail while that message may serve.
 abbrev pub EveryCachedRunServesStale : Type 0
-EveryCachedRunServesStale = (c : Conf) (s : Settings) (compose : Request → Result Octets Error) (eq : Key → Key → Bool) (cap : ℕ) (rows : List Row)
-    → Composes c compose → TellsKeys eq → AllAskedInOctets (map (λ row. row.event) rows) → (run : IsRun c s compose (served c) (begun c s compose (served c)) rows) → RunCached c s compose (served c) eq cap (begun c s compose (served c)) rows run [] → AllServeStale c s cap [] rows
+EveryCachedRunServesStale = (c : Conf) (s : Settings) (compose : Request → Result Octets Error) (eq : Key → Key → Bool) (room : Room) (rows : List Row)
+    → Composes c compose → TellsKeys eq → AllAskedInOctets (map (λ row. row.event) rows) → (run : IsRun c s compose (served c) (begun c s compose (served c)) rows) → RunCached c s compose (served c) eq room (begun c s compose (served c)) rows run [] → AllServeStale c s room [] rows
 
 -- no datagram of three octets or more has TC set
 abbrev pub IsUncut : What → Type 0

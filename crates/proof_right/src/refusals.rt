@@ -28,6 +28,7 @@ ghost use Rattle.proof_right.specs.examples.Rows.{by_datagrams, deferring, two_s
 ghost use Rattle.proof_right.specs.examples.Wrong.{IsItsAnswer, IsItsFrame, asked_then, blamed_unsent, blamed_when_closed, closed_again, closed_for_nothing, closed_twice, closed_unopened, failing_at_once, frame_passed_over, frame_taken, invented, nothing_sent, nothing_written, opened_twice, passed_over, refused_again, refused_thrice, replied_twice, second_while_open, second_while_opening, sent_at_once, sent_elsewhere, sent_nowhere, sent_too_soon, started_unasked, still_waiting, stream_closed_for_nothing, taken, taken_unwritten, taken_when_closed, timed_out_early, written, wrong_without_frame};
 ghost use Rattle.proof_right.specs.examples.Stale.{deferring_stale, failing_given, unread_given, heard_then, expired_given, stale_for_failing, stale_for_absent, marked_alone, not_served, serving_stale, stale_at_once, unmarked_stale};
 ghost use Rattle.right_trace.specs.StaleServed.{AllServeStale};
+ghost use Rattle.right_trace.specs.Weights.{Room, HasRoom, longest_form};
 
 /// By datagram: replies, sends, closes and answers that are not owed, or that are owed and do not stand.
 pub fn wrong_datagrams_are_refused()
@@ -97,7 +98,7 @@ pub fn wrong_places_are_refused()
 
 /// Where an entry is kept at all, an asking that is a hit is not handed to a server.
 pub fn missed_hits_are_refused()
-    ensures { (max : ℕ) → 0 < max → AllHit by_datagrams first_settings composed max [] missed → ⊥ }
+    ensures { (room : Room) → HasRoom room (longest_form (answer 18 52 100)) 0 → AllHit by_datagrams first_settings composed room [] missed → ⊥ }
 {}
 
 /// With the cache and with two servers: views that are none, errors that are kept too long, and a deferred message given
@@ -125,9 +126,9 @@ pub fn wrong_stale_replies_are_refused()
     ensures at_once { (c : Conf) (m : Octets) → 0 < c.timeout → Right c serving_stale (stale_at_once m) → ⊥ }
     ensures without_mark { (c : Conf) (m : Octets) → Right c serving_stale (unmarked_stale m) → ⊥ }
     ensures alone { (c : Conf) → Right c serving_stale marked_alone → ⊥ }
-    ensures never { AllServeStale by_datagrams serving_stale 1000 [] not_served → ⊥ }
-    ensures never_failing { AllServeStale by_datagrams serving_stale 1000 [] failing_given → ⊥ }
-    ensures never_unread { AllServeStale by_datagrams serving_stale 1000 [] unread_given → ⊥ }
+    ensures never { (room : Room) → HasRoom room (longest_form (answer 18 52 100)) 0 → AllServeStale by_datagrams serving_stale room [] not_served → ⊥ }
+    ensures never_failing { (room : Room) → HasRoom room (longest_form (answer 18 52 100)) 0 → AllServeStale by_datagrams serving_stale room [] failing_given → ⊥ }
+    ensures never_unread { (room : Room) → HasRoom room (longest_form (answer 18 52 100)) 0 → AllServeStale by_datagrams serving_stale room [] unread_given → ⊥ }
     ensures for_none { (c : Conf) (s : Settings) (m : Octets) → s.stale_for ≡ 0 → Right c s (heard_then m expired_given) → ⊥ }
     ensures for_absent { (c : Conf) → 200 < c.timeout → 28 < recv_size c → Right c serving_stale stale_for_absent → ⊥ }
     ensures before_all { Right two_servers deferring_stale stale_for_failing → ⊥ }

@@ -18,6 +18,7 @@ use Rattle.right_trace.specs.Parts.{Parts, known_parts, Says}
 use Rattle.right_trace.specs.Validity.{validity_of_message}
 use Rattle.right_trace.specs.Views.{view_of}
 use Rattle.right_trace.specs.Replies.{IsFreshReply}
+use Rattle.right_trace.specs.Weights.{Room, longest_given, HasRoom}
 
 -- how many askings came since the reply to request j; one in that reply's own row counts
 abbrev pub asks_since : (j : ℕ) → History → ℕ
@@ -62,8 +63,8 @@ pub data IsHit (q r : Request) (m : Octets) (age k : ℕ) (outs : List Out) : Ty
   Views : (x : Parts Data) (y : Octets) → known_parts m ≡ Some x → Says y (view_of q r age x) → Among (Reply k (Ok y)) outs → IsHit q r m age k outs
 
 -- Request j, which is q, had the fresh reply m, of a validity that has not passed. An asking with the same key, with few askings and replies between, all of them with that key views of it or stale, is a hit, not marked as stale, and is handed to no server.
-abbrev pub Hits : (c : Conf) (s : Settings) (compose : Request → Result Octets Error) (max : ℕ) (past : History) (row : Row) → Type 0
-Hits c s compose max past row =
+abbrev pub Hits : (c : Conf) (s : Settings) (compose : Request → Result Octets Error) (room : Room) (past : History) (row : Row) → Type 0
+Hits c s compose room past row =
     (q r : Request) (j t moment n age : ℕ) (m o : Octets)
     → row.event.what ≡ Ask r
     → asking j past ≡ Some (record { request = q; moment = t })
@@ -77,9 +78,9 @@ Hits c s compose max past row =
     → moment + age ≡ now (Came row.event ∷ past)
     → age ≤ n
     → AllAreViews q m j moment (asks past) (after row past)
-    → 3 * asks_since j past + (replies_since j past + other_replies (asks past) row.outs) < max
+    → HasRoom room (longest_given (after row past)) (3 * asks_since j past + (replies_since j past + other_replies (asks past) row.outs))
     → IsHit q r m age (asks past) row.outs × ((i : ℕ) → handed (asks past) i (after row past) ≡ false) × (Among (Stale (asks past)) row.outs → ⊥)
 
-abbrev pub AllHit : (c : Conf) (s : Settings) (compose : Request → Result Octets Error) (max : ℕ) (past : History) → List Row → Type 0
-AllHit c s compose max past [] = Unit {0}
-AllHit c s compose max past (row ∷ rows) = Hits c s compose max past row × AllHit c s compose max (after row past) rows
+abbrev pub AllHit : (c : Conf) (s : Settings) (compose : Request → Result Octets Error) (room : Room) (past : History) → List Row → Type 0
+AllHit c s compose room past [] = Unit {0}
+AllHit c s compose room past (row ∷ rows) = Hits c s compose room past row × AllHit c s compose room (after row past) rows

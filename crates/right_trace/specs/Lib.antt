@@ -22,6 +22,7 @@ pub mod Orderly
 pub mod Busy
 pub mod Right
 pub mod Timely
+pub mod Weights
 pub mod Hit
 pub mod StaleServed
 pub mod InOctets

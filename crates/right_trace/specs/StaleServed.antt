@@ -19,6 +19,7 @@ use Rattle.right_trace.specs.Validity.{validity_of_message}
 use Rattle.right_trace.specs.Views.{tells_of_name, is_failing_message}
 use Rattle.right_trace.specs.Replies.{IsFreshReply}
 use Rattle.right_trace.specs.Errors.{is_failure, CameWithoutValidity}
+use Rattle.right_trace.specs.Weights.{Room, longest_given, HasRoom}
 use Rattle.right_trace.specs.Hit.{asks_since, replies_since, other_replies, AllAreViews}
 use Rattle.client_request.specs.declared.error.Error.TheVariants as errors
 
@@ -42,8 +43,8 @@ NeverFails c s k limit past [] = Unit {0}
 NeverFails c s k limit past (row ∷ rows) = (now (Came row.event ∷ past) ≤ limit → NoneFails c s k past row.event.what (Came row.event ∷ past) row.outs) × NeverFails c s k limit (after row past) rows
 
 -- Request j, which is q, had the fresh reply m, which tells of a name, whose data is read and whose validity has passed. An asking with the same key, with few askings and replies between, all of them with that key views of it or stale, never fails while m may serve still.
-abbrev pub ServesStale : (c : Conf) (s : Settings) (max : ℕ) (past : History) (row : Row) → List Row → Type 0
-ServesStale c s max past row rows =
+abbrev pub ServesStale : (c : Conf) (s : Settings) (room : Room) (past : History) (row : Row) → List Row → Type 0
+ServesStale c s room past row rows =
     (q r : Request) (j t moment n : ℕ) (m : Octets) (x : Parts Data)
     → row.event.what ≡ Ask r
     → asking j past ≡ Some (record { request = q; moment = t })
@@ -57,9 +58,9 @@ ServesStale c s max past row rows =
     → key_of r ≡ key_of q
     → moment + n < now (Came row.event ∷ past)
     → AllAreViews q m j moment (asks past) (after row past)
-    → 3 * asks_since j past + (replies_since j past + other_replies (asks past) row.outs) < max
+    → HasRoom room (longest_given (after row past)) (3 * asks_since j past + (replies_since j past + other_replies (asks past) row.outs))
     → NeverFails c s (asks past) (moment + n + s.stale_for) past (row ∷ rows)
 
-abbrev pub AllServeStale : (c : Conf) (s : Settings) (max : ℕ) (past : History) → List Row → Type 0
-AllServeStale c s max past [] = Unit {0}
-AllServeStale c s max past (row ∷ rows) = ServesStale c s max past row rows × AllServeStale c s max (after row past) rows
+abbrev pub AllServeStale : (c : Conf) (s : Settings) (room : Room) (past : History) → List Row → Type 0
+AllServeStale c s room past [] = Unit {0}
+AllServeStale c s room past (row ∷ rows) = ServesStale c s room past row rows × AllServeStale c s room (after row past) rows

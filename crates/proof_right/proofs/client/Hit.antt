@@ -1,11 +1,13 @@
--- An entry is still there while three times the askings, increased by the replies, are fewer than the cache holds.
+-- An entry is still there while three times the askings, increased by the replies, are fewer than the entries for which there is room.
 use Rattle.std.proofs.Common.{◌≡◌, ℕ, zero, suc, ◌+◌, ◌*◌, ◌-◌, ◌<◌, ◌≤◌, Bool, true, false, cond, ◌⊎◌, inl, inr, Option, Some, None, List, [], ◌∷◌, ◌++◌, length, is_some, refl, arith, sym, ap, subst, take}
 use Rattle.std.specs.Prelude.{if◌then◌else◌, map}
 use Rattle.std.specs.Option.{option_map_or}
 use Rattle.std.specs.Map.{lookup, lookup_entry, remove_entry}
-use Rattle.lru.specs.LruCache.{lru_cache, promoted, put_entries}
+use Rattle.lru.specs.LruCache.{promoted}
 use Rattle.right_trace.specs.Keys.{FlagClass, Key}
-use Rattle.proof_right.specs.machine.Cache.{with_more, in_block, block, tried, Op, Uses, Stores, is_there, First, NoneThere, AskDoes, Misses, Takes, TakesFlags, TakesRd, TakesBoth, after_ops, Between, Ended, Asked, Replied, RepliedUnstored}
+use Rattle.right_trace.specs.Weights.{Room, HasRoom}
+use Rattle.proof_right.specs.machine.Cache.{with_more, in_block, block, tried, Op, Uses, Stores, is_there, First, NoneThere, AskDoes, Misses, Takes, TakesFlags, TakesRd, TakesBoth, after_ops, stored, GivesWay, AllGiveWay, Between, Ended, Asked, Replied, RepliedUnstored}
+use Rattle.proof_right.proofs.client.Between.{room_fewer}
 use Rattle.proof_right.proofs.client.Lists.{decide}
 use Rattle.proof_right.proofs.client.Serving.{clash}
 
@@ -78,34 +80,41 @@ module _ (V : Type 0) (eq : Key → Key → Bool) (eq_refl : (k : Key) → eq k 
       go ne None q = more k v n es s
       go ne (Some e) q = inr (apart_back k j (e.0) ne (entry_passes j es e q), removed k j v n es ne s)
 
-  -- so does a store under another key, while there is room
-  stored : (cap : ℕ) (k j : Key) (u v : V) (n : ℕ) (es : List (Key × V)) → eq k j ≡ false → suc n < cap → Stands k v n es → Stands k v (suc n) (put_entries eq (lru_cache es cap) j u)
-  stored cap k j u v n es ne room s = go (lookup_entry (eq j) es) refl
-    where
-      go : (o : Option (Key × V)) → lookup_entry (eq j) es ≡ o → Stands k v (suc n) (option_map_or (λ e. (e.0, u) ∷ remove_entry (eq j) es) o ((j, u) ∷ take (cap - 1) es))
-      go None q = inr (ne, taken k v n (cap - 1) es (omega arith) s)
-      go (Some e) q = inr (apart_back k j (e.0) ne (entry_passes j es e q), removed k j v n es ne s)
+  module _ (room : Room) (longest : ℕ) where
+    fewer : (a b : ℕ) → a ≤ b → HasRoom room longest b → HasRoom room longest a
+    fewer a b le has = room_fewer room longest longest a b (omega arith) le has
 
-  pub just_stored : (cap : ℕ) (k : Key) (v : V) (es : List (Key × V)) → Stands k v 0 (put_entries eq (lru_cache es cap) k v)
-  just_stored cap k v es = go (lookup_entry (eq k) es) refl
-    where
-      go : (o : Option (Key × V)) → lookup_entry (eq k) es ≡ o → Stands k v 0 (option_map_or (λ e. (e.0, v) ∷ remove_entry (eq k) es) o ((k, v) ∷ take (cap - 1) es))
-      go None q = (eq_refl k, refl)
-      go (Some e) q = (entry_passes k es e q, refl)
+    -- so does a store under another key, while there is room
+    stored_stands : (k j : Key) (u v : V) (l : Option ℕ) (n : ℕ) (es : List (Key × V)) → eq k j ≡ false → GivesWay room longest l → HasRoom room longest (suc n) → Stands k v n es → Stands k v (suc n) (stored eq j u l es)
+    stored_stands k j u v None n es ne gives has s = absurd (gives (fewer 0 (suc n) (omega arith) has))
+    stored_stands k j u v (Some left) n es ne gives has s =
+        let le : suc n ≤ left = gives (suc n) has in
+        inr (ne, taken k v n left (remove_entry (eq j) es) (omega arith) (removed k j v n es ne s))
+
+    pub just_stored : (k : Key) (v : V) (l : Option ℕ) (es : List (Key × V)) → GivesWay room longest l → HasRoom room longest 0 → Stands k v 0 (stored eq k v l es)
+    just_stored k v None es gives has = absurd (gives has)
+    just_stored k v (Some left) es gives has = (eq_refl k, refl)
 
   -- what is stored is not under key k
   abbrev pub Spares : Key → Op V → Type 0
   Spares k (Uses j) = Unit {0}
-  Spares k (Stores j v) = eq k j ≡ false
+  Spares k (Stores j v l) = eq k j ≡ false
 
   abbrev pub AllSpare : Key → List (Op V) → Type 0
   AllSpare k [] = Unit {0}
   AllSpare k (o ∷ os) = Spares k o × AllSpare k os
 
-  ops_stand : (cap : ℕ) (k : Key) (v : V) (os : List (Op V)) (n : ℕ) (es : List (Key × V)) → AllSpare k os → n + length os < cap → Stands k v n es → Stands k v (n + length os) (after_ops eq cap os es)
-  ops_stand cap k v [] n es a room s = subst (λ n. Stands k v n es) (omega arith) s
-  ops_stand cap k v (Uses j ∷ os) n es a room s = subst (λ m. Stands k v m (after_ops eq cap os (promoted (eq j) es))) (omega arith) (ops_stand cap k v os (suc n) (promoted (eq j) es) a.1 (omega arith) (used k j v n es s))
-  ops_stand cap k v (Stores j u ∷ os) n es a room s = subst (λ m. Stands k v m (after_ops eq cap os (put_entries eq (lru_cache es cap) j u))) (omega arith) (ops_stand cap k v os (suc n) (put_entries eq (lru_cache es cap) j u) a.1 (omega arith) (stored cap k j u v n es a.0 (omega arith) s))
+  ops_stand : (room : Room) (longest : ℕ) (k : Key) (v : V) (os : List (Op V)) (n : ℕ) (es : List (Key × V)) → AllSpare k os → AllGiveWay room longest os → HasRoom room longest (n + length os) → Stands k v n es → Stands k v (n + length os) (after_ops eq os es)
+  ops_stand room longest k v [] n es a g has s = subst (λ n. Stands k v n es) (omega arith) s
+  ops_stand room longest k v (Uses j ∷ os) n es a g has s =
+      let same : suc n + length os ≡ n + length (Uses j ∷ os) = omega arith in
+      subst (λ m. Stands k v m (after_ops eq os (promoted (eq j) es))) same
+      (ops_stand room longest k v os (suc n) (promoted (eq j) es) a.1 g.1 (subst (HasRoom room longest) (sym same) has) (used k j v n es s))
+  ops_stand room longest k v (Stores j u l ∷ os) n es a g has s =
+      let same : suc n + length os ≡ n + length (Stores j u l ∷ os) = omega arith in
+      subst (λ m. Stands k v m (after_ops eq os (stored eq j u l es))) same
+      (ops_stand room longest k v os (suc n) (stored eq j u l es) a.1 g.1 (subst (HasRoom room longest) (sym same) has)
+      (stored_stands room longest k j u v l n es a.0 g.0 (fewer room longest (suc n) (n + length (Stores j u l ∷ os)) (omega arith) has) s))
 
   -- An asking stores nothing under a key that is there.
 
@@ -156,30 +165,33 @@ module _ (V : Type 0) (eq : Key → Key → Bool) (eq_refl : (k : Key) → eq k 
   ask_spares : (own k : Key) (v : V) (n : ℕ) (es : List (Key × V)) (os : List (Op V)) → Stands k v n es → AskDoes eq own es os → AllSpare k os × (length os ≤ 3)
   ask_spares own k v n es _ s (Misses none) = (tt, omega arith)
   ask_spares own k v n es _ s (Takes j f) = ((tt, tt), omega arith)
-  ask_spares own k v n es _ s (TakesFlags j u f ne) = ((tt, (absent_apart k (in_block own j.rd own.flags) v n es s (flags_absent es own j f ne), tt)), omega arith)
-  ask_spares own k v n es _ s (TakesRd j u f ne) = ((tt, (absent_apart k own v n es s (rd_absent es own j f ne), tt)), omega arith)
-  ask_spares own k v n es _ s (TakesBoth j u w f ne nr) = ((tt, (absent_apart k (in_block own j.rd own.flags) v n es s (flags_absent es own j f ne), (absent_apart k own v n es s (rd_absent es own j f nr), tt))), omega arith)
+  ask_spares own k v n es _ s (TakesFlags j u l f ne) = ((tt, (absent_apart k (in_block own j.rd own.flags) v n es s (flags_absent es own j f ne), tt)), omega arith)
+  ask_spares own k v n es _ s (TakesRd j u l f ne) = ((tt, (absent_apart k own v n es s (rd_absent es own j f ne), tt)), omega arith)
+  ask_spares own k v n es _ s (TakesBoth j u w l m f ne nr) = ((tt, (absent_apart k (in_block own j.rd own.flags) v n es s (flags_absent es own j f ne), (absent_apart k own v n es s (rd_absent es own j f nr), tt))), omega arith)
 
   up : (k : Key) (v : V) (n d : ℕ) (es : List (Key × V)) → Stands k v n es → Stands k v (n + d) es
   up k v n zero es s = subst (λ n. Stands k v n es) (omega arith) s
   up k v n (suc d) es s = subst (λ m. Stands k v m es) (omega arith) (more k v (n + d) es (up k v n d es s))
 
-  between_stands : (cap : ℕ) (k : Key) (v : V) (a b n : ℕ) (es fs : List (Key × V)) → Between eq cap k a b es fs → n + (3 * a + b) < cap → Stands k v n es → Stands k v (n + (3 * a + b)) fs
-  between_stands cap k v _ _ n _ _ (Ended es) room s = subst (λ n. Stands k v n es) (omega arith) s
-  between_stands cap k v _ _ n _ _ (Asked own os a b es fs does rest) room s =
+  between_stands : (room : Room) (longest : ℕ) (k : Key) (v : V) (a b n : ℕ) (es fs : List (Key × V)) → Between eq room longest k a b es fs → HasRoom room longest (n + (3 * a + b)) → Stands k v n es → Stands k v (n + (3 * a + b)) fs
+  between_stands room longest k v _ _ n _ _ (Ended es) has s = subst (λ n. Stands k v n es) (omega arith) s
+  between_stands room longest k v _ _ n _ _ (Asked own os a b es fs does gives rest) has s =
       let q = ask_spares own k v n es os s does in
       let few = q.1 in
-      let t = ops_stand cap k v os n es q.0 (omega arith) s in
-      let i = between_stands cap k v a b (n + length os) (after_ops eq cap os es) fs rest (omega arith) t in
+      let t = ops_stand room longest k v os n es q.0 gives (fewer room longest (n + length os) (n + (3 * (a + 1) + b)) (omega arith) has) s in
+      let i = between_stands room longest k v a b (n + length os) (after_ops eq os es) fs rest (fewer room longest (n + length os + (3 * a + b)) (n + (3 * (a + 1) + b)) (omega arith) has) t in
       let j = up k v (n + length os + (3 * a + b)) (3 - length os) fs i in
       subst (λ m. Stands k v m fs) (omega arith) j
-  between_stands cap k v _ _ n _ _ (Replied j u a b es fs ne rest) room s =
-      subst (λ m. Stands k v m fs) (omega arith) (between_stands cap k v a b (suc n) (put_entries eq (lru_cache es cap) j u) fs rest (omega arith) (stored cap k j u v n es ne (omega arith) s))
-  between_stands cap k v _ _ n _ _ (RepliedUnstored a b es fs rest) room s = subst (λ m. Stands k v m fs) (omega arith) (up k v (n + (3 * a + b)) 1 fs (between_stands cap k v a b n es fs rest (omega arith) s))
+  between_stands room longest k v _ _ n _ _ (Replied j u l a b es fs ne gives rest) has s =
+      let t = stored_stands room longest k j u v l n es ne gives (fewer room longest (suc n) (n + (3 * a + (b + 1))) (omega arith) has) s in
+      subst (λ m. Stands k v m fs) (omega arith) (between_stands room longest k v a b (suc n) (stored eq j u l es) fs rest (fewer room longest (suc n + (3 * a + b)) (n + (3 * a + (b + 1))) (omega arith) has) t)
+  between_stands room longest k v _ _ n _ _ (RepliedUnstored a b es fs rest) has s =
+      subst (λ m. Stands k v m fs) (omega arith) (up k v (n + (3 * a + b)) 1 fs (between_stands room longest k v a b n es fs rest (fewer room longest (n + (3 * a + b)) (n + (3 * a + (b + 1))) (omega arith) has) s))
 
   -- The count: an entry that was just stored is what an asking with its key finds.
-  pub hit : (cap : ℕ) (k : Key) (v : V) (a b : ℕ) (es fs : List (Key × V)) → Between eq cap k a b (put_entries eq (lru_cache es cap) k v) fs → 3 * a + b < cap → lookup (eq k) fs ≡ Some v
-  hit cap k v a b es fs between room = found k v (0 + (3 * a + b)) fs (between_stands cap k v a b 0 (put_entries eq (lru_cache es cap) k v) fs between (omega arith) (just_stored cap k v es))
+  pub hit : (room : Room) (longest : ℕ) (k : Key) (v : V) (l : Option ℕ) (a b : ℕ) (es fs : List (Key × V)) → GivesWay room longest l → Between eq room longest k a b (stored eq k v l es) fs → HasRoom room longest (3 * a + b) → lookup (eq k) fs ≡ Some v
+  hit room longest k v l a b es fs gives between has =
+      found k v (0 + (3 * a + b)) fs (between_stands room longest k v a b 0 (stored eq k v l es) fs between (subst (HasRoom room longest) (omega arith) has) (just_stored room longest k v l es gives (fewer room longest 0 (3 * a + b) (omega arith) has)))
 
   -- it is the first that is tried
   pub hit_first : (k : Key) (v : V) (fs : List (Key × V)) → lookup (eq k) fs ≡ Some v → First eq fs (tried k) k

@@ -2,11 +2,11 @@
 use Rattle.right_trace.specs.Parts.{known_parts, Says, IsIn, Parts}
 use Rattle.proof_right.proofs.PartLaws.{PostRight, machine_of, Part}
 use Rattle.std.proofs.Common.{◌≡◌, ℕ, suc, ◌+◌, ◌*◌, ◌<◌, ◌≤◌, ◌≢◌, Bool, true, false, ◌⊎◌, inl, inr, Option, Some, None, List, [], ◌∷◌, ◌++◌, refl, arith, sym, ◌∙◌, ap, ap₂, subst, subst₂, ◌==◌, ◌&&◌, ◌||◌}
-use Rattle.std.specs.Prelude.{Result, Ok, Err, if◌then◌else◌, not, map, ◌-◌}
+use Rattle.std.specs.Prelude.{Result, Ok, Err, if◌then◌else◌, not, map, max, ◌-◌}
 use Rattle.std.specs.Map.{lookup}
 use Rattle.std.proofs.lemmas.Bool.{cases_lt, or_right}
+use Rattle.std.proofs.Math.Nat.{le-max_left, le-max_right, max-le}
 use Rattle.std.proofs.lemmas.Bool.Decides.{nat_tests}
-use Rattle.lru.specs.LruCache.{lru_cache, put_entries}
 use Rattle.client_request.specs.Request.{Request}
 use Rattle.client_request.specs.declared.error.Error.{Error}
 use Rattle.client_request.specs.declared.event.Event.{Event}
@@ -30,11 +30,12 @@ use Rattle.proof_right.proofs.client.Unhanded.{none_yet, moves_untried, Untried,
 use Rattle.proof_right.proofs.client.Outcomes.{best_given, failing_so}
 use Rattle.right_trace.specs.Validity.{waits_for_others}
 use Rattle.right_trace.specs.Replies.{IsFresh, IsFreshReply}
-use Rattle.proof_right.specs.machine.Cache.{Between, Ended, RepliedUnstored}
+use Rattle.right_trace.specs.Weights.{Room, HasRoom, longest_form, longest_given, octets_given, octets_in}
+use Rattle.proof_right.specs.machine.Cache.{Between, Ended, RepliedUnstored, GivesWay, AllGiveWay, stored}
 use Rattle.right_trace.specs.Hit.{asks_since, replies_since, is_some_reply, other_replies, IsViewOf, OutIsView, AllAreViews, IsHit, Views, Hits, AllHit}
-use Rattle.proof_right.specs.machine.Exact.{Value, value_of, RunCached, Serves, ServedBy, Viewing, Looks, Looked, LeftAlone, Cached, AllCached, entry_under, MayRevive}
-use Rattle.proof_right.specs.machine.Client.{Waiting, IsOutcome, unmade, Leaving, Upper, Made, Move, Server_moves, Hands_on, Gives_up, Drops, Keeps_back, Delivers, Concludes, Times_out, Replies, Forgets, Derives, Answers, Takes_on, Moves, Rests, Goes, IsDone, IsStep, IsRun, Ends, Goes_on, row_begins, begun, answer, Entry, moved, hand, take_on, with_expired, is_failure_of, told_of, revive, Revives}
-use Rattle.proof_right.proofs.client.Kept.{Kept, MayStore, LeavingFits}
+use Rattle.proof_right.specs.machine.Exact.{Value, value_of, RunCached, Serves, ServedBy, Viewing, Looks, Looked, LeftAlone, Keeps, Cached, AllCached, entry_under, longest_kept, MayRevive}
+use Rattle.proof_right.specs.machine.Client.{Waiting, IsOutcome, unmade, Leaving, Upper, Made, Move, Server_moves, Hands_on, Gives_up, Drops, Keeps_back, Delivers, Concludes, Times_out, Replies, Forgets, Derives, Answers, Takes_on, Moves, Rests, Goes, IsDone, IsStep, IsRun, Ends, Goes_on, row_begins, begun, answer, Entry, moved, hand, take_on, with_expired, is_failure_of, told_of, revive, store, entry_of, Revives}
+use Rattle.proof_right.proofs.client.Kept.{Kept, MayStore, WasReply, EntryFits, LeavingFits}
 use Rattle.proof_right.proofs.client.Later.{put_more, now_all, asking_all, ever_all}
 use Rattle.proof_right.proofs.client.Lists.{decide, in_left, in_right, in_here, in_but, in_either, in_more}
 use Rattle.proof_right.proofs.client.Serving.{clash}
@@ -45,14 +46,14 @@ use Rattle.proof_right.proofs.client.Beginning.{begun_kept, begun_done, row_kept
 use Rattle.proof_right.proofs.client.Outcomes.{at_once, at_once_plain}
 use Rattle.proof_right.proofs.client.Hit.{hit}
 use Rattle.proof_right.proofs.client.Among.{fresh_not_here, ever_replied, NoReply, no_reply, same_ask, others_more, among_left, among_right, among_either}
-use Rattle.proof_right.proofs.client.Between.{snoc_ask, snoc_store}
+use Rattle.proof_right.proofs.client.Between.{room_fewer, gives_way_longer, all_longer, between_longer, snoc_ask, snoc_store}
 use Rattle.right_trace.proofs.Valid.{own_view_valid, valid_is_read}
 use Rattle.right_trace.specs.Errors.{is_failing, HereOrEarlier}
 use Rattle.right_trace.specs.StaleServed.{CameUnread, FailsBy, NoneFails, NeverFails, ServesStale, AllServeStale}
 use Rattle.dns_base.specs.Data.{Data}
 use Rattle.client_request.specs.declared.error.Error.TheVariants as errors
 
-module _ (c : Conf) (s : Settings) (compose : Request → Result Octets Error) (composes : Composes c compose) (P : Part c) (eq : Key → Key → Bool) (cap : ℕ)
+module _ (c : Conf) (s : Settings) (compose : Request → Result Octets Error) (composes : Composes c compose) (P : Part c) (eq : Key → Key → Bool) (rm : Room)
     (eq_refl : (k : Key) → eq k k ≡ true) (eq_sym : (a b : Key) → eq a b ≡ true → eq b a ≡ true) (eq_trans : (a b d : Key) → eq a b ≡ true → eq b d ≡ true → eq a d ≡ true) (eq_same : (a b : Key) → eq a b ≡ true → a ≡ b) where
   abbrev Cache : Type 0
   Cache = List (Key × Value)
@@ -60,12 +61,26 @@ module _ (c : Conf) (s : Settings) (compose : Request → Result Octets Error) (
   abbrev value : Request → (j : ℕ) → Octets → (moment : ℕ) → Value
   value q j m n = record { first = q; number = j; result = Ok m; moment = n }
 
-  -- the cache since a fresh reply was stored, with the counts of what came between
-  pub record Kept_since (q : Request) (j : ℕ) (m : Octets) (moment pend : ℕ) (es : List (Key × Value)) (h : History) : Type 0 where
+  -- what came between since a fresh reply was stored, no message that is kept being longer than so many octets
+  pub record Passed (longest : ℕ) (q : Request) (j : ℕ) (m : Octets) (moment a b : ℕ) (es : List (Key × Value)) : Type 0 where
     pub entries : List (Key × Value)
+    pub left : Option ℕ
+    pub gives_way : GivesWay rm longest left
+    pub between : Between eq rm longest (key_of q) a b (stored eq (key_of q) (value q j m moment) left entries) es
+
+  longer : (m n : ℕ) → m ≤ n → (q : Request) (j : ℕ) (o : Octets) (moment a b : ℕ) (es : Cache) → Passed m q j o moment a b es → Passed n q j o moment a b es
+  longer m n le q j o moment a b es p = record {
+    entries = p.entries;
+    left = p.left;
+    gives_way = gives_way_longer rm m n le p.left p.gives_way;
+    between = between_longer eq rm m n le (key_of q) a b (stored eq (key_of q) (value q j o moment) p.left p.entries) es p.between;
+  }
+
+  -- the cache since then, with the counts of what came between
+  pub record Kept_since (q : Request) (j : ℕ) (m : Octets) (moment pend : ℕ) (es : List (Key × Value)) (h : History) : Type 0 where
     pub a : ℕ
     pub b : ℕ
-    pub between : Between eq cap (key_of q) a b (put_entries eq (lru_cache entries cap) (key_of q) (value q j m moment)) es
+    pub passed : Passed (longest_given h) q j m moment a b es
     pub few_asks : a + pend ≤ asks_since j h
     pub few_replies : b ≤ replies_since j h
 
@@ -73,6 +88,32 @@ module _ (c : Conf) (s : Settings) (compose : Request → Result Octets Error) (
   abbrev pub HitFits : (pend : ℕ) → List (Key × Value) → History → Type 0
   HitFits pend es h = (q : Request) (j t : ℕ) (m : Octets) (moment n but : ℕ) → asking j h ≡ Some (record { request = q; moment = t }) → Ever (IsFreshReply c s j m moment) h → validity_of_message s m ≡ Some n → 0 < n → is_cacheable q ≡ true → replied but h ≡ false → AllAreViews q m j moment but h
       → Kept_since q j m moment pend es h
+
+  -- a reply that was put carried no longer message than the longest
+  given_here : (j : ℕ) (m : Octets) (n : ℕ) (h : History) → IsFreshReply c s j m n h → longest_form m ≤ longest_given h
+  given_here j m n h f = subst (λ g. longest_form m ≤ longest_given g) (sym f.put) (le-max_left (longest_form m) (longest_given f.before))
+
+  given_ever : (j : ℕ) (m : Octets) (n : ℕ) (h : History) → Ever (IsFreshReply c s j m n) h → longest_form m ≤ longest_given h
+  given_ever j m n [] e = absurd e
+  given_ever j m n (Came w ∷ h) e = elim e [ inl f ↦ given_here j m n (Came w ∷ h) f | inr r ↦ given_ever j m n h r ]
+  given_ever j m n (Put o ∷ h) e = elim e [
+    | inl f ↦ given_here j m n (Put o ∷ h) f
+    | inr r ↦ (let a = given_ever j m n h r in let b = le-max_right (octets_given o) (longest_given h) in omega arith)
+  ]
+
+  entry_given : (number moment : ℕ) (x : Result Octets Error) (h : History) → WasReply c s number moment h x → octets_in x ≤ longest_given h
+  entry_given number moment (Ok m) h was = given_ever number m moment h was.0
+  entry_given number moment (Err e) h was = omega arith
+
+  kept_given : (n : ℕ) (h : History) (es : List Entry) → ((e : Entry) → IsIn e es → EntryFits c s e n h) → longest_kept es ≤ longest_given h
+  kept_given n h [] fits = omega arith
+  kept_given n h (e ∷ es) fits =
+      max-le (entry_given e.number e.moment e.result h (fits e (inl refl)).was) (kept_given n h es (λ z i. fits z (inr i)))
+
+  -- outs make the longest no shorter
+  given_all : (xs : List Out) (h : History) → longest_given h ≤ longest_given (put_all xs h)
+  given_all [] h = omega arith
+  given_all (x ∷ xs) h = let a = given_all xs (Put x ∷ h) in let b = le-max_right (octets_given x) (longest_given h) in omega arith
 
   -- an out of a server
   fits_put : (pend : ℕ) (es : Cache) (o : Out) (h : History) → NoReply o → HitFits pend es h → HitFits pend es (Put o ∷ h)
@@ -83,10 +124,9 @@ module _ (c : Conf) (s : Settings) (compose : Request → Result Octets Error) (
       let v : AllAreViews q m j moment but h = elim views [ inl x ↦ absurd (clash (is_reply j o) x (none.0 j)) | inr y ↦ y.1 ] in
       let k = f q j t m moment n but ask old val pos ca un' v in
       record {
-        entries = k.entries;
         a = k.a;
         b = k.b;
-        between = k.between;
+        passed = longer (longest_given h) (longest_given (Put o ∷ h)) (le-max_right (octets_given o) (longest_given h)) q j m moment k.a k.b es k.passed;
         few_asks = subst (λ z. k.a + pend ≤ z) (sym (ap (λ b. if b then one_if (is_ask (newest h)) else asks_since j h) (none.0 j))) k.few_asks;
         few_replies = subst (λ z. k.b ≤ z) (sym (ap (λ b. if b then 0 else (if replied j h then one_if (is_some_reply o) + replies_since j h else 0)) (none.0 j) ∙ (ap (λ b. if b then one_if (is_some_reply o) + replies_since j h else 0) r ∙ ap (λ b. one_if b + replies_since j h) none.1))) (let z = k.few_replies in omega arith);
       }
@@ -114,31 +154,62 @@ module _ (c : Conf) (s : Settings) (compose : Request → Result Octets Error) (
       let ask' : asking j h ≡ Some (record { request = q; moment = t }) = sym (asking_other j e h (λ x. (omega arith))) ∙ ask in
       let k = f q j t m moment n but ask' old val pos ca un views in
       record {
-        entries = k.entries;
         a = k.a;
         b = k.b;
-        between = k.between;
+        passed = k.passed;
         few_asks = subst (λ z. k.a + one_if (is_ask e.what) ≤ z) (sym (ap (λ b. if b then one_if (is_ask e.what) + asks_since j h else 0) r)) (let z = k.few_asks in omega arith);
         few_replies = subst (λ z. k.b ≤ z) (sym (ap (λ b. if b then replies_since j h else 0) r)) k.few_replies;
       }
 
   -- an asking looks
-  fits_looks : (r : Request) (es fs : Cache) (h : History) → Looks c s compose (machine_of P) eq cap r es fs → HitFits 1 es h → HitFits 0 fs h
-  fits_looks r es fs h (Looked os does is) f q j t m moment n but ask ever val pos ca un views =
+  fits_looks : (ks : List Entry) (r : Request) (es fs : Cache) (h : History) → longest_kept ks ≤ longest_given h → Looks c s compose (machine_of P) eq rm ks r es fs → HitFits 1 es h → HitFits 0 fs h
+  fits_looks ks r es fs h le (Looked os does gives is) f q j t m moment n but ask ever val pos ca un views =
       let k = f q j t m moment n but ask ever val pos ca un views in
-      record { entries = k.entries; a = k.a + 1; b = k.b; between = subst (λ z. Between eq cap (key_of q) (k.a + 1) k.b (put_entries eq (lru_cache k.entries cap) (key_of q) (value q j m moment)) z) (sym is) (snoc_ask eq cap (key_of q) (key_of r) k.a k.b (put_entries eq (lru_cache k.entries cap) (key_of q) (value q j m moment)) es os k.between does); few_asks = (let z = k.few_asks in omega arith); few_replies = k.few_replies }
-  fits_looks r es fs h (LeftAlone is) f q j t m moment n but ask ever val pos ca un views =
+      let p = k.passed in
+      let first : Cache = stored eq (key_of q) (value q j m moment) p.left p.entries in
+      let all = all_longer rm (longest_kept ks) (longest_given h) le os gives in
+      record {
+        a = k.a + 1;
+        b = k.b;
+        passed = record {
+          entries = p.entries;
+          left = p.left;
+          gives_way = p.gives_way;
+          between = subst (λ z. Between eq rm (longest_given h) (key_of q) (k.a + 1) k.b first z) (sym is) (snoc_ask eq rm (longest_given h) (key_of q) (key_of r) k.a k.b first es os p.between does all);
+        };
+        few_asks = (let z = k.few_asks in omega arith);
+        few_replies = k.few_replies;
+      }
+  fits_looks ks r es fs h le (LeftAlone is) f q j t m moment n but ask ever val pos ca un views =
       let k = f q j t m moment n but ask ever val pos ca un views in
-      record { entries = k.entries; a = k.a; b = k.b; between = subst (λ z. Between eq cap (key_of q) k.a k.b (put_entries eq (lru_cache k.entries cap) (key_of q) (value q j m moment)) z) (sym is) k.between; few_asks = (let z = k.few_asks in omega arith); few_replies = k.few_replies }
+      record { a = k.a; b = k.b; passed = subst (Passed (longest_given h) q j m moment k.a k.b) (sym is) k.passed; few_asks = (let z = k.few_asks in omega arith); few_replies = k.few_replies }
 
   module _ (past : History) (w : What) (x : Upper P.State) (h : History) (kept : Kept c s P past w x h) where
+    -- what is stored with a reply that is put is no longer than the longest
+    stored_given : (y : Leaving) → longest_kept (store x.now y x.stored) ≤ longest_given (Put (Reply y.request y.result) ∷ h)
+    stored_given y = go y.is_stored
+      where
+        before : longest_kept x.stored ≤ longest_given h
+        before = kept_given x.asked h x.stored kept.entries
+
+        go : (b : Bool) → longest_kept (if b then entry_of x.now y ∷ x.stored else x.stored) ≤ max (octets_in y.result) (longest_given h)
+        go true =
+            let l = le-max_left (octets_in y.result) (longest_given h) in
+            let r = le-max_right (octets_in y.result) (longest_given h) in
+            let b = before in
+            max-le l (omega arith)
+        go false = let r = le-max_right (octets_in y.result) (longest_given h) in let b = before in omega arith
+
     -- a reply is put
-    fits_reply : (first last : List Leaving) (y : Leaving) → x.leaving ≡ first ++ y ∷ last → y.stale ≡ None → (es fs : Cache) → fs ≡ (if y.is_stored then put_entries eq (lru_cache es cap) (key_of y.asked) (value_of x.now y) else es)
+    fits_reply : (first last : List Leaving) (y : Leaving) → x.leaving ≡ first ++ y ∷ last → y.stale ≡ None → (es fs : Cache) → Keeps c s compose (machine_of P) eq rm x.now y x.stored es fs
         → HitFits (one_if (is_ask x.pending)) es h → HitFits (one_if (is_ask x.pending)) fs (Put (Reply y.request y.result) ∷ h)
     fits_reply first last y is plain es fs cached f q j t m moment n but ask ever val pos ca un views = elim ever [ inl z ↦ new z | inr z ↦ old z ]
       where
         fit : LeavingFits c s P past w x.held x.ups x.asked y h
         fit = kept.leaves y (subst (IsIn y) (sym is) (in_here y first last))
+
+        given : GivesWay rm (longest_given (Put (Reply y.request y.result) ∷ h)) cached.left
+        given = gives_way_longer rm (longest_kept (store x.now y x.stored)) (longest_given (Put (Reply y.request y.result) ∷ h)) (stored_given y) cached.left cached.gives_way
 
         no_ask : is_asked_here y.request h ≡ true → (u : Octets) → IsFresh c s y.request u past w h → ⊥
         no_ask here u fr = fresh_not_here c s y.request u past w h fr kept.row here
@@ -181,13 +252,17 @@ module _ (c : Conf) (s : Settings) (compose : Request → Result Octets Error) (
             stored_now k res same at fr true e =
                 let v : value_of x.now y ≡ value q j m moment = cc in
                 let kk : key_of y.asked ≡ key_of q = ap key_of same in
-                let fs_is : fs ≡ put_entries eq (lru_cache es cap) (key_of q) (value q j m moment) = cached ∙ (ap (λ b. if b then put_entries eq (lru_cache es cap) (key_of y.asked) (value_of x.now y) else es) e ∙ ap₂ (λ k v. put_entries eq (lru_cache es cap) k v) kk v) in
+                let fs_is : fs ≡ stored eq (key_of q) (value q j m moment) cached.left es = cached.entries ∙ (ap (λ b. if b then stored eq (key_of y.asked) (value_of x.now y) cached.left es else es) e ∙ ap₂ (λ k v. stored eq k v cached.left es) kk v) in
                 let own : is_reply j (Reply y.request y.result) ≡ true = (let z : (y.request == j) ≡ true = grind (arith, nat_tests) in z) in
                 record {
-                  entries = es;
                   a = 0;
                   b = 0;
-                  between = subst (λ z. Between eq cap (key_of q) 0 0 (put_entries eq (lru_cache es cap) (key_of q) (value q j m moment)) z) (sym fs_is) (Ended (put_entries eq (lru_cache es cap) (key_of q) (value q j m moment)));
+                  passed = subst (Passed (longest_given (Put (Reply y.request y.result) ∷ h)) q j m moment 0 0) (sym fs_is) (record {
+                    entries = es;
+                    left = cached.left;
+                    gives_way = given;
+                    between = Ended (stored eq (key_of q) (value q j m moment) cached.left es);
+                  });
                   few_asks = subst (λ z. 0 + one_if (is_ask x.pending) ≤ z) (sym (ap (λ b. if b then one_if (is_ask (newest h)) else asks_since j h) own)) (let z = pend_few x.pending refl in omega arith);
                   few_replies = omega arith;
                 }
@@ -204,7 +279,7 @@ module _ (c : Conf) (s : Settings) (compose : Request → Result Octets Error) (
             let more : replies_since j (Put (Reply y.request y.result) ∷ h) ≡ 1 + replies_since j h = ap (λ b. if b then 0 else (if replied j h then 1 + replies_since j h else 0)) not_j ∙ ap (λ b. if b then 1 + replies_since j h else 0) r in
             let fewer : k.b + 1 ≤ replies_since j (Put (Reply y.request y.result) ∷ h) = (let z = k.few_replies in omega arith) in
             let is_view : OutIsView q m moment h (Reply y.request y.result) = elim v.0 [ inl e ↦ absurd (clash (y.request == but) e parts.0) | inr o ↦ o ] in
-            record { entries = k.entries; a = k.a; b = k.b + 1; between = go k.entries k.a k.b k.between is_view y.is_stored refl; few_asks = subst (λ z. k.a + one_if (is_ask x.pending) ≤ z) (sym asks_same) k.few_asks; few_replies = fewer }
+            record { a = k.a; b = k.b + 1; passed = go k.a k.b (longer (longest_given h) (longest_given (Put (Reply y.request y.result) ∷ h)) (le-max_right (octets_in y.result) (longest_given h)) q j m moment k.a k.b es k.passed) is_view y.is_stored refl; few_asks = subst (λ z. k.a + one_if (is_ask x.pending) ≤ z) (sym asks_same) k.few_asks; few_replies = fewer }
           where
             both : (a b : Bool) → (a || b) ≡ false → (a ≡ false) × (b ≡ false)
             both true b e = absurd (cc)
@@ -221,9 +296,20 @@ module _ (c : Conf) (s : Settings) (compose : Request → Result Octets Error) (
                 no_view (Ok o) e k st view = (let v = unmarked (Ok o) view y.asked (fit.asked.0) fit.asked.1 st.0 k in no_ask v.0 o st.1.0)
                 no_view (Err o) e k st view = unmarked (Err o) view y.asked (fit.asked.0) fit.asked.1 st.0 k
 
-            go : (entries : Cache) (a b : ℕ) → Between eq cap (key_of q) a b (put_entries eq (lru_cache entries cap) (key_of q) (value q j m moment)) es → OutIsView q m moment h (Reply y.request y.result) → (z : Bool) → y.is_stored ≡ z → Between eq cap (key_of q) a (b + 1) (put_entries eq (lru_cache entries cap) (key_of q) (value q j m moment)) fs
-            go entries a b bt view true e = subst (λ z. Between eq cap (key_of q) a (b + 1) (put_entries eq (lru_cache entries cap) (key_of q) (value q j m moment)) z) (sym (cached ∙ ap (λ b. if b then put_entries eq (lru_cache es cap) (key_of y.asked) (value_of x.now y) else es) e)) (snoc_store eq cap (key_of q) (key_of y.asked) (value_of x.now y) a b (put_entries eq (lru_cache entries cap) (key_of q) (value q j m moment)) es bt (apart view e))
-            go entries a b bt view false e = subst (λ z. Between eq cap (key_of q) a (b + 1) (put_entries eq (lru_cache entries cap) (key_of q) (value q j m moment)) z) (sym (cached ∙ ap (λ b. if b then put_entries eq (lru_cache es cap) (key_of y.asked) (value_of x.now y) else es) e)) (RepliedUnstored a b (put_entries eq (lru_cache entries cap) (key_of q) (value q j m moment)) es bt)
+            go : (a b : ℕ) → Passed (longest_given (Put (Reply y.request y.result) ∷ h)) q j m moment a b es → OutIsView q m moment h (Reply y.request y.result) → (z : Bool) → y.is_stored ≡ z → Passed (longest_given (Put (Reply y.request y.result) ∷ h)) q j m moment a (b + 1) fs
+            go a b p view true e =
+                let first : Cache = stored eq (key_of q) (value q j m moment) p.left p.entries in
+                let fs_is : fs ≡ stored eq (key_of y.asked) (value_of x.now y) cached.left es = cached.entries ∙ ap (λ b. if b then stored eq (key_of y.asked) (value_of x.now y) cached.left es else es) e in
+                subst (Passed (longest_given (Put (Reply y.request y.result) ∷ h)) q j m moment a (b + 1)) (sym fs_is) (record {
+                  entries = p.entries;
+                  left = p.left;
+                  gives_way = p.gives_way;
+                  between = snoc_store eq rm (longest_given (Put (Reply y.request y.result) ∷ h)) (key_of q) (key_of y.asked) (value_of x.now y) cached.left a b first es p.between (apart view e) given;
+                })
+            go a b p view false e =
+                let first : Cache = stored eq (key_of q) (value q j m moment) p.left p.entries in
+                let fs_is : fs ≡ es = cached.entries ∙ ap (λ b. if b then stored eq (key_of y.asked) (value_of x.now y) cached.left es else es) e in
+                subst (Passed (longest_given (Put (Reply y.request y.result) ∷ h)) q j m moment a (b + 1)) (sym fs_is) (record { entries = p.entries; left = p.left; gives_way = p.gives_way; between = RepliedUnstored a b first es p.between })
 
     -- what an expired message says is put, behind its mark: nothing that is kept changes
     fits_stale : (first last : List Leaving) (y : Leaving) (o : Octets) → x.leaving ≡ first ++ y ∷ last → y.stale ≡ Some o → (es : Cache) → HitFits (one_if (is_ask x.pending)) es h → HitFits (one_if (is_ask x.pending)) es (Put (Reply y.request (Ok o)) ∷ Put (Stale y.request) ∷ h)
@@ -261,13 +347,14 @@ module _ (c : Conf) (s : Settings) (compose : Request → Result Octets Error) (
             let asks_same : asks_since j (Put (Reply y.request (Ok o)) ∷ Put (Stale y.request) ∷ h) ≡ asks_since j h = ap (λ b. if b then one_if (is_ask (newest h)) else asks_since j h) not_j in
             let none : replies_since j (Put (Stale y.request) ∷ h) ≡ 0 + replies_since j h = ap (λ b. if b then 0 + replies_since j h else 0) r in
             let more : replies_since j (Put (Reply y.request (Ok o)) ∷ Put (Stale y.request) ∷ h) ≡ 1 + replies_since j (Put (Stale y.request) ∷ h) = ap (λ b. if b then 0 else (if replied j h then 1 + replies_since j (Put (Stale y.request) ∷ h) else 0)) not_j ∙ ap (λ b. if b then 1 + replies_since j (Put (Stale y.request) ∷ h) else 0) r in
-            record { entries = k.entries; a = k.a; b = k.b; between = k.between; few_asks = subst (λ z. k.a + one_if (is_ask x.pending) ≤ z) (sym asks_same) k.few_asks; few_replies = (let z = k.few_replies in omega arith) }
+            let le : longest_given h ≤ longest_given (Put (Reply y.request (Ok o)) ∷ Put (Stale y.request) ∷ h) = given_all (Stale y.request ∷ Reply y.request (Ok o) ∷ []) h in
+            record { a = k.a; b = k.b; passed = longer (longest_given h) (longest_given (Put (Reply y.request (Ok o)) ∷ Put (Stale y.request) ∷ h)) le q j m moment k.a k.b es k.passed; few_asks = subst (λ z. k.a + one_if (is_ask x.pending) ≤ z) (sym asks_same) k.few_asks; few_replies = (let z = k.few_replies in omega arith) }
           where
             not_or : (a b : Bool) → (a || b) ≡ false → b ≡ false
             not_or true b e = absurd (cc)
             not_or false b e = e
 
-    fits_told : (first last : List Leaving) (y : Leaving) → x.leaving ≡ first ++ y ∷ last → (es fs : Cache) → fs ≡ (if y.is_stored then put_entries eq (lru_cache es cap) (key_of y.asked) (value_of x.now y) else es)
+    fits_told : (first last : List Leaving) (y : Leaving) → x.leaving ≡ first ++ y ∷ last → (es fs : Cache) → Keeps c s compose (machine_of P) eq rm x.now y x.stored es fs
         → HitFits (one_if (is_ask x.pending)) es h → HitFits (one_if (is_ask x.pending)) fs (put_all (told_of y.request y.result y.stale) h)
     fits_told first last y is es fs cached f = go y.stale refl
       where
@@ -276,10 +363,10 @@ module _ (c : Conf) (s : Settings) (compose : Request → Result Octets Error) (
 
         go : (o : Option Octets) → y.stale ≡ o → HitFits (one_if (is_ask x.pending)) fs (put_all (told_of y.request y.result o) h)
         go None e = fits_reply first last y is e es fs cached f
-        go (Some o) e = subst (λ z. HitFits (one_if (is_ask x.pending)) z (Put (Reply y.request (Ok o)) ∷ Put (Stale y.request) ∷ h)) (sym (cached ∙ ap (λ b. if b then put_entries eq (lru_cache es cap) (key_of y.asked) (value_of x.now y) else es) (kept.revived y o there e).unstored)) (fits_stale first last y o is e es f)
+        go (Some o) e = subst (λ z. HitFits (one_if (is_ask x.pending)) z (Put (Reply y.request (Ok o)) ∷ Put (Stale y.request) ∷ h)) (sym (cached.entries ∙ ap (λ b. if b then stored eq (key_of y.asked) (value_of x.now y) cached.left es else es) (kept.revived y o there e).unstored)) (fits_stale first last y o is e es f)
 
     -- one move
-    move_fits : (d : Made P.State) (move : Move c s compose (machine_of P) x d) (es fs : Cache) → Cached c s compose (machine_of P) eq cap x d move es fs → HitFits (one_if (is_ask x.pending)) es h → HitFits (one_if (is_ask d.state.pending)) fs (put_all d.outs h)
+    move_fits : (d : Made P.State) (move : Move c s compose (machine_of P) x d) (es fs : Cache) → Cached c s compose (machine_of P) eq rm x d move es fs → HitFits (one_if (is_ask x.pending)) es h → HitFits (one_if (is_ask d.state.pending)) fs (put_all d.outs h)
     move_fits _ (Server_moves i d lt act) es fs is f = subst (λ z. HitFits (one_if (is_ask x.pending)) z (put_all d.outs h)) (sym is) (fits_outs (one_if (is_ask x.pending)) es past w (put_all d.outs h) d.outs h (acts_right_here c s P past w x h kept i lt d act (put_all d.outs h) (λ k e. e)) f)
     move_fits _ (Hands_on i k a d lt held untried st) es fs is f = subst (λ z. HitFits (one_if (is_ask x.pending)) z (put_all d.outs h)) (sym is) (fits_outs (one_if (is_ask x.pending)) es past w (put_all d.outs h) d.outs h (starts_right_here c s P past w x h kept i lt k a held untried d st (put_all d.outs h) (λ k e. e)) f)
     move_fits _ (Gives_up i k d lt held holds can) es fs is f =
@@ -297,8 +384,8 @@ module _ (c : Conf) (s : Settings) (compose : Request → Result Octets Error) (
     move_fits _ (Replies before after y is) es fs e f = fits_told before after y is es fs e.0 f
     move_fits _ (Forgets before after z is) es fs e f = subst (λ z. HitFits (one_if (is_ask x.pending)) z h) (sym e) f
     move_fits _ (Derives z k j covers) es fs e f = subst (λ z. HitFits (one_if (is_ask x.pending)) z h) (sym e) f
-    move_fits _ (Answers r y pend at) es fs e f = fits_looks r es fs h e.0 (subst (λ p. HitFits (one_if (is_ask p)) es h) pend f)
-    move_fits _ (Takes_on r o old pend composed lt there) es fs e f = fits_looks r es fs h e.0 (subst (λ p. HitFits (one_if (is_ask p)) es h) pend f)
+    move_fits _ (Answers r y pend at) es fs e f = fits_looks x.stored r es fs h (kept_given x.asked h x.stored kept.entries) e.0 (subst (λ p. HitFits (one_if (is_ask p)) es h) pend f)
+    move_fits _ (Takes_on r o old pend composed lt there) es fs e f = fits_looks x.stored r es fs h (kept_given x.asked h x.stored kept.entries) e.0 (subst (λ p. HitFits (one_if (is_ask p)) es h) pend f)
 
   -- what leaves is put
   leaving_put : (y : Leaving) (x : Upper P.State) (d : Made P.State) → y.stale ≡ None → (x.expired y.request ≡ None) × (y.request < x.asked) → IsIn y x.leaving → Moves c s compose (machine_of P) x d → Among (Reply y.request y.result) d.outs
@@ -340,7 +427,7 @@ module _ (c : Conf) (s : Settings) (compose : Request → Result Octets Error) (
           other : (v : Option Entry) → x.asked ≢ y.request → x.expired y.request ≡ None → with_expired x.asked v x.expired y.request ≡ None
           other v ne e = (let z : (x.asked == y.request) ≡ false = grind (arith, nat_tests) in ap (λ b. if b then v else x.expired y.request) z ∙ e)
 
-  moves_fit : (past : History) (w : What) (x : Upper P.State) (h : History) (d : Made P.State) (moves : Moves c s compose (machine_of P) x d) (es fs : Cache) → Kept c s P past w x h → AllCached c s compose (machine_of P) eq cap x d moves es fs → HitFits (one_if (is_ask x.pending)) es h → HitFits 0 fs (put_all d.outs h)
+  moves_fit : (past : History) (w : What) (x : Upper P.State) (h : History) (d : Made P.State) (moves : Moves c s compose (machine_of P) x d) (es fs : Cache) → Kept c s P past w x h → AllCached c s compose (machine_of P) eq rm x d moves es fs → HitFits (one_if (is_ask x.pending)) es h → HitFits 0 fs (put_all d.outs h)
   moves_fit past w _ h _ (Rests x done) es fs kept is f = subst (λ z. HitFits 0 z h) (sym is) (subst (λ b. HitFits (one_if b) es h) done.taken f)
   moves_fit past w _ h _ (Goes x d e move more) es fs kept cached f =
       let a = move_does c s compose composes P past w x h kept d move in
@@ -436,23 +523,24 @@ module _ (c : Conf) (s : Settings) (compose : Request → Result Octets Error) (
   hit_more : (q r : Request) (m : Octets) (age k : ℕ) (xs ys : List Out) → IsHit q r m age k ys → IsHit q r m age k (xs ++ ys)
   hit_more q r m age k xs ys (Views x y a b i) = Views x y a b (among_right (Reply k (Ok y)) xs ys i)
 
-  module _ (q r : Request) (j t moment n k : ℕ) (m : Octets) (val : validity_of_message s m ≡ Some n) (pos : 0 < n) (ca_q : is_cacheable q ≡ true) (keys : key_of r ≡ key_of q) (few few_r : ℕ) (room : 3 * few + few_r < cap) where
+  module _ (q r : Request) (j t moment n k : ℕ) (m : Octets) (val : validity_of_message s m ≡ Some n) (pos : 0 < n) (ca_q : is_cacheable q ≡ true) (keys : key_of r ≡ key_of q) (few few_r most : ℕ) (room : HasRoom rm most (3 * few + few_r)) where
     -- what an asking's own key finds
     finds : (x : Upper P.State) (h : History) (es : Cache) → HitFits (one_if (is_ask x.pending)) es h → x.pending ≡ Ask r → asking j h ≡ Some (record { request = q; moment = t }) → Ever (IsFreshReply c s j m moment) h → replied k h ≡ false → AllAreViews q m j moment k h
-        → asks_since j h ≡ suc few → replies_since j h ≤ few_r → lookup (eq (key_of r)) es ≡ Some (value q j m moment)
-    finds x h es f pend ask ever un views a b =
+        → asks_since j h ≡ suc few → replies_since j h ≤ few_r → longest_given h ≤ most → lookup (eq (key_of r)) es ≡ Some (value q j m moment)
+    finds x h es f pend ask ever un views a b le =
         let s = f q j t m moment n k ask ever val pos ca_q un views in
         let one : one_if (is_ask x.pending) ≡ 1 = ap (λ p. one_if (is_ask p)) pend in
         let fa = s.few_asks in
         let fb = s.few_replies in
-        let fewer : 3 * s.a + s.b < cap = enough s.a s.b (omega arith) (omega arith) in
-        subst (λ z. lookup (eq z) es ≡ Some (value q j m moment)) (sym keys) (hit Value eq eq_refl eq_sym eq_trans cap (key_of q) (value q j m moment) s.a s.b s.entries es s.between fewer)
+        let p = s.passed in
+        let has = room_fewer rm (longest_given h) most (3 * s.a + s.b) (3 * few + few_r) le (enough s.a s.b (omega arith) (omega arith)) room in
+        subst (λ z. lookup (eq z) es ≡ Some (value q j m moment)) (sym keys) (hit Value eq eq_refl eq_sym eq_trans rm (longest_given h) (key_of q) (value q j m moment) p.left s.a s.b p.entries es p.gives_way p.between has)
       where
-        enough : (a b : ℕ) → a ≤ few → b ≤ few_r → 3 * a + b < cap
+        enough : (a b : ℕ) → a ≤ few → b ≤ few_r → 3 * a + b ≤ 3 * few + few_r
         enough a b p q = omega arith
 
   module _ (past : History) (w : What) (q r : Request) (j t moment n age k : ℕ) (m o : Octets) (val : validity_of_message s m ≡ Some n) (pos : 0 < n) (ca_q : is_cacheable q ≡ true) (ca_r : is_cacheable r ≡ true) (keys : key_of r ≡ key_of q) (composed : compose r ≡ Ok o) (le : age ≤ n)
-      (few few_r : ℕ) (room : 3 * few + few_r < cap) where
+      (few few_r most : ℕ) (room : HasRoom rm most (3 * few + few_r)) where
     abbrev v : Value
     v = value q j m moment
 
@@ -479,7 +567,7 @@ module _ (c : Conf) (s : Settings) (compose : Request → Result Octets Error) (
     abbrev pub HitAlone : List Out → History → Type 0
     HitAlone outs h = IsHit q r m age k outs × ((i : ℕ) → handed k i (put_all outs h) ≡ false) × (Among (Stale k) outs → ⊥)
 
-    step_hit : (x : Upper P.State) (h : History) (es gs : Cache) → Kept c s P past w x h → (d : Made P.State) (move : Move c s compose (machine_of P) x d) → Cached c s compose (machine_of P) eq cap x d move es gs → x.pending ≡ Ask r → x.asked ≡ k → moment + age ≡ x.now → lookup (eq (key_of r)) es ≡ Some v → replied j h ≡ true
+    step_hit : (x : Upper P.State) (h : History) (es gs : Cache) → Kept c s P past w x h → (d : Made P.State) (move : Move c s compose (machine_of P) x d) → Cached c s compose (machine_of P) eq rm x d move es gs → x.pending ≡ Ask r → x.asked ≡ k → moment + age ≡ x.now → lookup (eq (key_of r)) es ≡ Some v → replied j h ≡ true
         → (e : Made P.State) → Moves c s compose (machine_of P) d.state e
         → (d.state.pending ≡ x.pending → d.state.asked ≡ x.asked → Counts j k h (put_all d.outs h) d.outs → HitAlone (d.outs ++ e.outs) h) → HitAlone (d.outs ++ e.outs) h
     step_hit x h es gs kept _ (Server_moves i d lt act) cached pend is_k is found rep e more rest = rest refl refl (counts_silent j k past w (put_all d.outs h) d.outs h (acts_right_here c s P past w x h kept i lt d act (put_all d.outs h) (λ k e. e)) rep)
@@ -532,25 +620,26 @@ module _ (c : Conf) (s : Settings) (compose : Request → Result Octets Error) (
     then_alone : (xs ys : List Out) (h : History) → (Among (Stale k) xs → ⊥) → HitAlone ys (put_all xs h) → HitAlone (xs ++ ys) h
     then_alone xs ys h un a = (hit_more q r m age k xs ys a.0, λ i. ap (handed k i) (put_more xs ys h) ∙ a.1 i, λ z. elim (among_either (Stale k) xs ys z) [ inl l ↦ un l | inr b ↦ a.2 b ])
 
-    moves_hit : (x : Upper P.State) (h : History) (d : Made P.State) (moves : Moves c s compose (machine_of P) x d) (es fs : Cache) → Kept c s P past w x h → AllCached c s compose (machine_of P) eq cap x d moves es fs → HitFits (one_if (is_ask x.pending)) es h → x.pending ≡ Ask r → x.asked ≡ k → moment + age ≡ now h
-        → asking j h ≡ Some (record { request = q; moment = t }) → Ever (IsFreshReply c s j m moment) h → AllAreViews q m j moment k (put_all d.outs h) → asks_since j h ≡ suc few → replies_since j h + other_replies k d.outs ≤ few_r → HitAlone d.outs h
-    moves_hit _ h _ (Rests x done) es fs kept cached f pend is_k is ask ever views a b = absurd (clash (is_ask x.pending) (ap is_ask pend) done.taken)
-    moves_hit _ h _ (Goes x d e move more) es fs kept cached f pend is_k is ask ever views a b =
+    moves_hit : (x : Upper P.State) (h : History) (d : Made P.State) (moves : Moves c s compose (machine_of P) x d) (es fs : Cache) → Kept c s P past w x h → AllCached c s compose (machine_of P) eq rm x d moves es fs → HitFits (one_if (is_ask x.pending)) es h → x.pending ≡ Ask r → x.asked ≡ k → moment + age ≡ now h
+        → asking j h ≡ Some (record { request = q; moment = t }) → Ever (IsFreshReply c s j m moment) h → AllAreViews q m j moment k (put_all d.outs h) → asks_since j h ≡ suc few → replies_since j h + other_replies k d.outs ≤ few_r → longest_given (put_all d.outs h) ≤ most → HitAlone d.outs h
+    moves_hit _ h _ (Rests x done) es fs kept cached f pend is_k is ask ever views a b short = absurd (clash (is_ask x.pending) (ap is_ask pend) done.taken)
+    moves_hit _ h _ (Goes x d e move more) es fs kept cached f pend is_k is ask ever views a b short =
         let all : OutsRight c s past w (put_all (d.outs ++ e.outs) h) h (d.outs ++ e.outs) = (moves_do c s compose composes P past w x h (record { state = e.state; outs = d.outs ++ e.outs }) kept (Goes x d e move more)).right (put_all (d.outs ++ e.outs) h) (λ k r. r) in
         let rep : replied j h ≡ true = ever_replied c s j moment m h ever in
         let now_views : AllAreViews q m j moment k h = views_back past w (put_all (d.outs ++ e.outs) h) q m j moment k (d.outs ++ e.outs) h all rep views in
         let un : replied k h ≡ false = subst (λ k. replied k h ≡ false) is_k ((kept.to_come x.asked (omega arith)).unreplied) in
-        let found = finds q r j t moment n k m val pos ca_q keys few few_r room x h es f pend ask ever un now_views a (omega arith) in
+        let longest : longest_given h ≤ most = (let z = given_all (d.outs ++ e.outs) h in omega arith) in
+        let found = finds q r j t moment n k m val pos ca_q keys few few_r most room x h es f pend ask ever un now_views a (omega arith) longest in
         let g = move_fits past w x h kept d move es (cached.0) cached.1 f in
         let a' = move_does c s compose composes P past w x h kept d move in
         let o = others_more k d.outs e.outs in
         step_hit x h es (cached.0) kept d move cached.1 pend is_k (is ∙ sym kept.clock) found rep e more (λ p n' counts.
         then_alone d.outs e.outs h counts.unmarked (moves_hit d.state (put_all d.outs h) e more (cached.0) fs a'.leaves cached.2 g (p ∙ pend) (n' ∙ is_k) (is ∙ sym (now_all d.outs h)) (asking_all j d.outs h ∙ ask) (ever_all (IsFreshReply c s j m moment) d.outs h ever)
-        (subst (AllAreViews q m j moment k) (put_more d.outs e.outs h) views) (counts.asks ∙ a) (let z = counts.replies in omega arith)))
+        (subst (AllAreViews q m j moment k) (put_more d.outs e.outs h) views) (counts.asks ∙ a) (let z = counts.replies in omega arith) (subst (λ g. longest_given g ≤ most) (put_more d.outs e.outs h) short)))
 
   -- Request k, which is r and was asked at u: a message m of an earlier request q with the same key had expired, and may serve up to a moment.
   module _ (q r : Request) (j t k moment n u : ℕ) (m : Octets) (known : Parts Data) (val : validity_of_message s m ≡ Some n) (pos : 0 < n) (is_known : known_parts m ≡ Some known) (tells : tells_of_name known.code ≡ true) (ca_q : is_cacheable q ≡ true) (ca_r : is_cacheable r ≡ true) (keys : key_of r ≡ key_of q) (past_it : moment + n < u)
-      (few few_r : ℕ) (room : 3 * few + few_r < cap) where
+      (few few_r most : ℕ) (room : HasRoom rm most (3 * few + few_r)) where
     abbrev limit : ℕ
     limit = moment + n + s.stale_for
 
@@ -637,7 +726,7 @@ module _ (c : Conf) (s : Settings) (compose : Request → Result Octets Error) (
               unread_of c s k u r past w h asked ca_r (λ b e. kept.known k b e) n g.request v l out same (subst (λ n. Came_so c s n v past w h) nk (gave nk)),
             )
 
-    move_spared : (past : History) (w : What) (x : Upper P.State) (h : History) → Kept c s P past w x h → (d : Made P.State) (move : Move c s compose (machine_of P) x d) (es fs : Cache) → Cached c s compose (machine_of P) eq cap x d move es fs → Spared past w x h → Spared past w d.state (put_all d.outs h) × (x.now ≤ limit → NoneFails c s k past w h d.outs)
+    move_spared : (past : History) (w : What) (x : Upper P.State) (h : History) → Kept c s P past w x h → (d : Made P.State) (move : Move c s compose (machine_of P) x d) (es fs : Cache) → Cached c s compose (machine_of P) eq rm x d move es fs → Spared past w x h → Spared past w d.state (put_all d.outs h) × (x.now ≤ limit → NoneFails c s k past w h d.outs)
     move_spared past w x h kept d move es fs cached (IsAnswered un here) = (IsAnswered (move_untried c s compose composes P is_failure_of k past w x h kept d move un) (here_all k d.outs h ∙ here), λ le. own_row_calm past w k d.outs h here (move_calm c s compose composes P is_failure_of k past w x h kept d move un.calm).1)
     move_spared past w x h kept d move es fs cached (IsGone un) = (IsGone (move_untried c s compose composes P (λ v. true) k past w x h kept d move un), λ le. none_of past w k d.outs h (λ v. (move_calm c s compose composes P (λ v. true) k past w x h kept d move un.calm).1 v refl))
     move_spared past w x h kept _ (Server_moves i d lt act) es fs cached (HasOld o b a ge ur) = (stays past w x (moved i d x) h d.outs o b a ge ur refl (omega arith) refl (λ z i q. i), λ le. server_never past w (put_all d.outs h) d.outs h (acts_right_here c s P past w x h kept i lt d act (put_all d.outs h) (λ k e. e)))
@@ -683,7 +772,7 @@ module _ (c : Conf) (s : Settings) (compose : Request → Result Octets Error) (
     now_on : (past : History) (w : What) (x y : Upper P.State) (h : History) (outs : List Out) → Kept c s P past w x h → Kept c s P past w y (put_all outs h) → y.now ≡ x.now
     now_on past w x y h outs a b = b.clock ∙ (now_all outs h ∙ sym a.clock)
 
-    moves_spared : (past : History) (w : What) (x : Upper P.State) (h : History) (d : Made P.State) (moves : Moves c s compose (machine_of P) x d) (es fs : Cache) → Kept c s P past w x h → AllCached c s compose (machine_of P) eq cap x d moves es fs → Spared past w x h → Spared past w d.state (put_all d.outs h) × (x.now ≤ limit → NoneFails c s k past w h d.outs)
+    moves_spared : (past : History) (w : What) (x : Upper P.State) (h : History) (d : Made P.State) (moves : Moves c s compose (machine_of P) x d) (es fs : Cache) → Kept c s P past w x h → AllCached c s compose (machine_of P) eq rm x d moves es fs → Spared past w x h → Spared past w d.state (put_all d.outs h) × (x.now ≤ limit → NoneFails c s k past w h d.outs)
     moves_spared past w _ h _ (Rests x done) es fs kept cached sp = (sp, λ le. none_never past w h)
     moves_spared past w _ h _ (Goes x d e move more) es fs kept cached sp =
         let a = move_spared past w x h kept d move es (cached.0) cached.1 sp in
@@ -695,8 +784,8 @@ module _ (c : Conf) (s : Settings) (compose : Request → Result Octets Error) (
     Spares past w x d h = Spared past w d.state (put_all d.outs h) × (x.now ≤ limit → NoneFails c s k past w h d.outs)
 
     -- in the row that asks it
-    step_spared : (past : History) (w : What) (x : Upper P.State) (h : History) (es gs fs : Cache) → Kept c s P past w x h → (d : Made P.State) (move : Move c s compose (machine_of P) x d) → Cached c s compose (machine_of P) eq cap x d move es gs → x.pending ≡ Ask r → x.asked ≡ k → x.now ≡ u → lookup (eq (key_of r)) es ≡ Some (value q j m moment) → replied j h ≡ true
-        → (e : Made P.State) (more : Moves c s compose (machine_of P) d.state e) → AllCached c s compose (machine_of P) eq cap d.state e more gs fs → Kept c s P past w d.state (put_all d.outs h)
+    step_spared : (past : History) (w : What) (x : Upper P.State) (h : History) (es gs fs : Cache) → Kept c s P past w x h → (d : Made P.State) (move : Move c s compose (machine_of P) x d) → Cached c s compose (machine_of P) eq rm x d move es gs → x.pending ≡ Ask r → x.asked ≡ k → x.now ≡ u → lookup (eq (key_of r)) es ≡ Some (value q j m moment) → replied j h ≡ true
+        → (e : Made P.State) (more : Moves c s compose (machine_of P) d.state e) → AllCached c s compose (machine_of P) eq rm d.state e more gs fs → Kept c s P past w d.state (put_all d.outs h)
         → (d.state.pending ≡ x.pending → d.state.asked ≡ x.asked → Counts j k h (put_all d.outs h) d.outs → Spares past w d.state e (put_all d.outs h)) → Spared past w e.state (put_all e.outs (put_all d.outs h)) × (x.now ≤ limit → NoneFails c s k past w h (d.outs ++ e.outs))
     step_spared past w x h es gs fs kept d move cached pend is_k is_u found rep e more cached' kept' rest = go d move cached e more cached' kept' rest
       where
@@ -706,7 +795,7 @@ module _ (c : Conf) (s : Settings) (compose : Request → Result Octets Error) (
         replied_now : (k : ℕ) (g : History) → replied k (Put (Reply k (Err errors.TimedOut)) ∷ g) ≡ true
         replied_now k g = grind (arith, nat_tests)
 
-        go : (d : Made P.State) (move : Move c s compose (machine_of P) x d) → Cached c s compose (machine_of P) eq cap x d move es gs → (e : Made P.State) (more : Moves c s compose (machine_of P) d.state e) → AllCached c s compose (machine_of P) eq cap d.state e more gs fs → Kept c s P past w d.state (put_all d.outs h)
+        go : (d : Made P.State) (move : Move c s compose (machine_of P) x d) → Cached c s compose (machine_of P) eq rm x d move es gs → (e : Made P.State) (more : Moves c s compose (machine_of P) d.state e) → AllCached c s compose (machine_of P) eq rm d.state e more gs fs → Kept c s P past w d.state (put_all d.outs h)
             → (d.state.pending ≡ x.pending → d.state.asked ≡ x.asked → Counts j k h (put_all d.outs h) d.outs → Spares past w d.state e (put_all d.outs h)) → Spared past w e.state (put_all e.outs (put_all d.outs h)) × (x.now ≤ limit → NoneFails c s k past w h (d.outs ++ e.outs))
         go _ (Server_moves i d lt act) cached e more cached' kept' rest =
             let counts = counts_silent j k past w (put_all d.outs h) d.outs h (acts_right_here c s P past w x h kept i lt d act (put_all d.outs h) (λ k e. e)) rep in
@@ -760,25 +849,26 @@ module _ (c : Conf) (s : Settings) (compose : Request → Result Octets Error) (
             this : (v : Option Entry) → x.asked ≡ k → with_expired x.asked v x.expired k ≡ v
             this v is = (let e : (x.asked == k) ≡ true = grind (arith, nat_tests) in ap (λ b. if b then v else x.expired k) e)
 
-    asking_spared : (past : History) (w : What) (x : Upper P.State) (h : History) (d : Made P.State) (moves : Moves c s compose (machine_of P) x d) (es fs : Cache) → Kept c s P past w x h → AllCached c s compose (machine_of P) eq cap x d moves es fs → HitFits (one_if (is_ask x.pending)) es h → x.pending ≡ Ask r → x.asked ≡ k → x.now ≡ u
-        → asking j h ≡ Some (record { request = q; moment = t }) → Ever (IsFreshReply c s j m moment) h → AllAreViews q m j moment k (put_all d.outs h) → asks_since j h ≡ suc few → replies_since j h + other_replies k d.outs ≤ few_r → Spares past w x d h
-    asking_spared past w _ h _ (Rests x done) es fs kept cached f pend is_k is_u ask ever views a b = absurd (clash (is_ask x.pending) (ap is_ask pend) done.taken)
-    asking_spared past w _ h _ (Goes x d e move more) es fs kept cached f pend is_k is_u ask ever views a b =
+    asking_spared : (past : History) (w : What) (x : Upper P.State) (h : History) (d : Made P.State) (moves : Moves c s compose (machine_of P) x d) (es fs : Cache) → Kept c s P past w x h → AllCached c s compose (machine_of P) eq rm x d moves es fs → HitFits (one_if (is_ask x.pending)) es h → x.pending ≡ Ask r → x.asked ≡ k → x.now ≡ u
+        → asking j h ≡ Some (record { request = q; moment = t }) → Ever (IsFreshReply c s j m moment) h → AllAreViews q m j moment k (put_all d.outs h) → asks_since j h ≡ suc few → replies_since j h + other_replies k d.outs ≤ few_r → longest_given (put_all d.outs h) ≤ most → Spares past w x d h
+    asking_spared past w _ h _ (Rests x done) es fs kept cached f pend is_k is_u ask ever views a b short = absurd (clash (is_ask x.pending) (ap is_ask pend) done.taken)
+    asking_spared past w _ h _ (Goes x d e move more) es fs kept cached f pend is_k is_u ask ever views a b short =
         let all : OutsRight c s past w (put_all (d.outs ++ e.outs) h) h (d.outs ++ e.outs) = (moves_do c s compose composes P past w x h (record { state = e.state; outs = d.outs ++ e.outs }) kept (Goes x d e move more)).right (put_all (d.outs ++ e.outs) h) (λ k r. r) in
         let rep : replied j h ≡ true = ever_replied c s j moment m h ever in
         let now_views : AllAreViews q m j moment k h = views_back past w (put_all (d.outs ++ e.outs) h) q m j moment k (d.outs ++ e.outs) h all rep views in
         let un : replied k h ≡ false = subst (λ k. replied k h ≡ false) is_k ((kept.to_come x.asked (omega arith)).unreplied) in
-        let found = finds q r j t moment n k m val pos ca_q keys few few_r room x h es f pend ask ever un now_views a (omega arith) in
+        let longest : longest_given h ≤ most = (let z = given_all (d.outs ++ e.outs) h in omega arith) in
+        let found = finds q r j t moment n k m val pos ca_q keys few few_r most room x h es f pend ask ever un now_views a (omega arith) longest in
         let g = move_fits past w x h kept d move es (cached.0) cached.1 f in
         let a' = move_does c s compose composes P past w x h kept d move in
         let o = others_more k d.outs e.outs in
         let z = step_spared past w x h es (cached.0) fs kept d move cached.1 pend is_k is_u found rep e more cached.2 a'.leaves (λ p n' counts.
         asking_spared past w d.state (put_all d.outs h) e more (cached.0) fs a'.leaves cached.2 g (p ∙ pend) (n' ∙ is_k) (now_on past w x d.state h d.outs kept a'.leaves ∙ is_u) (asking_all j d.outs h ∙ ask) (ever_all (IsFreshReply c s j m moment) d.outs h ever)
-        (subst (AllAreViews q m j moment k) (put_more d.outs e.outs h) views) (counts.asks ∙ a) (let z = counts.replies in omega arith)) in
+        (subst (AllAreViews q m j moment k) (put_more d.outs e.outs h) views) (counts.asks ∙ a) (let z = counts.replies in omega arith) (subst (λ g. longest_given g ≤ most) (put_more d.outs e.outs h) short)) in
         (subst (Spared past w e.state) (sym (put_more d.outs e.outs h)) z.0, z.1)
 
     -- the rows behind it
-    rows_spared : (x : Upper P.State) (rows : List Row) (run : IsRun c s compose (machine_of P) x rows) (old' past : History) (w : What) (es : Cache) → Kept c s P old' w x past → IsDone c s compose (machine_of P) x → AllAskedInOctets (map (λ row. row.event) rows) → RunCached c s compose (machine_of P) eq cap x rows run es → Spared old' w x past → NeverFails c s k limit past rows
+    rows_spared : (x : Upper P.State) (rows : List Row) (run : IsRun c s compose (machine_of P) x rows) (old' past : History) (w : What) (es : Cache) → Kept c s P old' w x past → IsDone c s compose (machine_of P) x → AllAskedInOctets (map (λ row. row.event) rows) → RunCached c s compose (machine_of P) eq rm x rows run es → Spared old' w x past → NeverFails c s k limit past rows
     rows_spared _ _ (Ends x) old' past w es kept done octets cached sp = tt
     rows_spared _ _ (Goes_on x row x' rows step more) old' past w es kept done octets cached sp =
         let e = row.event in
@@ -797,8 +887,8 @@ module _ (c : Conf) (s : Settings) (compose : Request → Result Octets Error) (
         begins e (IsAnswered un here) = IsGone (record { unheld = un.unheld; below = un.below; unhanded = un.unhanded; no_old = un.no_old; calm = λ y i. absurd (subst (IsIn y) done.leaving i) })
         begins e (IsGone un) = IsGone (record { unheld = un.unheld; below = un.below; unhanded = un.unhanded; no_old = un.no_old; calm = λ y i. absurd (subst (IsIn y) done.leaving i) })
 
-  row_hits : (old past : History) (u : What) (x : Upper P.State) (row : Row) (x' : Upper P.State) (es fs : Cache) → Kept c s P old u x past → IsDone c s compose (machine_of P) x → IsAskedInOctets row.event.what → (step : IsStep c s compose (machine_of P) x row x') → AllCached c s compose (machine_of P) eq cap (row_begins c s compose (machine_of P) row.event x) step.made step.moves es fs → HitFits 0 es past
-      → Hits c s compose cap past row × (Kept c s P past row.event.what x' (after row past) × IsDone c s compose (machine_of P) x' × HitFits 0 fs (after row past))
+  row_hits : (old past : History) (u : What) (x : Upper P.State) (row : Row) (x' : Upper P.State) (es fs : Cache) → Kept c s P old u x past → IsDone c s compose (machine_of P) x → IsAskedInOctets row.event.what → (step : IsStep c s compose (machine_of P) x row x') → AllCached c s compose (machine_of P) eq rm (row_begins c s compose (machine_of P) row.event x) step.made step.moves es fs → HitFits 0 es past
+      → Hits c s compose rm past row × (Kept c s P past row.event.what x' (after row past) × IsDone c s compose (machine_of P) x' × HitFits 0 fs (after row past))
   row_hits old past u x row x' es fs kept done octets step cached f =
       let e = row.event in
       let h : History = Came e ∷ past in
@@ -812,10 +902,11 @@ module _ (c : Conf) (s : Settings) (compose : Request → Result Octets Error) (
             let rep : replied j past ≡ true = ever_replied c s j moment m past ever in
             let same_outs : after row past ≡ put_all d.outs h = ap (λ o. put_all o h) step.outs in
             subst (λ o. IsHit q r m age (asks past) o × ((i : ℕ) → handed (asks past) i (put_all o h) ≡ false) × (Among (Stale (asks past)) o → ⊥)) (sym step.outs)
-            (moves_hit past e.what q r j t moment n age (asks past) m o val pos ca_q ca_r keys composed le (asks_since j past) (replies_since j past + other_replies (asks past) row.outs) room (row_begins c s compose (machine_of P) e x) h d step.moves es fs k0 cached begun what is_k is
+            (moves_hit past e.what q r j t moment n age (asks past) m o val pos ca_q ca_r keys composed le (asks_since j past) (replies_since j past + other_replies (asks past) row.outs) (longest_given (after row past)) room (row_begins c s compose (machine_of P) e x) h d step.moves es fs k0 cached begun what is_k is
             (asking_came j (record { request = q; moment = t }) e past ask) (inr ever) (subst (AllAreViews q m j moment (asks past)) same_outs views)
             (ap (λ b. if b then one_if (is_ask e.what) + asks_since j past else 0) rep ∙ (ap (λ w. one_if (is_ask w) + asks_since j past) what ∙ one_more (asks_since j past)))
-            (let z : replies_since j h ≡ replies_since j past = ap (λ b. if b then replies_since j past else 0) rep in let y : other_replies (asks past) row.outs ≡ other_replies (asks past) d.outs = ap (other_replies (asks past)) step.outs in omega arith))),
+            (let z : replies_since j h ≡ replies_since j past = ap (λ b. if b then replies_since j past else 0) rep in let y : other_replies (asks past) row.outs ≡ other_replies (asks past) d.outs = ap (other_replies (asks past)) step.outs in omega arith)
+            (let z : longest_given (put_all d.outs h) ≡ longest_given (after row past) = ap longest_given (sym same_outs) in omega arith))),
         (subst₂ (λ z g. Kept c s P past e.what z g) (sym step.leaves) (sym (ap (λ o. put_all o h) step.outs)) all.leaves, subst (λ z. IsDone c s compose (machine_of P) z) (sym step.leaves) all.done, subst (HitFits 0 fs) (sym (ap (λ o. put_all o h) step.outs)) g),
       )
     where
@@ -829,18 +920,18 @@ module _ (c : Conf) (s : Settings) (compose : Request → Result Octets Error) (
       one_more : (n : ℕ) → 1 + n ≡ suc n
       one_more n = omega arith
 
-  rows_hit : (x : Upper P.State) (rows : List Row) (run : IsRun c s compose (machine_of P) x rows) (old past : History) (u : What) (es : Cache) → Kept c s P old u x past → IsDone c s compose (machine_of P) x → AllAskedInOctets (map (λ row. row.event) rows) → RunCached c s compose (machine_of P) eq cap x rows run es → HitFits 0 es past → AllHit c s compose cap past rows
+  rows_hit : (x : Upper P.State) (rows : List Row) (run : IsRun c s compose (machine_of P) x rows) (old past : History) (u : What) (es : Cache) → Kept c s P old u x past → IsDone c s compose (machine_of P) x → AllAskedInOctets (map (λ row. row.event) rows) → RunCached c s compose (machine_of P) eq rm x rows run es → HitFits 0 es past → AllHit c s compose rm past rows
   rows_hit _ _ (Ends x) earlier past u es kept done octets cached f = tt
   rows_hit _ _ (Goes_on x row x' rows step more) earlier past u es kept done octets cached f =
       let r = row_hits earlier past u x row x' es (cached.0) kept done octets.0 step cached.1 f in
       (r.0, rows_hit x' rows more past (after row past) row.event.what (cached.0) r.1.0 r.1.1 octets.1 cached.2 r.1.2)
 
   -- Hit: in every run with its cache, an asking with the key of a message that is kept is answered in its own row.
-  pub run_hits : (rows : List Row) (run : IsRun c s compose (machine_of P) (begun c s compose (machine_of P)) rows) → AllAskedInOctets (map (λ row. row.event) rows) → RunCached c s compose (machine_of P) eq cap (begun c s compose (machine_of P)) rows run [] → AllHit c s compose cap [] rows
+  pub run_hits : (rows : List Row) (run : IsRun c s compose (machine_of P) (begun c s compose (machine_of P)) rows) → AllAskedInOctets (map (λ row. row.event) rows) → RunCached c s compose (machine_of P) eq rm (begun c s compose (machine_of P)) rows run [] → AllHit c s compose rm [] rows
   run_hits rows run octets cached = rows_hit (begun c s compose (machine_of P)) rows run [] [] Tick [] (begun_kept c s compose P) (begun_done c s compose P) octets cached (λ q j t m moment n but ask ever. absurd ever)
 
-  row_serves : (old past : History) (u : What) (x : Upper P.State) (row : Row) (x' : Upper P.State) (rows : List Row) (es fs : Cache) → Kept c s P old u x past → IsDone c s compose (machine_of P) x → AllAskedInOctets (map (λ row. row.event) (row ∷ rows)) → (step : IsStep c s compose (machine_of P) x row x') → AllCached c s compose (machine_of P) eq cap (row_begins c s compose (machine_of P) row.event x) step.made step.moves es fs → HitFits 0 es past
-      → (more : IsRun c s compose (machine_of P) x' rows) → RunCached c s compose (machine_of P) eq cap x' rows more fs → Kept c s P past row.event.what x' (after row past) → IsDone c s compose (machine_of P) x' → ServesStale c s cap past row rows
+  row_serves : (old past : History) (u : What) (x : Upper P.State) (row : Row) (x' : Upper P.State) (rows : List Row) (es fs : Cache) → Kept c s P old u x past → IsDone c s compose (machine_of P) x → AllAskedInOctets (map (λ row. row.event) (row ∷ rows)) → (step : IsStep c s compose (machine_of P) x row x') → AllCached c s compose (machine_of P) eq rm (row_begins c s compose (machine_of P) row.event x) step.made step.moves es fs → HitFits 0 es past
+      → (more : IsRun c s compose (machine_of P) x' rows) → RunCached c s compose (machine_of P) eq rm x' rows more fs → Kept c s P past row.event.what x' (after row past) → IsDone c s compose (machine_of P) x' → ServesStale c s rm past row rows
   row_serves old past w x row x' rows es fs kept done octets step cached f more cached' kept' done' q r j t moment n m known what ask ever val pos is_known tells ca_q ca_r keys past_it views room =
       let e = row.event in
       let h : History = Came e ∷ past in
@@ -851,12 +942,13 @@ module _ (c : Conf) (s : Settings) (compose : Request → Result Octets Error) (
       let rep : replied j past ≡ true = ever_replied c s j moment m past ever in
       let same_outs : after row past ≡ put_all d.outs h = ap (λ o. put_all o h) step.outs in
       let few_r : ℕ = replies_since j past + other_replies (asks past) row.outs in
-      let b = asking_spared q r j t (asks past) moment n (now h) m known val pos is_known tells ca_q ca_r keys past_it (asks_since j past) few_r room past e.what (row_begins c s compose (machine_of P) e x) h d step.moves es fs k0 cached begun what is_k k0.clock
+      let b = asking_spared q r j t (asks past) moment n (now h) m known val pos is_known tells ca_q ca_r keys past_it (asks_since j past) few_r (longest_given (after row past)) room past e.what (row_begins c s compose (machine_of P) e x) h d step.moves es fs k0 cached begun what is_k k0.clock
       (asking_came j (record { request = q; moment = t }) e past ask) (inr ever) (subst (AllAreViews q m j moment (asks past)) same_outs views)
       (ap (λ b. if b then one_if (is_ask e.what) + asks_since j past else 0) rep ∙ (ap (λ w. one_if (is_ask w) + asks_since j past) what ∙ one_more (asks_since j past)))
-      (let z : replies_since j h ≡ replies_since j past = ap (λ b. if b then replies_since j past else 0) rep in let y : other_replies (asks past) row.outs ≡ other_replies (asks past) d.outs = ap (other_replies (asks past)) step.outs in omega arith) in (
+      (let z : replies_since j h ≡ replies_since j past = ap (λ b. if b then replies_since j past else 0) rep in let y : other_replies (asks past) row.outs ≡ other_replies (asks past) d.outs = ap (other_replies (asks past)) step.outs in omega arith)
+      (let z : longest_given (put_all d.outs h) ≡ longest_given (after row past) = ap longest_given (sym same_outs) in omega arith) in (
         λ le. subst (NoneFails c s (asks past) past e.what h) (sym step.outs) (b.1 (subst (λ n'. n' ≤ moment + n + s.stale_for) (sym k0.clock) le)),
-        rows_spared q r j t (asks past) moment n (now h) m known val pos is_known tells ca_q ca_r keys past_it (asks_since j past) few_r room x' rows more past (after row past) e.what fs kept' done' octets.1 cached' (subst₂ (Spared q r j t (asks past) moment n (now h) m known val pos is_known tells ca_q ca_r keys past_it (asks_since j past) few_r room past e.what) (sym step.leaves) (sym same_outs) b.0),
+        rows_spared q r j t (asks past) moment n (now h) m known val pos is_known tells ca_q ca_r keys past_it (asks_since j past) few_r (longest_given (after row past)) room x' rows more past (after row past) e.what fs kept' done' octets.1 cached' (subst₂ (Spared q r j t (asks past) moment n (now h) m known val pos is_known tells ca_q ca_r keys past_it (asks_since j past) few_r (longest_given (after row past)) room past e.what) (sym step.leaves) (sym same_outs) b.0),
       )
     where
       counted : x.asked ≡ asks past
@@ -869,28 +961,28 @@ module _ (c : Conf) (s : Settings) (compose : Request → Result Octets Error) (
       one_more : (n : ℕ) → 1 + n ≡ suc n
       one_more n = omega arith
 
-  rows_serve : (x : Upper P.State) (rows : List Row) (run : IsRun c s compose (machine_of P) x rows) (old past : History) (u : What) (es : Cache) → Kept c s P old u x past → IsDone c s compose (machine_of P) x → AllAskedInOctets (map (λ row. row.event) rows) → RunCached c s compose (machine_of P) eq cap x rows run es → HitFits 0 es past → AllServeStale c s cap past rows
+  rows_serve : (x : Upper P.State) (rows : List Row) (run : IsRun c s compose (machine_of P) x rows) (old past : History) (u : What) (es : Cache) → Kept c s P old u x past → IsDone c s compose (machine_of P) x → AllAskedInOctets (map (λ row. row.event) rows) → RunCached c s compose (machine_of P) eq rm x rows run es → HitFits 0 es past → AllServeStale c s rm past rows
   rows_serve _ _ (Ends x) earlier past u es kept done octets cached f = tt
   rows_serve _ _ (Goes_on x row x' rows step more) earlier past u es kept done octets cached f =
       let r = row_hits earlier past u x row x' es (cached.0) kept done octets.0 step cached.1 f in
       (row_serves earlier past u x row x' rows es (cached.0) kept done octets step cached.1 f more cached.2 r.1.0 r.1.1, rows_serve x' rows more past (after row past) row.event.what (cached.0) r.1.0 r.1.1 octets.1 cached.2 r.1.2)
 
   -- Stale: in every run with its cache, a request for which a kept message had expired does not fail while that may serve.
-  pub run_serves_stale : (rows : List Row) (run : IsRun c s compose (machine_of P) (begun c s compose (machine_of P)) rows) → AllAskedInOctets (map (λ row. row.event) rows) → RunCached c s compose (machine_of P) eq cap (begun c s compose (machine_of P)) rows run [] → AllServeStale c s cap [] rows
+  pub run_serves_stale : (rows : List Row) (run : IsRun c s compose (machine_of P) (begun c s compose (machine_of P)) rows) → AllAskedInOctets (map (λ row. row.event) rows) → RunCached c s compose (machine_of P) eq rm (begun c s compose (machine_of P)) rows run [] → AllServeStale c s rm [] rows
   run_serves_stale rows run octets cached = rows_serve (begun c s compose (machine_of P)) rows run [] [] Tick [] (begun_kept c s compose P) (begun_done c s compose P) octets cached (λ q j t m moment n but ask ever. absurd ever)
 
 -- In every run whose cache is exact, over any servers' parts, an asking that the cache must answer is answered in its own row.
 abbrev pub EveryCachedRunOverPartsHits : Type 1
-EveryCachedRunOverPartsHits = (c : Conf) (s : Settings) (compose : Request → Result Octets Error) (P : Part c) (eq : Key → Key → Bool) (cap : ℕ) (rows : List Row)
-    → Composes c compose → TellsKeys eq → AllAskedInOctets (map (λ row. row.event) rows) → (run : IsRun c s compose (machine_of P) (begun c s compose (machine_of P)) rows) → RunCached c s compose (machine_of P) eq cap (begun c s compose (machine_of P)) rows run [] → AllHit c s compose cap [] rows
+EveryCachedRunOverPartsHits = (c : Conf) (s : Settings) (compose : Request → Result Octets Error) (P : Part c) (eq : Key → Key → Bool) (rm : Room) (rows : List Row)
+    → Composes c compose → TellsKeys eq → AllAskedInOctets (map (λ row. row.event) rows) → (run : IsRun c s compose (machine_of P) (begun c s compose (machine_of P)) rows) → RunCached c s compose (machine_of P) eq rm (begun c s compose (machine_of P)) rows run [] → AllHit c s compose rm [] rows
 
 pub cached_run_hits : EveryCachedRunOverPartsHits
-cached_run_hits c s compose P eq cap rows composes same octets run cached = run_hits c s compose composes P eq cap same.itself same.back same.on same.equal rows run octets cached
+cached_run_hits c s compose P eq rm rows composes same octets run cached = run_hits c s compose composes P eq rm same.itself same.back same.on same.equal rows run octets cached
 
 -- and a request for which a message that is kept had expired does not fail while that message may serve.
 abbrev pub EveryCachedRunOverPartsServesStale : Type 1
-EveryCachedRunOverPartsServesStale = (c : Conf) (s : Settings) (compose : Request → Result Octets Error) (P : Part c) (eq : Key → Key → Bool) (cap : ℕ) (rows : List Row)
-    → Composes c compose → TellsKeys eq → AllAskedInOctets (map (λ row. row.event) rows) → (run : IsRun c s compose (machine_of P) (begun c s compose (machine_of P)) rows) → RunCached c s compose (machine_of P) eq cap (begun c s compose (machine_of P)) rows run [] → AllServeStale c s cap [] rows
+EveryCachedRunOverPartsServesStale = (c : Conf) (s : Settings) (compose : Request → Result Octets Error) (P : Part c) (eq : Key → Key → Bool) (rm : Room) (rows : List Row)
+    → Composes c compose → TellsKeys eq → AllAskedInOctets (map (λ row. row.event) rows) → (run : IsRun c s compose (machine_of P) (begun c s compose (machine_of P)) rows) → RunCached c s compose (machine_of P) eq rm (begun c s compose (machine_of P)) rows run [] → AllServeStale c s rm [] rows
 
 pub cached_run_serves_stale : EveryCachedRunOverPartsServesStale
-cached_run_serves_stale c s compose P eq cap rows composes same octets run cached = run_serves_stale c s compose composes P eq cap same.itself same.back same.on same.equal rows run octets cached
+cached_run_serves_stale c s compose P eq rm rows composes same octets run cached = run_serves_stale c s compose composes P eq rm same.itself same.back same.on same.equal rows run octets cached

@@ -220,9 +220,9 @@ every_run c s compose rows composes octets run = run_right c s compose (part c) 
 -- and an exact cache answers what it must
 pub every_hit : EveryCachedRunHits
 unfolding part
-every_hit c s compose eq cap rows composes tells octets run cached = cached_run_hits c s compose (part c) eq cap rows composes tells octets run cached
+every_hit c s compose eq room rows composes tells octets run cached = cached_run_hits c s compose (part c) eq room rows composes tells octets run cached
 
 -- and what expired serves where servers fail
 pub every_stale : EveryCachedRunServesStale
 unfolding part
-every_stale c s compose eq cap rows composes tells octets run cached = cached_run_serves_stale c s compose (part c) eq cap rows composes tells octets run cached
+every_stale c s compose eq room rows composes tells octets run cached = cached_run_serves_stale c s compose (part c) eq room rows composes tells octets run cached

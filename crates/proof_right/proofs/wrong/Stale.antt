@@ -9,7 +9,7 @@ use Rattle.client_request.specs.declared.error.Error.TheVariants as errors
 use Rattle.client_request.specs.declared.error.QueryError.TheVariants as query
 use Rattle.client_request.specs.declared.fault.Fault.TheVariants.{Refused}
 use Rattle.client_request.specs.declared.event.What.TheVariants.{Ask, OpenFailed, SendFailed, ShortSend, RecvFailed, Datagram}
-use Rattle.client_request.specs.declared.event.Out.TheVariants.{Stale, Close}
+use Rattle.client_request.specs.declared.event.Out.TheVariants.{Start, OpenDgram, Stale, Close}
 use Rattle.client_request.specs.declared.event.Via.{Via}
 use Rattle.client_request.specs.declared.event.Via.TheVariants.{Dgram, Stream}
 use Rattle.right_trace.specs.Trace.{History, Conf, Item, Came, Put}
@@ -22,6 +22,7 @@ use Rattle.right_trace.specs.Validity.{is_deferred}
 use Rattle.right_trace.specs.Stale.{MessageIsRight, Unmarked, Marked}
 use Rattle.right_trace.specs.StaleServed.{AllServeStale, CameUnread}
 use Rattle.right_trace.specs.Settings.{Settings}
+use Rattle.right_trace.specs.Weights.{Room, HasRoom, longest_form, longest_given}
 use Rattle.right_trace.specs.Right.{Right}
 use Rattle.right_trace.specs.Owed.{AllAreDone}
 use Rattle.right_trace.specs.Coming.{CameFor}
@@ -44,6 +45,8 @@ use Rattle.proof_right.proofs.client.Serving.{clash}
 use Rattle.proof_right.proofs.wrong.Marks.{unmarked}
 use Rattle.proof_right.proofs.worked.Cache.{cacheable}
 use Rattle.proof_right.proofs.worked.Stale.{cut_short_fails, failing_fails, absent_does_not, fresh_so, valid_so, revivable}
+use Rattle.proof_right.proofs.client.Between.{room_fewer}
+use Rattle.proof_right.proofs.worked.Hits.{row_short}
 
 -- No server failed: the request is asked in this row.
 
@@ -104,13 +107,17 @@ without_mark c m h = not_fresh c m _ (unmarked c serving_stale 1 m _ _ _ refl h.
 pub alone : (c : Conf) → Right c serving_stale marked_alone → ⊥
 alone c h = h.1.1.1.1.0.marks.0
 
+-- what is asked again has room where the first message has
+asked_room : (rm : Room) → HasRoom rm (longest_form (answer 18 52 100)) 0 → HasRoom rm (longest_given (Put (OpenDgram 1 0) ∷ Put (Start 1 0 Dgram) ∷ just_asked)) 0
+asked_room rm has = room_fewer rm _ (longest_form (answer 18 52 100)) 0 0 (row_short (record { moment = record { 0 = 200000000 }; what = Ask plain_request })) (omega arith) has
+
 -- It has the error, where the expired message may serve.
-pub never : AllServeStale by_datagrams serving_stale 1000 [] not_served → ⊥
-never h = ((h.1.1.1.0 plain_request plain_request 0 0 0 100000000 (answer 18 52 100) revivable.parts refl refl (inl (fresh_so serving_stale)) valid_so (omega arith) revivable.known revivable.tells cacheable cacheable refl (omega arith) (inr (inr tt, inr (inr tt, inl refl))) (omega arith)).1.0 (omega arith)).0 (Err (errors.Dgram (query.Connect Refused))) refl (inl refl)
+pub never : (rm : Room) → HasRoom rm (longest_form (answer 18 52 100)) 0 → AllServeStale by_datagrams serving_stale rm [] not_served → ⊥
+never rm has h = ((h.1.1.1.0 plain_request plain_request 0 0 0 100000000 (answer 18 52 100) revivable.parts refl refl (inl (fresh_so serving_stale)) valid_so (omega arith) revivable.known revivable.tells cacheable cacheable refl (omega arith) (inr (inr tt, inr (inr tt, inl refl))) (asked_room rm has)).1.0 (omega arith)).0 (Err (errors.Dgram (query.Connect Refused))) refl (inl refl)
 
 -- It has the message that fails.
-pub never_failing : AllServeStale by_datagrams serving_stale 1000 [] failing_given → ⊥
-never_failing h = ((h.1.1.1.0 plain_request plain_request 0 0 0 100000000 (answer 18 52 100) revivable.parts refl refl (inl (fresh_so serving_stale)) valid_so (omega arith) revivable.known revivable.tells cacheable cacheable refl (omega arith) (inr (inr tt, inr (inr tt, inl refl))) (omega arith)).1.1.0 (omega arith)).1.0 (Ok failing) refl (failing_fails, refl, refl)
+pub never_failing : (rm : Room) → HasRoom rm (longest_form (answer 18 52 100)) 0 → AllServeStale by_datagrams serving_stale rm [] failing_given → ⊥
+never_failing rm has h = ((h.1.1.1.0 plain_request plain_request 0 0 0 100000000 (answer 18 52 100) revivable.parts refl refl (inl (fresh_so serving_stale)) valid_so (omega arith) revivable.known revivable.tells cacheable cacheable refl (omega arith) (inr (inr tt, inr (inr tt, inl refl))) (asked_room rm has)).1.1.0 (omega arith)).1.0 (Ok failing) refl (failing_fails, refl, refl)
 
 -- A message comes for the request, and the expired one is given
 
@@ -178,8 +185,8 @@ before_mark : (a b : Item) (g k : History) → Path History (a ∷ g) (b ∷ k) 
 before_mark a b g k e = cc
 
 -- It has the error of a message without a validity, which fails.
-pub never_unread : AllServeStale by_datagrams serving_stale 1000 [] unread_given → ⊥
-never_unread h = ((h.1.1.1.0 plain_request plain_request 0 0 0 100000000 (answer 18 52 100) revivable.parts refl refl (inl (fresh_so serving_stale)) valid_so (omega arith) revivable.known revivable.tells cacheable cacheable refl (omega arith) (inr (inr tt, inr (inr tt, inl refl))) (omega arith)).1.1.0 (omega arith)).1.0 (Err errors.MessageParseError) refl (inr (refl, refl, none))
+pub never_unread : (rm : Room) → HasRoom rm (longest_form (answer 18 52 100)) 0 → AllServeStale by_datagrams serving_stale rm [] unread_given → ⊥
+never_unread rm has h = ((h.1.1.1.0 plain_request plain_request 0 0 0 100000000 (answer 18 52 100) revivable.parts refl refl (inl (fresh_so serving_stale)) valid_so (omega arith) revivable.known revivable.tells cacheable cacheable refl (omega arith) (inr (inr tt, inr (inr tt, inl refl))) (asked_room rm has)).1.1.0 (omega arith)).1.0 (Err errors.MessageParseError) refl (inr (refl, refl, none))
   where
     none : CameUnread by_datagrams serving_stale 1 sent_again (Datagram 1 failing_cut_short) (heard failing_cut_short) → ⊥
     none u = (let x = u.2 in let same = the_message by_datagrams failing_cut_short (u.0) (room by_datagrams 12 (omega arith)) refl (record { request = x.request; via = x.via; server = x.server; place = x.place; id = x.id; matches = x.matches }) in clash (is_failing_message (u.0)) (subst (λ m. is_failing_message m ≡ true) same cut_short_fails) u.1)

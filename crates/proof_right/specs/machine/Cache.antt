@@ -1,7 +1,8 @@
 -- The cache as it is kept: a list of entries, the most recently used first, and what an asking and a stored reply do to it.
-use Rattle.std.specs.Prelude.{◌≡◌, ℕ, ◌+◌, Bool, true, false, ◌||◌, ◌⊎◌, if◌then◌else◌, is_some, List, [], ◌∷◌, ◌++◌, map}
-use Rattle.std.specs.Map.{lookup}
-use Rattle.lru.specs.LruCache.{lru_cache, promoted, put_entries}
+use Rattle.std.specs.Prelude.{◌≡◌, ℕ, ◌+◌, ◌≤◌, Bool, true, false, ◌||◌, ◌⊎◌, if◌then◌else◌, is_some, Option, Some, None, List, [], ◌∷◌, ◌++◌, map, take}
+use Rattle.std.specs.Map.{lookup, remove_entry}
+use Rattle.lru.specs.LruCache.{promoted}
+use Rattle.right_trace.specs.Weights.{Room, HasRoom}
 use Rattle.right_trace.specs.Keys.{FlagClass, Do, Ad, Key, is_do, is_plain, is_signing}
 
 -- The keys that are tried for one, in order: its own flags, then those that have more; and where RD is clear, all of them again with RD set.
@@ -18,10 +19,23 @@ block k b = in_block k b k.flags ∷ map (in_block k b) (with_more k)
 abbrev pub tried : Key → List Key
 tried k = block k k.rd ++ (if k.rd then [] else block k true)
 
--- an entry is used, or stored
+-- An entry is used; or stored, beside so many of the others, those that were used last, or not put in where none is said.
 pub data Op (V : Type 0) : Type 0 where
   Uses : Key → Op V
-  Stores : Key → V → Op V
+  Stores : Key → V → (left : Option ℕ) → Op V
+
+-- What gives way to an entry, where none of the messages that are kept is longer: as many others stay as have room, and what is not put in has none.
+abbrev pub GivesWay : Room → (longest : ℕ) → Option ℕ → Type 0
+GivesWay room n None = HasRoom room n 0 → ⊥
+GivesWay room n (Some left) = (others : ℕ) → HasRoom room n others → others ≤ left
+
+abbrev pub OpGivesWay : {V : Type 0} → Room → (longest : ℕ) → Op V → Type 0
+OpGivesWay room n (Uses k) = Unit {0}
+OpGivesWay room n (Stores k v left) = GivesWay room n left
+
+abbrev pub AllGiveWay : {V : Type 0} → Room → (longest : ℕ) → List (Op V) → Type 0
+AllGiveWay room n [] = Unit {0}
+AllGiveWay room n (o ∷ os) = OpGivesWay room n o × AllGiveWay room n os
 
 module _ {V : Type 0} where
   module _ (eq : Key → Key → Bool) where
@@ -42,22 +56,27 @@ module _ {V : Type 0} where
     pub data AskDoes (own : Key) (es : List (Key × V)) : List (Op V) → Type 0 where
       Misses : NoneThere es (tried own) → AskDoes own es []
       Takes : (k : Key) → First es (tried own) k → AskDoes own es (Uses k ∷ [])
-      TakesFlags : (k : Key) (v : V) → First es (tried own) k → (k.flags ≡ own.flags → ⊥) → AskDoes own es (Uses k ∷ Stores (in_block own k.rd own.flags) v ∷ [])
-      TakesRd : (k : Key) (v : V) → First es (tried own) k → (k.rd ≡ own.rd → ⊥) → AskDoes own es (Uses k ∷ Stores own v ∷ [])
-      TakesBoth : (k : Key) (u v : V) → First es (tried own) k → (k.flags ≡ own.flags → ⊥) → (k.rd ≡ own.rd → ⊥) → AskDoes own es (Uses k ∷ Stores (in_block own k.rd own.flags) u ∷ Stores own v ∷ [])
+      TakesFlags : (k : Key) (v : V) (l : Option ℕ) → First es (tried own) k → (k.flags ≡ own.flags → ⊥) → AskDoes own es (Uses k ∷ Stores (in_block own k.rd own.flags) v l ∷ [])
+      TakesRd : (k : Key) (v : V) (l : Option ℕ) → First es (tried own) k → (k.rd ≡ own.rd → ⊥) → AskDoes own es (Uses k ∷ Stores own v l ∷ [])
+      TakesBoth : (k : Key) (u v : V) (l m : Option ℕ) → First es (tried own) k → (k.flags ≡ own.flags → ⊥) → (k.rd ≡ own.rd → ⊥) → AskDoes own es (Uses k ∷ Stores (in_block own k.rd own.flags) u l ∷ Stores own v m ∷ [])
 
-    module _ (cap : ℕ) where
-      abbrev pub after_op : Op V → List (Key × V) → List (Key × V)
-      after_op (Uses k) es = promoted (eq k) es
-      after_op (Stores k v) es = put_entries eq (lru_cache es cap) k v
+    -- what stands under a key is taken out, and an entry is put in beside so many others
+    abbrev pub stored : Key → V → Option ℕ → List (Key × V) → List (Key × V)
+    stored k v None es = remove_entry (eq k) es
+    stored k v (Some left) es = (k, v) ∷ take left (remove_entry (eq k) es)
 
-      abbrev pub after_ops : List (Op V) → List (Key × V) → List (Key × V)
-      after_ops [] es = es
-      after_ops (o ∷ os) es = after_ops os (after_op o es)
+    abbrev pub after_op : Op V → List (Key × V) → List (Key × V)
+    after_op (Uses k) es = promoted (eq k) es
+    after_op (Stores k v l) es = stored k v l es
 
-      -- Askings and replies one after another, no reply stored under key k: how many of each, and what they leave.
+    abbrev pub after_ops : List (Op V) → List (Key × V) → List (Key × V)
+    after_ops [] es = es
+    after_ops (o ∷ os) es = after_ops os (after_op o es)
+
+    module _ (room : Room) (longest : ℕ) where
+      -- Askings and replies one after another, no reply stored under key k, and no message that is kept longer than so many octets: how many of each, and what they leave.
       pub data Between (k : Key) : (asks replies : ℕ) → List (Key × V) → List (Key × V) → Type 0 where
         Ended : (es : List (Key × V)) → Between k 0 0 es es
-        Asked : (own : Key) (os : List (Op V)) (n m : ℕ) (es fs : List (Key × V)) → AskDoes own es os → Between k n m (after_ops os es) fs → Between k (n + 1) m es fs
-        Replied : (j : Key) (v : V) (n m : ℕ) (es fs : List (Key × V)) → eq k j ≡ false → Between k n m (after_op (Stores j v) es) fs → Between k n (m + 1) es fs
+        Asked : (own : Key) (os : List (Op V)) (n m : ℕ) (es fs : List (Key × V)) → AskDoes own es os → AllGiveWay room longest os → Between k n m (after_ops os es) fs → Between k (n + 1) m es fs
+        Replied : (j : Key) (v : V) (l : Option ℕ) (n m : ℕ) (es fs : List (Key × V)) → eq k j ≡ false → GivesWay room longest l → Between k n m (stored j v l es) fs → Between k n (m + 1) es fs
         RepliedUnstored : (n m : ℕ) (es fs : List (Key × V)) → Between k n m es fs → Between k n (m + 1) es fs

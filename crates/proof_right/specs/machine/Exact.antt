@@ -1,7 +1,6 @@
 -- The cache exactly as it is kept beside the moves: which entry is used and stored, and when an asking must be answered from one.
-use Rattle.std.specs.Prelude.{◌≡◌, ℕ, ◌+◌, ◌<◌, ◌≤◌, Bool, true, false, if◌then◌else◌, Option, Some, None, List, Result, Ok}
+use Rattle.std.specs.Prelude.{◌≡◌, ℕ, ◌+◌, ◌<◌, ◌≤◌, max, Bool, true, false, if◌then◌else◌, Option, Some, None, List, [], ◌∷◌, Result, Ok, Err}
 use Rattle.std.specs.Map.{lookup}
-use Rattle.lru.specs.LruCache.{lru_cache, put_entries}
 use Rattle.dns_base.specs.Data.{Data}
 use Rattle.client_request.specs.Request.{Request}
 use Rattle.client_request.specs.declared.error.Error.{Error}
@@ -12,10 +11,11 @@ use Rattle.right_trace.specs.Settings.{Settings}
 use Rattle.right_trace.specs.Errors.{is_failing}
 use Rattle.right_trace.specs.Keys.{Key, key_of, is_cacheable}
 use Rattle.right_trace.specs.Parts.{Parts, read_parts, known_parts, Says}
+use Rattle.right_trace.specs.Weights.{Room, octets_in}
 use Rattle.right_trace.specs.Views.{tells_of_name, view_of, view_validity}
 use Rattle.proof_right.specs.machine.Part.{ServerPart}
-use Rattle.proof_right.specs.machine.Client.{Leaving, Entry, Upper, Made, is_failure_of, Move, Server_moves, Hands_on, Gives_up, Drops, Keeps_back, Delivers, Concludes, Times_out, Revives, Replies, Forgets, Derives, Answers, Takes_on, Moves, Rests, Goes, IsRun, Ends, Goes_on, row_begins}
-use Rattle.proof_right.specs.machine.Cache.{Op, AskDoes, after_ops}
+use Rattle.proof_right.specs.machine.Client.{Leaving, Entry, Upper, Made, is_failure_of, Move, Server_moves, Hands_on, Gives_up, Drops, Keeps_back, Delivers, Concludes, Times_out, Revives, Replies, Forgets, Derives, Answers, Takes_on, Moves, Rests, Goes, IsRun, Ends, Goes_on, row_begins, store}
+use Rattle.proof_right.specs.machine.Cache.{Op, AskDoes, after_ops, stored, GivesWay, AllGiveWay}
 
 -- what is kept under a key: the first reply, whose it was, and when
 pub record Value : Type 0 where
@@ -61,11 +61,22 @@ pub record MayRevive (s : Settings) (now : ℕ) (r : Request) (old : Option Entr
   pub allowed : 0 < s.stale_for
   pub in_time : age ≤ view_validity s entry.first r parts + s.stale_for
 
-module _ (c : Conf) (s : Settings) (compose : Request → Result Octets Error) (P : ServerPart c) (eq : Key → Key → Bool) (cap : ℕ) where
-  -- an asking looks, or leaves all as it was
-  pub data Looks (r : Request) (es fs : List (Key × Value)) : Type 0 where
-    Looked : (os : List (Op Value)) → AskDoes eq (key_of r) es os → fs ≡ after_ops eq cap os es → Looks r es fs
-    LeftAlone : fs ≡ es → Looks r es fs
+-- the longest message of those that were stored
+abbrev pub longest_kept : List Entry → ℕ
+longest_kept [] = 0
+longest_kept (e ∷ es) = max (octets_in e.result) (longest_kept es)
+
+module _ (c : Conf) (s : Settings) (compose : Request → Result Octets Error) (P : ServerPart c) (eq : Key → Key → Bool) (room : Room) where
+  -- an asking looks, where these are stored, or leaves all as it was
+  pub data Looks (kept : List Entry) (r : Request) (es fs : List (Key × Value)) : Type 0 where
+    Looked : (os : List (Op Value)) → AskDoes eq (key_of r) es os → AllGiveWay room (longest_kept kept) os → fs ≡ after_ops eq os es → Looks kept r es fs
+    LeftAlone : fs ≡ es → Looks kept r es fs
+
+  -- a reply that leaves is stored, if it is to be, and so many others stay
+  pub record Keeps (now : ℕ) (y : Leaving) (kept : List Entry) (es fs : List (Key × Value)) : Type 0 where
+    pub left : Option ℕ
+    pub gives_way : GivesWay room (longest_kept (store now y kept)) left
+    pub entries : fs ≡ (if y.is_stored then stored eq (key_of y.asked) (value_of now y) left es else es)
 
   -- the entry under the own key, and what it serves
   abbrev pub OwnServes : (r : Request) (now : ℕ) → List (Key × Value) → (Value → Type 0) → Type 0
@@ -86,11 +97,11 @@ module _ (c : Conf) (s : Settings) (compose : Request → Result Octets Error) (
   Cached x _ (Concludes k a y z held tried free none is out) es fs = fs ≡ es
   Cached x _ (Times_out k a held late) es fs = fs ≡ es
   Cached x _ (Revives before after y e m is fails old revived) es fs = fs ≡ es
-  Cached x _ (Replies before after y is) es fs = (fs ≡ (if y.is_stored then put_entries eq (lru_cache es cap) (key_of y.asked) (value_of x.now y) else es)) × (y.stale ≡ None → is_failing y.given ≡ true → MayRevive s x.now y.asked (x.expired y.request) → ⊥)
+  Cached x _ (Replies before after y is) es fs = Keeps x.now y x.stored es fs × (y.stale ≡ None → is_failing y.given ≡ true → MayRevive s x.now y.asked (x.expired y.request) → ⊥)
   Cached x _ (Forgets before after e is) es fs = fs ≡ es
   Cached x _ (Derives e k j covers) es fs = fs ≡ es
-  Cached x _ (Answers r y pend at) es fs = Looks r es fs × ((o : Octets) → compose r ≡ Ok o → OwnServes r x.now es (λ v. ServedBy v r x.now y.result)) × OwnMessage r es (λ v. is_failure_of y.result ≡ false)
-  Cached x _ (Takes_on r o old pend composed lt there) es fs = Looks r es fs × OwnServes r x.now es (λ v. ⊥) × OwnMessage r es (λ v. old ≡ Some (entry_under (key_of r) v))
+  Cached x _ (Answers r y pend at) es fs = Looks x.stored r es fs × ((o : Octets) → compose r ≡ Ok o → OwnServes r x.now es (λ v. ServedBy v r x.now y.result)) × OwnMessage r es (λ v. is_failure_of y.result ≡ false)
+  Cached x _ (Takes_on r o old pend composed lt there) es fs = Looks x.stored r es fs × OwnServes r x.now es (λ v. ⊥) × OwnMessage r es (λ v. old ≡ Some (entry_under (key_of r) v))
 
   abbrev pub AllCached : (x : Upper P.State) (d : Made P.State) → Moves c s compose P x d → (es fs : List (Key × Value)) → Type 0
   AllCached _ _ (Rests x done) es fs = fs ≡ es

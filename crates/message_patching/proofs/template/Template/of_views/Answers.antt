@@ -16,5 +16,5 @@ returns-clause-gives c =
 
 pub returns-clause-short : goal.returns-clause-short
 returns-clause-short c =
-    let short : length c.in_ok-composed.composed ≤ 2 * length c.args.message.now + 512 = ltb-false _ _ (sym c.is_long.ensures ∙ c.if-is_long.false) in
-    subst (λ t. IfSome t (λ t. length t.octets ≤ 2 * length c.args.message.now + 512)) (sym c.in_ok-template.ensures) (made_of _ _ short)
+    let short : length c.in_ok-composed.composed ≤ length c.args.message.now + 512 = ltb-false _ _ (sym c.is_long.ensures ∙ c.if-is_long.false) in
+    subst (λ t. IfSome t (λ t. length t.octets ≤ length c.args.message.now + 512)) (sym c.in_ok-template.ensures) (made_of _ _ short)
