@@ -7,12 +7,12 @@ ghost use Rattle.proof_right.specs.examples.Dgrams.{WorkedDatagrams};
 ghost use Rattle.right_trace.specs.Settings.{first_settings};
 ghost use Rattle.proof_right.specs.examples.Names.{named_again};
 ghost use Rattle.proof_right.specs.examples.Rows.{by_datagrams, deferring, two_servers};
-ghost use Rattle.proof_right.specs.examples.Hits.{WorkedHit};
+ghost use Rattle.proof_right.specs.examples.Hits.{WorkedGivingWay, WorkedHit};
 ghost use Rattle.proof_right.specs.examples.Runs.{IsARun};
 ghost use Rattle.proof_right.specs.examples.Servers.{WorkedServers, failing_server};
 ghost use Rattle.proof_right.specs.examples.Slots.{SlotIsGivenOn};
 ghost use Rattle.proof_right.specs.examples.Streams.{cut_goes_on, WorkedStreams};
-ghost use Rattle.proof_right.specs.examples.Stale.{IsServedForFailing, IsServedStale};
+ghost use Rattle.proof_right.specs.examples.Stale.{IsServedForFailing, IsServedStale, WorkedServing};
 
 /// A request by datagram: its place, its send, what answers it, and of what a failure is blamed.
 pub fn worked_datagrams()
@@ -41,9 +41,17 @@ pub fn worked_hit()
     ensures { WorkedHit }
 {}
 
-/// An expired message is given where the server's place fails to open, and where the server says that it fails.
+/// Where two entries weigh more than the cache may, the first gives way to the second; it is asked for again, and goes to
+/// the server.
+pub fn worked_giving_way()
+    ensures { WorkedGivingWay }
+{}
+
+/// An expired message is given where the server's place fails to open, and where the server says that it fails; and all
+/// that makes this a stale answer holds.
 pub fn worked_stale()
     ensures not_opened { IsServedStale }
+    ensures serving { WorkedServing }
     ensures failing { IsServedForFailing }
 {}
 

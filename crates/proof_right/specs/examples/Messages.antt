@@ -44,6 +44,10 @@ do_request = record plain_request { opt = Some (record { udp_payload_size = 0; e
 abbrev pub as_datagram : (high low : ℕ) → Octets
 as_datagram high low = high ∷ low ∷ 1 ∷ 0 ∷ 0 ∷ 1 ∷ 0 ∷ 0 ∷ 0 ∷ 0 ∷ 0 ∷ 1 ∷ question 1 ++ opt_of_size 4 208
 
+-- the request for the other kind of addresses as a datagram, under id 1
+abbrev pub as_aaaa_datagram : Octets
+as_aaaa_datagram = 0 ∷ 1 ∷ 1 ∷ 0 ∷ 0 ∷ 1 ∷ 0 ∷ 0 ∷ 0 ∷ 0 ∷ 0 ∷ 1 ∷ question 28 ++ opt_of_size 4 208
+
 -- a message by stream, of fewer than 256 octets
 abbrev pub frame : Octets → Octets
 frame m = 0 ∷ length m ∷ m
