@@ -5,14 +5,14 @@ use Rattle.std.specs.Ordering.{nat_cmp}
 use Rattle.client_request.specs.Limits.{limited}
 use Rattle.client_settings.specs.Dgram as dgram
 use Rattle.client_settings.specs.MultiStream as multi_stream
-use Rattle.client_settings.specs.Settings.{seconds}
+use Rattle.client_settings.specs.Settings.{no_bound, seconds}
 use Rattle.client_settings.specs.Stream as stream
 use Rattle.dns_script.specs.declared.settings.CountName.{CountName}
 use Rattle.dns_script.specs.declared.settings.CountName.TheVariants as count
 use Rattle.dns_script.specs.declared.settings.WaitName.{WaitName}
 use Rattle.dns_script.specs.declared.settings.WaitName.TheVariants as wait
 use Rattle.dns_script.specs.declared.settings.SettingName.{SettingName}
-use Rattle.dns_script.specs.declared.settings.SettingName.TheVariants.{Switch, Entries, Time, Count, PayloadSize, Wait}
+use Rattle.dns_script.specs.declared.settings.SettingName.TheVariants.{Switch, Entries, Octets, Time, Count, PayloadSize, Wait}
 use Rattle.dns_script.specs.declared.settings.Settings.{Settings}
 use Rattle.dns_script.specs.declared.settings.SwitchName.{SwitchName}
 use Rattle.dns_script.specs.declared.settings.SwitchName.TheVariants as switch
@@ -33,12 +33,18 @@ transport_names =
     ∷ (codes "multi-stream-response-timeout", Wait wait.MultiStreamResponse)
     ∷ []
 
+-- the bounds of the cache, and behind them those
+abbrev pub bound_names : List (List ℕ × SettingName)
+bound_names =
+    (codes "max-cache-entries", Entries)
+    ∷ (codes "max-cache-octets", Octets)
+    ∷ transport_names
+
 abbrev pub setting_names : List (List ℕ × SettingName)
 setting_names =
     (codes "defer-transport-error", Switch switch.DeferTransportError)
     ∷ (codes "defer-refused", Switch switch.DeferRefused)
     ∷ (codes "defer-servfail", Switch switch.DeferServfail)
-    ∷ (codes "max-cache-entries", Entries)
     ∷ (codes "max-validity", Time time.MaxValidity)
     ∷ (codes "transport-failure-duration", Time time.TransportFailureDuration)
     ∷ (codes "misc-error-duration", Time time.MiscErrorDuration)
@@ -47,7 +53,7 @@ setting_names =
     ∷ (codes "max-delegation-validity", Time time.MaxDelegationValidity)
     ∷ (codes "stale-for", Time time.StaleFor)
     ∷ (codes "cache-truncated", Switch switch.CacheTruncated)
-    ∷ transport_names
+    ∷ bound_names
 
 abbrev pub switch_names : List (List ℕ × Bool)
 switch_names = (codes "on", true) ∷ (codes "off", false) ∷ []
@@ -62,6 +68,10 @@ with_switch switch.CacheTruncated b s = record s { cache = record s.cache { cach
 -- how many entries the cache has at most, within its limits
 abbrev pub with_entries : ℕ → Settings → Settings
 with_entries n s = record s { cache = record s.cache { max_cache_entries = limited nat_cmp 1 1000000000 n } }
+
+-- what its entries weigh together at most, within its limits
+abbrev pub with_octets : ℕ → Settings → Settings
+with_octets n s = record s { cache = record s.cache { max_cache_octets = limited nat_cmp 65536 no_bound n } }
 
 -- a time, in microseconds, within its limits
 abbrev pub with_time : TimeName → ℕ → Settings → Settings
@@ -110,6 +120,7 @@ milliseconds n = n * 1000
 abbrev pub with_setting : SettingName → List ℕ → Settings → Option Settings
 with_setting (Switch name) word s = option_map (λ b. with_switch name b s) (named switch_names word)
 with_setting Entries word s = option_map (λ n. with_entries n s) (u64_of word)
+with_setting Octets word s = option_map (λ n. with_octets n s) (u64_of word)
 with_setting (Time name) word s = option_map (λ n. with_time name (seconds n) s) (u64_of word)
 with_setting (Count name) word s = with_count name word s
 with_setting PayloadSize word s = option_map (λ size. with_dgram (record (s.transports).dgram { udp_payload_size = size }) s) (size_of word)

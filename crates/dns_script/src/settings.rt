@@ -4,7 +4,7 @@ ghost use Rattle.std.specs.Prelude.{◌≡◌};
 ghost use Rattle.client_settings.specs.Client.{default_transports};
 ghost use Rattle.client_settings.specs.Settings.{default_cache, default_redundant};
 ghost use Rattle.dns_script.specs.Reading.{named, number_of, Makes, Reads};
-ghost use Rattle.dns_script.specs.Settings.{setting_names, sets, size_of, switch_names, transport_names, u64_of, with_count, with_setting, with_switch, with_time, with_wait};
+ghost use Rattle.dns_script.specs.Settings.{bound_names, setting_names, sets, size_of, switch_names, transport_names, u64_of, with_count, with_setting, with_switch, with_time, with_wait};
 
 use crate::line::{LineFault, Words, number_of};
 use client_settings::{Transports, cache, redundant};
@@ -54,6 +54,8 @@ pub(crate) enum SettingName {
     Switch(SwitchName),
     /// How many entries the cache has at most.
     Entries,
+    /// What the entries of the cache weigh together at most.
+    Octets,
     Time(TimeName),
     Count(CountName),
     /// The payload size that datagrams announce.
@@ -100,6 +102,19 @@ fn transport_setting_named(word: &[u8]) -> Option<SettingName>
     None
 }
 
+/// A bound of the cache by its name, or a setting of transports.
+fn bound_named(word: &[u8]) -> Option<SettingName>
+    ensures { result ≡ named bound_names word.now }
+{
+    if word == b"max-cache-entries".as_slice() {
+        return Some(SettingName::Entries);
+    }
+    if word == b"max-cache-octets".as_slice() {
+        return Some(SettingName::Octets);
+    }
+    transport_setting_named(word)
+}
+
 /// A setting by its name.
 fn setting_named(word: &[u8]) -> Option<SettingName>
     ensures { result ≡ named setting_names word.now }
@@ -112,9 +127,6 @@ fn setting_named(word: &[u8]) -> Option<SettingName>
     }
     if word == b"defer-servfail".as_slice() {
         return Some(SettingName::Switch(SwitchName::DeferServfail));
-    }
-    if word == b"max-cache-entries".as_slice() {
-        return Some(SettingName::Entries);
     }
     if word == b"max-validity".as_slice() {
         return Some(SettingName::Time(TimeName::MaxValidity));
@@ -140,7 +152,7 @@ fn setting_named(word: &[u8]) -> Option<SettingName>
     if word == b"cache-truncated".as_slice() {
         return Some(SettingName::Switch(SwitchName::CacheTruncated));
     }
-    transport_setting_named(word)
+    bound_named(word)
 }
 
 fn switch(word: &[u8]) -> Result<bool, LineFault>
@@ -270,6 +282,7 @@ impl Settings {
         match name {
             SettingName::Switch(name) => self.set_switch(name, switch(word)?),
             SettingName::Entries => self.cache.set_max_cache_entries(number(word)?),
+            SettingName::Octets => self.cache.set_max_cache_octets(number(word)?),
             SettingName::Time(name) => self.set_time(name, Duration::from_secs(number(word)?)),
             SettingName::Count(name) => self.set_count(name, word)?,
             SettingName::PayloadSize => {

@@ -8,8 +8,8 @@ use Rattle.client_settings.specs.Settings.{CacheSettings, no_bound}
 use Rattle.client_settings.specs.declared.settings.Transports.{Transports}
 use Rattle.resolv_conf.specs.declared.server.ServerConf.{ServerConf}
 use Rattle.dns_script.specs.declared.script.Script.{Script}
-use Rattle.script_printing.specs.CanBeTold.{AreAddresses, AreSizesInRange, AreWordsInRange, CanBeTold, IsInRange, are_told_dgrams, are_told_limits, are_told_settings, are_told_streams, are_told_times, are_told_transports, is_told_time, is_told_wait}
-use Rattle.script_printing.specs.Texts.{cache_lines, choice_lines, conf_lines, count_lines, dgram_lines, entries_line, head_lines, kept_lines, number_line, option_lines, server_line, setting_lines, shown, size_line, stream_lines, switch_line, time_line, time_lines, transport_lines, wait_line, word_lines}
+use Rattle.script_printing.specs.CanBeTold.{are_told_bounds, AreAddresses, AreSizesInRange, AreWordsInRange, CanBeTold, IsInRange, are_told_dgrams, are_told_limits, are_told_settings, are_told_streams, are_told_times, are_told_transports, is_told_time, is_told_wait}
+use Rattle.script_printing.specs.Texts.{bound_lines, cache_lines, choice_lines, conf_lines, count_lines, dgram_lines, entries_line, head_lines, kept_lines, number_line, option_lines, server_line, setting_lines, shown, size_line, stream_lines, switch_line, time_line, time_lines, transport_lines, wait_line, word_lines}
 use Rattle.script_printing.proofs.Confs.{address_is_word}
 use Rattle.script_printing.proofs.Plain.{IsPlain, IsWord, decimal_word, joined_plain, plain_append, plain_text, word_plain, word_text}
 use Rattle.script_printing.proofs.SettingLines.{decimals_are_words, time_fits}
@@ -41,8 +41,8 @@ time_plain name def v n h = setting_plain _ name (decimal (v / 1000000)) n (deci
 
 cache_plain : (c : CacheSettings) → are_told_settings c ≡ true → ArePlain (cache_lines c)
 cache_plain c told =
-    let p0 = and_parts (nat_le 1 c.max_cache_entries && nat_le c.max_cache_entries 1000000000) _ told in
-    let po = and_parts (c.max_cache_octets == no_bound) (are_told_times c) p0.1 in
+    let po = and_parts (are_told_bounds c) (are_told_times c) told in
+    let p0 = and_parts (nat_le 1 c.max_cache_entries && nat_le c.max_cache_entries 1000000000) (nat_le 65536 c.max_cache_octets && nat_le c.max_cache_octets no_bound) po.0 in
     let p1 = and_parts (is_told_time 60 6048000 c.max_validity) _ po.1 in
     let p2 = and_parts (is_told_time 1 300 c.transport_failure_duration) _ p1.1 in
     let p3 = and_parts (is_told_time 1 300 c.misc_error_duration) (are_told_limits c) p2.1 in
@@ -50,7 +50,10 @@ cache_plain c told =
     let q2 = and_parts (is_told_time 60 86400 c.max_nodata_validity) _ q1.1 in
     let q3 = and_parts (is_told_time 60 1000000000 c.max_delegation_validity) (is_told_time 0 604800 c.stale_for) q2.1 in
     let few : c.max_cache_entries < 2 ^ 64 = (let high = leb-true c.max_cache_entries 1000000000 (and_parts (nat_le 1 c.max_cache_entries) (nat_le c.max_cache_entries 1000000000) p0.0).1 in omega arith) in
-    joined (entries_line c.max_cache_entries) _ (setting_plain _ (codes "max-cache-entries") (decimal c.max_cache_entries) (word_text (codes "max-cache-entries") refl) (decimal_word c.max_cache_entries few))
+    let light : c.max_cache_octets < 2 ^ 64 = (let high = leb-true c.max_cache_octets no_bound (and_parts (nat_le 65536 c.max_cache_octets) (nat_le c.max_cache_octets no_bound) p0.1).1 in omega arith) in
+    joined (bound_lines c) _
+    (joined (entries_line c.max_cache_entries) _ (setting_plain _ (codes "max-cache-entries") (decimal c.max_cache_entries) (word_text (codes "max-cache-entries") refl) (decimal_word c.max_cache_entries few))
+    (setting_plain _ (codes "max-cache-octets") (decimal c.max_cache_octets) (word_text (codes "max-cache-octets") refl) (decimal_word c.max_cache_octets light)))
     (joined (time_lines c) _
     (joined _ _ (time_plain (codes "max-validity") 604800 c.max_validity (word_text (codes "max-validity") refl) (time_fits 60 6048000 c.max_validity (omega arith) p1.0))
     (joined _ _ (time_plain (codes "transport-failure-duration") 30 c.transport_failure_duration (word_text (codes "transport-failure-duration") refl) (time_fits 1 300 c.transport_failure_duration (omega arith) p2.0))

@@ -13,8 +13,8 @@ use Rattle.dns_script.specs.ScriptReading.{TakesLines}
 use Rattle.dns_script.specs.Settings.{sets}
 use Rattle.dns_script.proofs.Decimals.{decimal_is_number}
 use Rattle.dns_script.proofs.Joined.{words_of_joined}
-use Rattle.script_printing.specs.CanBeTold.{AreWordsInRange, are_told_limits, are_told_settings, are_told_times, is_told_time, is_whole}
-use Rattle.script_printing.specs.Texts.{cache_lines, choice_lines, entries_line, shown, switch_line, time_line, time_lines, word_lines}
+use Rattle.script_printing.specs.CanBeTold.{are_told_bounds, AreWordsInRange, are_told_limits, are_told_settings, are_told_times, is_told_time, is_whole}
+use Rattle.script_printing.specs.Texts.{bound_lines, cache_lines, choice_lines, entries_line, octets_line, shown, switch_line, time_line, time_lines, word_lines}
 use Rattle.script_printing.proofs.Lines.{Settings, not_skipped, reader_at, takes_more, takes_named, takes_one}
 use Rattle.script_printing.proofs.Plain.{AreWords, IsWord, decimal_word, joined_plain, word_above, words_above, word_text}
 
@@ -95,6 +95,24 @@ entries_taken n conf r c ws def told = go (n == 1000) refl
         setting_taken (codes "max-cache-entries") (decimal n) conf (record { redundant = r; cache = c; transports = default_transports }) (after n) ws (word_text (codes "max-cache-entries") refl) (decimal_word n small)
         (rw (number_back n small) (ap (λ k. Some (after k)) is))
 
+octets_taken : (n : ℕ) (conf : ResolvConf) (r : RedundantSettings) (c : CacheSettings) (ws : List ℕ) → c.max_cache_octets ≡ no_bound → (nat_le 65536 n && nat_le n no_bound) ≡ true
+    → TakesLines (octets_line n) (reader_at conf (record { redundant = r; cache = c; transports = default_transports }) ws) (reader_at conf (record { redundant = r; cache = record c { max_cache_octets = n }; transports = default_transports }) ws)
+octets_taken n conf r c ws def told = go (n == no_bound) refl
+  where
+    after : ℕ → Settings
+    after k = record { redundant = r; cache = record c { max_cache_octets = k }; transports = default_transports }
+
+    small : n < 2 ^ 64
+    small = let high = leb-true n no_bound (and_parts (nat_le 65536 n) (nat_le n no_bound) told).1 in omega arith
+
+    go : (b : Bool) → (n == no_bound) ≡ b → TakesLines (shown (not b) (join_with_byte 32 (codes "set" ∷ codes "max-cache-octets" ∷ decimal n ∷ []))) (reader_at conf (record { redundant = r; cache = c; transports = default_transports }) ws) (reader_at conf (record { redundant = r; cache = record c { max_cache_octets = n }; transports = default_transports }) ws)
+    go true e = ap (λ k. reader_at conf (after k) ws) (eqb-true n no_bound e ∙ sym def)
+    go false e =
+        let parts = and_parts (nat_le 65536 n) (nat_le n no_bound) told in
+        let is : limited nat_cmp 65536 no_bound n ≡ n = limited_is 65536 no_bound n (leb-true _ _ parts.0) (leb-true _ _ parts.1) in
+        setting_taken (codes "max-cache-octets") (decimal n) conf (record { redundant = r; cache = c; transports = default_transports }) (after n) ws (word_text (codes "max-cache-octets") refl) (decimal_word n small)
+        (rw (number_back n small) (ap (λ k. Some (after k)) is))
+
 -- the settings with one of them given
 abbrev with_cache : RedundantSettings → CacheSettings → Settings
 with_cache r c = record { redundant = r; cache = c; transports = default_transports }
@@ -168,8 +186,8 @@ choice_taken conf a b d ws =
 
 cache_taken : (conf : ResolvConf) (r : RedundantSettings) (c : CacheSettings) (ws : List ℕ) → are_told_settings c ≡ true → TakesLines (cache_lines c) (reader_at conf (with_cache r default_cache) ws) (reader_at conf (with_cache r c) ws)
 cache_taken conf r c ws told =
-    let p0 = and_parts (nat_le 1 c.max_cache_entries && nat_le c.max_cache_entries 1000000000) _ told in
-    let po = and_parts (c.max_cache_octets == no_bound) (are_told_times c) p0.1 in
+    let po = and_parts (are_told_bounds c) (are_told_times c) told in
+    let p0 = and_parts (nat_le 1 c.max_cache_entries && nat_le c.max_cache_entries 1000000000) (nat_le 65536 c.max_cache_octets && nat_le c.max_cache_octets no_bound) po.0 in
     let p1 = and_parts (is_told_time 60 6048000 c.max_validity) _ po.1 in
     let p2 = and_parts (is_told_time 1 300 c.transport_failure_duration) _ p1.1 in
     let p3 = and_parts (is_told_time 1 300 c.misc_error_duration) (are_told_limits c) p2.1 in
@@ -177,28 +195,29 @@ cache_taken conf r c ws told =
     let q2 = and_parts (is_told_time 60 86400 c.max_nodata_validity) _ q1.1 in
     let q3 = and_parts (is_told_time 60 1000000000 c.max_delegation_validity) (is_told_time 0 604800 c.stale_for) q2.1 in
     let c1 : CacheSettings = record default_cache { max_cache_entries = c.max_cache_entries } in
-    let c2 : CacheSettings = record c1 { max_validity = c.max_validity } in
+    let co : CacheSettings = record c1 { max_cache_octets = c.max_cache_octets } in
+    let c2 : CacheSettings = record co { max_validity = c.max_validity } in
     let c3 : CacheSettings = record c2 { transport_failure_duration = c.transport_failure_duration } in
     let c4 : CacheSettings = record c3 { misc_error_duration = c.misc_error_duration } in
     let c5 : CacheSettings = record c4 { max_nxdomain_validity = c.max_nxdomain_validity } in
     let c6 : CacheSettings = record c5 { max_nodata_validity = c.max_nodata_validity } in
     let c7 : CacheSettings = record c6 { max_delegation_validity = c.max_delegation_validity } in
     let c8 : CacheSettings = record c7 { stale_for = c.stale_for } in
-    let c9 : CacheSettings = record c { max_cache_octets = no_bound } in
-    let same : c9 ≡ c = ap (λ k. record c { max_cache_octets = k }) (sym (eqb-true c.max_cache_octets no_bound po.0)) in
     let s : CacheSettings → _ = λ x. reader_at conf (with_cache r x) ws in
-    subst (λ x. TakesLines (cache_lines c) (s default_cache) (s x)) same (takes_more (entries_line c.max_cache_entries) (time_lines c ++ switch_line (codes "cache-truncated") c.cache_truncated) (s default_cache) (s c1) (s c9)
+    takes_more (bound_lines c) (time_lines c ++ switch_line (codes "cache-truncated") c.cache_truncated) (s default_cache) (s co) (s c)
+    (takes_more (entries_line c.max_cache_entries) (octets_line c.max_cache_octets) (s default_cache) (s c1) (s co)
     (entries_taken c.max_cache_entries conf r default_cache ws refl p0.0)
-    (takes_more (time_lines c) (switch_line (codes "cache-truncated") c.cache_truncated) (s c1) (s c8) (s c9)
-    (takes_more (time_line (codes "max-validity") 604800 c.max_validity) _ (s c1) (s c2) (s c8) (max_validity conf r c1 ws c.max_validity refl p1.0)
+    (octets_taken c.max_cache_octets conf r c1 ws refl p0.1))
+    (takes_more (time_lines c) (switch_line (codes "cache-truncated") c.cache_truncated) (s co) (s c8) (s c)
+    (takes_more (time_line (codes "max-validity") 604800 c.max_validity) _ (s co) (s c2) (s c8) (max_validity conf r co ws c.max_validity refl p1.0)
     (takes_more (time_line (codes "transport-failure-duration") 30 c.transport_failure_duration) _ (s c2) (s c3) (s c8) (transport_failure conf r c2 ws c.transport_failure_duration refl p2.0)
     (takes_more (time_line (codes "misc-error-duration") 30 c.misc_error_duration) _ (s c3) (s c4) (s c8) (misc_error conf r c3 ws c.misc_error_duration refl p3.0)
     (takes_more (time_line (codes "max-nxdomain-validity") 3600 c.max_nxdomain_validity) _ (s c4) (s c5) (s c8) (max_nxdomain conf r c4 ws c.max_nxdomain_validity refl q1.0)
     (takes_more (time_line (codes "max-nodata-validity") 3600 c.max_nodata_validity) _ (s c5) (s c6) (s c8) (max_nodata conf r c5 ws c.max_nodata_validity refl q2.0)
     (takes_more (time_line (codes "max-delegation-validity") 1000000 c.max_delegation_validity) _ (s c6) (s c7) (s c8) (max_delegation conf r c6 ws c.max_delegation_validity refl q3.0)
     (stale_for conf r c7 ws c.stale_for refl q3.1)))))))
-    (switch_taken (codes "cache-truncated") c.cache_truncated conf (with_cache r c8) (with_cache r c9) ws (word_text (codes "cache-truncated") refl)
-    (λ e. ap (λ x. with_cache r (record c8 { cache_truncated = x })) e) (λ e. ap (λ x. Some (with_cache r (record c8 { cache_truncated = x }))) (sym e)))))
+    (switch_taken (codes "cache-truncated") c.cache_truncated conf (with_cache r c8) (with_cache r c) ws (word_text (codes "cache-truncated") refl)
+    (λ e. ap (λ x. with_cache r (record c8 { cache_truncated = x })) e) (λ e. ap (λ x. Some (with_cache r (record c8 { cache_truncated = x }))) (sym e))))
 
 -- the lines of settings that can be told are taken as these
 pub settings_taken : (conf : ResolvConf) (r : RedundantSettings) (c : CacheSettings) (ws : List ℕ) → are_told_settings c ≡ true

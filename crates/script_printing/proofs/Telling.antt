@@ -7,7 +7,7 @@ use Rattle.client_settings.specs.Dgram as dgram
 use Rattle.client_settings.specs.MultiStream as multi_stream
 use Rattle.client_settings.specs.Settings.{CacheSettings, RedundantSettings}
 use Rattle.resolv_conf.specs.declared.server.ServerConf.{ServerConf}
-use Rattle.script_printing.specs.Texts.{cache_lines, choice_lines, count_lines, ended, entries_line, limit_lines, number_line, server_line, stream_lines, switch_line, time_line, time_lines, wait_line, word_lines}
+use Rattle.script_printing.specs.Texts.{bound_lines, cache_lines, choice_lines, count_lines, ended, entries_line, limit_lines, number_line, octets_line, server_line, stream_lines, switch_line, time_line, time_lines, wait_line, word_lines}
 use Rattle.script_printing.proofs.Lines.{words_joined}
 
 servers_text : (servers : List ServerConf) → flat_map ended (map server_line servers) ≡ flat_map (λ server. ended (server_line server)) servers
@@ -58,13 +58,20 @@ word_line s a b c (w ∷ ws) none is some h k l =
     let joined : codes "words" ++ behind ≡ line = sym (words_joined (codes "words") words) in
     l ∙ ap (λ t. t ++ 10 ∷ []) (k ∙ ap (λ t. t ++ behind) h ∙ append_assoc s (codes "words") behind ∙ ap (λ t. s ++ t) joined) ∙ append_assoc s line (10 ∷ []) ∙ ap (λ t. s ++ t) (sym (append-nil (ended line)))
 
+-- the lines of bounds
+pub bounds_text : (c : CacheSettings) (s p q : List ℕ) (n m : ℕ) → n ≡ c.max_cache_entries → m ≡ c.max_cache_octets → p ≡ s ++ flat_map ended (entries_line n) → q ≡ p ++ flat_map ended (octets_line m)
+    → q ≡ s ++ flat_map ended (bound_lines c)
+bounds_text c s p q n m is_n is_m h k =
+    two_texts s p q (entries_line c.max_cache_entries) (octets_line c.max_cache_octets)
+    (h ∙ ap (λ x. s ++ flat_map ended (entries_line x)) is_n) (k ∙ ap (λ x. p ++ flat_map ended (octets_line x)) is_m)
+
 -- the lines of settings
-pub settings_text : (r : RedundantSettings) (c : CacheSettings) (s p q t u : List ℕ) (n : ℕ) (truncated : Bool) → n ≡ c.max_cache_entries → truncated ≡ c.cache_truncated
-    → p ≡ s ++ flat_map ended (choice_lines r) → q ≡ p ++ flat_map ended (entries_line n) → t ≡ q ++ flat_map ended (time_lines c) → u ≡ t ++ flat_map ended (switch_line (codes "cache-truncated") truncated)
+pub settings_text : (r : RedundantSettings) (c : CacheSettings) (s p q t u : List ℕ) (truncated : Bool) → truncated ≡ c.cache_truncated
+    → p ≡ s ++ flat_map ended (choice_lines r) → q ≡ p ++ flat_map ended (bound_lines c) → t ≡ q ++ flat_map ended (time_lines c) → u ≡ t ++ flat_map ended (switch_line (codes "cache-truncated") truncated)
     → u ≡ s ++ flat_map ended (choice_lines r ++ cache_lines c)
-settings_text r c s p q t u n truncated count on h k l m =
-    four_texts s p q t u (choice_lines r) (entries_line c.max_cache_entries) (time_lines c) (switch_line (codes "cache-truncated") c.cache_truncated) h
-    (k ∙ ap (λ x. p ++ flat_map ended (entries_line x)) count) l (m ∙ ap (λ x. t ++ flat_map ended (switch_line (codes "cache-truncated") x)) on)
+settings_text r c s p q t u truncated on h k l m =
+    four_texts s p q t u (choice_lines r) (bound_lines c) (time_lines c) (switch_line (codes "cache-truncated") c.cache_truncated) h
+    k l (m ∙ ap (λ x. t ++ flat_map ended (switch_line (codes "cache-truncated") x)) on)
 
 -- the line of a time that is this one
 time_text : (name p q : List ℕ) (default v w : ℕ) → v ≡ w → q ≡ p ++ flat_map ended (time_line name default v) → q ≡ p ++ flat_map ended (time_line name default w)

@@ -56,11 +56,13 @@ abbrev pub are_told_times : CacheSettings → Bool
 are_told_times c =
     is_told_time 60 6048000 c.max_validity && (is_told_time 1 300 c.transport_failure_duration && (is_told_time 1 300 c.misc_error_duration && are_told_limits c))
 
--- A script names no bound by octets.
-abbrev pub are_told_settings : CacheSettings → Bool
-are_told_settings c =
+abbrev pub are_told_bounds : CacheSettings → Bool
+are_told_bounds c =
     (nat_le 1 c.max_cache_entries && nat_le c.max_cache_entries 1000000000)
-    && (c.max_cache_octets == no_bound && are_told_times c)
+    && (nat_le 65536 c.max_cache_octets && nat_le c.max_cache_octets no_bound)
+
+abbrev pub are_told_settings : CacheSettings → Bool
+are_told_settings c = are_told_bounds c && are_told_times c
 
 -- a time of transports within its limits, of whole thousandths of a second
 abbrev pub is_told_wait : (least greatest value : ℕ) → Bool

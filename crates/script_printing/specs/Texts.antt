@@ -4,7 +4,7 @@ use Rattle.std.specs.List.{flat_map, join_with_byte}
 use Rattle.client_request.specs.declared.event.Event.{Event}
 use Rattle.client_settings.specs.Dgram as dgram
 use Rattle.client_settings.specs.MultiStream as multi_stream
-use Rattle.client_settings.specs.Settings.{CacheSettings, RedundantSettings, seconds}
+use Rattle.client_settings.specs.Settings.{CacheSettings, RedundantSettings, no_bound, seconds}
 use Rattle.client_settings.specs.declared.settings.Transports.{Transports}
 use Rattle.dns_values.specs.Address.{address_text}
 use Rattle.dns_script.specs.Lines.{event_line}
@@ -57,6 +57,13 @@ number_line name default value = shown (not (value == default)) (join_with_byte 
 abbrev pub entries_line : ℕ → List (List ℕ)
 entries_line n = number_line (codes "max-cache-entries") 1000 n
 
+-- what they may weigh together, where that is bounded
+abbrev pub octets_line : ℕ → List (List ℕ)
+octets_line n = number_line (codes "max-cache-octets") no_bound n
+
+abbrev pub bound_lines : CacheSettings → List (List ℕ)
+bound_lines c = entries_line c.max_cache_entries ++ octets_line c.max_cache_octets
+
 -- the times by which the kinds of answers are limited
 abbrev pub limit_lines : CacheSettings → List (List ℕ)
 limit_lines c =
@@ -72,7 +79,7 @@ time_lines c =
     ++ (time_line (codes "misc-error-duration") 30 c.misc_error_duration ++ limit_lines c))
 
 abbrev pub cache_lines : CacheSettings → List (List ℕ)
-cache_lines c = entries_line c.max_cache_entries ++ (time_lines c ++ switch_line (codes "cache-truncated") c.cache_truncated)
+cache_lines c = bound_lines c ++ (time_lines c ++ switch_line (codes "cache-truncated") c.cache_truncated)
 
 -- a time of transports that is not its default, in thousandths of a second
 abbrev pub wait_line : List ℕ → (default value : ℕ) → List (List ℕ)

@@ -2,7 +2,7 @@
 
 ghost use Rattle.std.specs.Prelude.{◌≡◌, ◌++◌, OnOk};
 ghost use Rattle.std.specs.List.{flat_map};
-ghost use Rattle.script_printing.specs.Texts.{choice_lines, count_lines, dgram_lines, ended, kept_lines, limit_lines, number_line, setting_lines, size_line, stream_lines, switch_line, time_line, time_lines, transport_lines, wait_line};
+ghost use Rattle.script_printing.specs.Texts.{bound_lines, choice_lines, count_lines, dgram_lines, ended, kept_lines, limit_lines, number_line, setting_lines, size_line, stream_lines, switch_line, time_line, time_lines, transport_lines, wait_line};
 
 use client_settings::{Transports, cache, dgram, multi_stream, redundant};
 use dns_base::{Duration, NoMemory};
@@ -121,6 +121,16 @@ fn push_times(alloc: Global, text: &mut Vec<u8>, cache: &cache::Config) -> Resul
     push_limits(alloc, text, cache)
 }
 
+/// Adds the lines of the cache's bounds.
+fn push_bounds(alloc: Global, text: &mut Vec<u8>, cache: &cache::Config) -> Result<(), NoMemory>
+    ensures { OnOk result (text.new.items ≡ text.old.items ++ flat_map ended (bound_lines cache.now)) }
+{
+    let entries = cache.max_cache_entries();
+    push_number(alloc, text, "max-cache-entries", 1000, entries)?;
+    let octets = cache.max_cache_octets();
+    push_number(alloc, text, "max-cache-octets", u64::MAX, octets)
+}
+
 /// Adds the lines of a choice among servers and of a cache.
 fn push_kept(
     alloc: Global,
@@ -131,13 +141,7 @@ fn push_kept(
     ensures { OnOk result (text.new.items ≡ text.old.items ++ flat_map ended (kept_lines choice cache.now)) }
 {
     push_choice(text, choice)?;
-    push_number(
-        alloc,
-        text,
-        "max-cache-entries",
-        1000,
-        cache.max_cache_entries(),
-    )?;
+    push_bounds(alloc, text, cache)?;
     push_times(alloc, text, cache)?;
     push_switch(text, "cache-truncated", cache.cache_truncated())
 }

@@ -3,7 +3,7 @@
 ghost use Rattle.std.specs.Prelude.{◌≡◌};
 ghost use Rattle.std.specs.List.{list_all};
 ghost use Rattle.dns_script.specs.Told.{is_of_socket, tells_well};
-ghost use Rattle.script_printing.specs.CanBeTold.{are_counts_default, are_first_flags_default, are_last_flags_default, are_told_dgrams, are_told_events, are_told_limits, are_told_options, are_told_settings, are_told_streams, are_told_times, are_told_transports, is_told_server, is_told_time, is_told_wait, is_whole};
+ghost use Rattle.script_printing.specs.CanBeTold.{are_told_bounds, are_counts_default, are_first_flags_default, are_last_flags_default, are_told_dgrams, are_told_events, are_told_limits, are_told_options, are_told_settings, are_told_streams, are_told_times, are_told_transports, is_told_server, is_told_time, is_told_wait, is_whole};
 
 use client_request::{Event, Fault, What};
 use client_settings::{Transports, cache, dgram, multi_stream};
@@ -114,13 +114,18 @@ fn times_are_told(c: &cache::Config) -> bool
         && limits_are_told(c)
 }
 
-/// Whether each setting of a cache lies within its limits, each time is a whole number of seconds, and the cache is not bounded by octets.
+fn bounds_are_told(c: &cache::Config) -> bool
+    ensures { result ≡ are_told_bounds c.now }
+{
+    (1 <= c.max_cache_entries() && c.max_cache_entries() <= 1_000_000_000)
+        && (65_536 <= c.max_cache_octets() && c.max_cache_octets() <= u64::MAX)
+}
+
+/// Whether each setting of a cache lies within its limits, and each time is a whole number of seconds.
 pub fn settings_are_told(c: &cache::Config) -> bool
     ensures { result ≡ are_told_settings c.now }
 {
-    (1 <= c.max_cache_entries() && c.max_cache_entries() <= 1_000_000_000)
-        && c.max_cache_octets() == u64::MAX
-        && times_are_told(c)
+    bounds_are_told(c) && times_are_told(c)
 }
 
 /// Whether a time is a whole number of thousandths of a second within these limits, in microseconds.
