@@ -1,6 +1,6 @@
 -- What is composed anew of a kept message has no more octets than that takes with its names written out.
 use Rattle.std.proofs.Common.{◌≡◌, ℕ, ◌+◌, ◌≤◌, Bool, true, false, List, [], ◌∷◌, ◌++◌, length, refl, sym, ap, subst, ◌∙◌, arith, ◌&&◌}
-use Rattle.std.specs.Prelude.{Option, Some, None, Result, Ok, Err, option_map, option_and_then, if◌then◌else◌}
+use Rattle.std.specs.Prelude.{Option, Some, None, Result, Ok, Err, map, option_map, option_and_then, if◌then◌else◌}
 use Rattle.std.specs.List.{AllByRecursion, sum_by}
 use Rattle.std.proofs.lemmas.List.Sums.{sum_by-append, sum_by-cons}
 use Rattle.dns_values.specs.declared.error.ParseError.{ParseError}
@@ -44,35 +44,34 @@ stays d e n is = subst (λ e. Grows d e n) is (record { least = omega arith; mos
 grows_then : (d e f : Draft) (n m : ℕ) → Grows d e n → Grows e f m → Grows d f (n + m)
 grows_then d e f n m a b = record { least = omega (arith, a.least, b.least); most = omega (arith, a.most, b.most) }
 
--- a question under a name that is as long as its own
-question_grows : (name : Labels) (q : Asked) (d e : Draft) → octet_count q.name ≡ octet_count name → asks_under name q d ≡ Ok e → Grows d e (question_size q)
-question_grows name q d e long h =
+-- a question under another name
+question_grows : (name : Labels) (q : Asked) (d e : Draft) → asks_under name q d ≡ Ok e → Grows d e (question_size (with_name name q))
+question_grows name q d e h =
     let p = with_name name q in
-    let same : question_size q ≡ question_size p = ap (λ (n : ℕ). n + 4) long in
-    let least = draft_steps.sizes.question p d in
-    let most = draft_steps.sizes.question_at_most p d in
-    subst (λ e. Grows d e (question_size q)) (not_refused _ _ e h) (record { least = least; most = omega (arith, most, same) })
+    subst (λ e. Grows d e (question_size p)) (not_refused _ _ e h) (record { least = draft_steps.sizes.question p d; most = draft_steps.sizes.question_at_most p d })
 
 record_grows : (s : Section) (w : Written) (d e : Draft) → adds s w d ≡ Ok e → Grows d e (record_size w)
 record_grows s w d e h = subst (λ e. Grows d e (record_size w)) (not_refused _ _ e h) (record { least = draft_steps.sizes.any_record s w d; most = draft_steps.sizes.record_at_most s w d })
 
-abbrev pub AreAsLong : (name : Labels) → List Asked → Type 0
-AreAsLong name qs = AllByRecursion (λ (q : Asked). octet_count q.name ≡ octet_count name) qs
+-- how many octets questions take under a name
+abbrev pub named_sizes : Labels → List Asked → ℕ
+named_sizes name qs = sum_by question_size (map (with_name name) qs)
 
-questions_grow : (name : Labels) (items : List (Result Asked ParseError)) (d e : Draft) (qs : List Asked) → each (asks_under name) items d ≡ Ok e → all_read items ≡ Some qs → AreAsLong name qs → Grows d e (sum_by question_size qs)
-questions_grow name [] d e qs h read long = stays d e (sum_by question_size qs) cc
-questions_grow name (Err x ∷ items) d e qs h read long = absurd (cc)
-questions_grow name (Ok q ∷ items) d e qs h read long = by (all_read items) refl read (questions_grow name items)
+questions_grow : (name : Labels) (items : List (Result Asked ParseError)) (d e : Draft) (qs : List Asked) → each (asks_under name) items d ≡ Ok e → all_read items ≡ Some qs → Grows d e (named_sizes name qs)
+questions_grow name [] d e qs h read =
+    let same : Path (List Asked) [] qs = cc in
+    subst (λ qs. Grows d e (named_sizes name qs)) same (stays d e 0 cc)
+questions_grow name (Err x ∷ items) d e qs h read = absurd (cc)
+questions_grow name (Ok q ∷ items) d e qs h read = by (all_read items) refl read (questions_grow name items)
   where
     by : (o : Option (List Asked)) → all_read items ≡ o → option_map (λ xs. q ∷ xs) o ≡ Some qs
-        → ((d e : Draft) (qs : List Asked) → each (asks_under name) items d ≡ Ok e → all_read items ≡ Some qs → AreAsLong name qs → Grows d e (sum_by question_size qs)) → Grows d e (sum_by question_size qs)
+        → ((d e : Draft) (qs : List Asked) → each (asks_under name) items d ≡ Ok e → all_read items ≡ Some qs → Grows d e (named_sizes name qs)) → Grows d e (named_sizes name qs)
     by None is read ih = absurd (cc)
     by (Some more) is read ih =
         let same : q ∷ more ≡ qs = cc in
-        let fits : AreAsLong name (q ∷ more) = subst (AreAsLong name) (sym same) long in
         let t = then_done (asks_under name q d) (each (asks_under name) items) e h in
-        subst (λ qs. Grows d e (sum_by question_size qs)) same
-        (subst (Grows d e) (sym (sum_by-cons question_size q more)) (grows_then d t.0 e (question_size q) (sum_by question_size more) (question_grows name q d t.0 fits.0 t.1) (ih t.0 e more t.2 is fits.1)))
+        subst (λ qs. Grows d e (named_sizes name qs)) same
+        (subst (Grows d e) (sym (sum_by-cons question_size (with_name name q) (map (with_name name) more))) (grows_then d t.0 e (question_size (with_name name q)) (named_sizes name more) (question_grows name q d t.0 t.1) (ih t.0 e more t.2 is)))
 
 -- a record whose data is read, unless it is left out
 carried_grows : (s : Section) (b : Bool) (n : Ttls) (k : Known) (w : Written) (d e : Draft) → meaning_of k ≡ Some w → carries s b n k d ≡ Ok e → Grows d e (record_size w)
@@ -119,18 +118,18 @@ section_grows s b n m d e ks ws h read means = by (section_items s m) h read
     by None h read = absurd (cc)
     by (Some items) h read = records_grow s b n items d e ks ws h read means
 
--- how many octets what is known of a message takes with its names written out
-abbrev pub spelled_out : {m : Octets} {x : Parts Data} → Knows m x → ℕ
-spelled_out k = 12 + sum_by question_size k.reading.questions + sum_by record_size (k.answer ++ (k.authority ++ k.additional))
+-- how many octets what is known of a message takes with its names written out, its questions under a name
+abbrev pub spelled_under : Labels → {m : Octets} {x : Parts Data} → Knows m x → ℕ
+spelled_under name k = 12 + named_sizes name k.reading.questions + sum_by record_size (k.answer ++ (k.authority ++ k.additional))
 
-all_grow : (name : Labels) (b : Bool) (n : Ttls) (m : Octets) (x : Parts Data) (k : Knows m x) (e : Draft) → AreAsLong name k.reading.questions → carries_all name b n m (fresh None) ≡ Ok e → (12 ≤ size e) × (size e ≤ spelled_out k)
-all_grow name b n m x k e long h =
+all_grow : (name : Labels) (b : Bool) (n : Ttls) (m : Octets) (x : Parts Data) (k : Knows m x) (e : Draft) → carries_all name b n m (fresh None) ≡ Ok e → (12 ≤ size e) × (size e ≤ spelled_under name k)
+all_grow name b n m x k e h =
     let d = fresh None in
     let are = reading_laws.items_are_read m k.reading k.read in
     let s = then_done (each (asks_under name) (question_items m) d >> carries_section Answer b n m >> carries_section Authority b n m) (carries_section Additional b n m) e h in
     let u = then_done (each (asks_under name) (question_items m) d >> carries_section Answer b n m) (carries_section Authority b n m) s.0 s.1 in
     let a = then_done (each (asks_under name) (question_items m) d) (carries_section Answer b n m) u.0 u.1 in
-    let gq = questions_grow name (question_items m) d a.0 k.reading.questions a.1 are.questions_are long in
+    let gq = questions_grow name (question_items m) d a.0 k.reading.questions a.1 are.questions_are in
     let ga = section_grows Answer b n m a.0 u.0 k.reading.answer k.answer a.2 are.answer_is k.answer_means in
     let gu = section_grows Authority b n m u.0 s.0 k.reading.authority k.authority u.2 are.authority_is k.authority_means in
     let gx = section_grows Additional b n m s.0 e k.reading.additional k.additional s.2 are.additional_is k.additional_means in
@@ -139,15 +138,15 @@ all_grow name b n m x k e long h =
     let last = sum_by-append record_size k.authority k.additional in
     (omega (arith, first, gq.least, ga.least, gu.least, gx.least), omega (arith, both, last, first, gq.most, ga.most, gu.most, gx.most))
 
-pub view_size : (header : List ℕ) (name : Labels) (b : Bool) (n : Ttls) (m : Octets) (x : Parts Data) (k : Knows m x) (octets : Octets) → length header ≡ 4 → AreAsLong name k.reading.questions → octets_by header name b n m ≡ Ok octets → length octets ≤ spelled_out k
+pub view_size : (header : List ℕ) (name : Labels) (b : Bool) (n : Ttls) (m : Octets) (x : Parts Data) (k : Knows m x) (octets : Octets) → length header ≡ 4 → octets_by header name b n m ≡ Ok octets → length octets ≤ spelled_under name k
 unfolding octets_by carried
-view_size header name b n m x k octets four long h = by (carries_all name b n m (fresh None)) refl h
+view_size header name b n m x k octets four h = by (carries_all name b n m (fresh None)) refl h
   where
-    by : (o : Copied) → carries_all name b n m (fresh None) ≡ o → message_of (o >> (λ all. Ok (with_header header all))) ≡ Ok octets → length octets ≤ spelled_out k
+    by : (o : Copied) → carries_all name b n m (fresh None) ≡ o → message_of (o >> (λ all. Ok (with_header header all))) ≡ Ok octets → length octets ≤ spelled_under name k
     by (Err e) is h = absurd (cc)
     by (Ok d) is h =
-        let g = all_grow name b n m x k d long is in
+        let g = all_grow name b n m x k d is in
         let w : finished (with_header header d) ≡ octets = cc in
         let s = draft_steps.sizes.header header d four g.0 in
         let f = draft_steps.sizes.finished (with_header header d) (omega (arith, s, g.0)) in
-        subst (λ o. length o ≤ spelled_out k) w (omega (arith, f, s, g.1))
+        subst (λ o. length o ≤ spelled_under name k) w (omega (arith, f, s, g.1))

@@ -15,6 +15,7 @@ pub mod Hit
 pub mod Unhanded
 pub mod Unread
 pub mod Among
+pub mod Lengths
 pub mod Between
 pub mod Hitting
 pub mod Idle

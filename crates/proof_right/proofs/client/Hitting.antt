@@ -33,7 +33,7 @@ use Rattle.right_trace.specs.Replies.{IsFresh, IsFreshReply}
 use Rattle.right_trace.specs.Weights.{Room, HasRoom, longest_form, longest_given, octets_given, octets_in}
 use Rattle.proof_right.specs.machine.Cache.{Between, Ended, RepliedUnstored, GivesWay, AllGiveWay, stored}
 use Rattle.right_trace.specs.Hit.{asks_since, replies_since, is_some_reply, other_replies, IsViewOf, OutIsView, AllAreViews, IsHit, Views, Hits, AllHit}
-use Rattle.proof_right.specs.machine.Exact.{Value, value_of, RunCached, Serves, ServedBy, Viewing, Looks, Looked, LeftAlone, Keeps, Cached, AllCached, entry_under, longest_kept, MayRevive}
+use Rattle.proof_right.specs.machine.Exact.{Value, value_of, RunCached, Serves, ServedBy, Viewing, Looks, Looked, LeftAlone, Keeps, Cached, AllCached, entry_under, octets_for, longest_kept, MayRevive}
 use Rattle.proof_right.specs.machine.Client.{Waiting, IsOutcome, unmade, Leaving, Upper, Made, Move, Server_moves, Hands_on, Gives_up, Drops, Keeps_back, Delivers, Concludes, Times_out, Replies, Forgets, Derives, Answers, Takes_on, Moves, Rests, Goes, IsDone, IsStep, IsRun, Ends, Goes_on, row_begins, begun, answer, Entry, moved, hand, take_on, with_expired, is_failure_of, told_of, revive, store, entry_of, Revives}
 use Rattle.proof_right.proofs.client.Kept.{Kept, MayStore, WasReply, EntryFits, LeavingFits}
 use Rattle.proof_right.proofs.client.Later.{put_more, now_all, asking_all, ever_all}
@@ -45,6 +45,7 @@ use Rattle.proof_right.proofs.client.Steps.{move_does, moves_do}
 use Rattle.proof_right.proofs.client.Beginning.{begun_kept, begun_done, row_kept}
 use Rattle.proof_right.proofs.client.Outcomes.{at_once, at_once_plain}
 use Rattle.proof_right.proofs.client.Hit.{hit}
+use Rattle.proof_right.proofs.client.Lengths.{answered_octets, ever_answered, fresh_answered}
 use Rattle.proof_right.proofs.client.Among.{fresh_not_here, ever_replied, NoReply, no_reply, same_ask, others_more, among_left, among_right, among_either}
 use Rattle.proof_right.proofs.client.Between.{room_fewer, gives_way_longer, all_longer, between_longer, snoc_ask, snoc_store}
 use Rattle.right_trace.proofs.Valid.{own_view_valid, valid_is_read}
@@ -101,14 +102,15 @@ module _ (c : Conf) (s : Settings) (compose : Request → Result Octets Error) (
     | inr r ↦ (let a = given_ever j m n h r in let b = le-max_right (octets_given o) (longest_given h) in omega arith)
   ]
 
-  entry_given : (number moment : ℕ) (x : Result Octets Error) (h : History) → WasReply c s number moment h x → octets_in x ≤ longest_given h
-  entry_given number moment (Ok m) h was = given_ever number m moment h was.0
-  entry_given number moment (Err e) h was = omega arith
+  entry_given : (r : Request) (t number moment : ℕ) (x : Result Octets Error) (h : History) → is_cacheable r ≡ true → asking number h ≡ Some (record { request = r; moment = t }) → WasReply c s number moment h x → octets_for r x ≤ longest_given h
+  entry_given r t number moment (Ok m) h ca ask was = subst (λ n. n ≤ longest_given h) (sym (answered_octets r t number m h ca ask (ever_answered c s number m moment h was.0))) (given_ever number m moment h was.0)
+  entry_given r t number moment (Err e) h ca ask was = omega arith
 
   kept_given : (n : ℕ) (h : History) (es : List Entry) → ((e : Entry) → IsIn e es → EntryFits c s e n h) → longest_kept es ≤ longest_given h
   kept_given n h [] fits = omega arith
   kept_given n h (e ∷ es) fits =
-      max-le (entry_given e.number e.moment e.result h (fits e (inl refl)).was) (kept_given n h es (λ z i. fits z (inr i)))
+      let f = fits e (inl refl) in
+      max-le {a = octets_for e.first e.result} (entry_given e.first (f.asked.0) e.number e.moment e.result h f.cacheable f.asked.1 f.was) (kept_given n h es (λ z i. fits z (inr i)))
 
   -- outs make the longest no shorter
   given_all : (xs : List Out) (h : History) → longest_given h ≤ longest_given (put_all xs h)
@@ -186,19 +188,30 @@ module _ (c : Conf) (s : Settings) (compose : Request → Result Octets Error) (
 
   module _ (past : History) (w : What) (x : Upper P.State) (h : History) (kept : Kept c s P past w x h) where
     -- what is stored with a reply that is put is no longer than the longest
-    stored_given : (y : Leaving) → longest_kept (store x.now y x.stored) ≤ longest_given (Put (Reply y.request y.result) ∷ h)
-    stored_given y = go y.is_stored
+    stored_given : (y : Leaving) → LeavingFits c s P past w x.held x.ups x.asked y h → longest_kept (store x.now y x.stored) ≤ longest_given (Put (Reply y.request y.result) ∷ h)
+    stored_given y fit = go y.is_stored refl
       where
         before : longest_kept x.stored ≤ longest_given h
         before = kept_given x.asked h x.stored kept.entries
 
-        go : (b : Bool) → longest_kept (if b then entry_of x.now y ∷ x.stored else x.stored) ≤ max (octets_in y.result) (longest_given h)
-        go true =
+        own : (u : Result Octets Error) → is_cacheable y.asked ≡ true → MayStore c s y.request past w h u → octets_for y.asked u ≤ octets_in u
+        own (Ok m) ca may =
+            let a = fresh_answered c s y.request m w h (subst (λ g. IsFresh c s y.request m g w h) (sym kept.row) may.0) in
+            subst (λ n. n ≤ longest_form m) (sym (answered_octets y.asked (fit.asked.0) y.request m h ca fit.asked.1 a)) (itself (longest_form m))
+          where
+            itself : (n : ℕ) → n ≤ n
+            itself n = omega arith
+        own (Err e) ca may = omega arith
+
+        go : (b : Bool) → y.is_stored ≡ b → longest_kept (if b then entry_of x.now y ∷ x.stored else x.stored) ≤ max (octets_in y.result) (longest_given h)
+        go true is =
+            let o = own y.result (fit.stores is).0 (fit.stores is).1 in
             let l = le-max_left (octets_in y.result) (longest_given h) in
             let r = le-max_right (octets_in y.result) (longest_given h) in
             let b = before in
-            max-le l (omega arith)
-        go false = let r = le-max_right (octets_in y.result) (longest_given h) in let b = before in omega arith
+            let first : octets_for y.asked y.result ≤ max (octets_in y.result) (longest_given h) = omega arith in
+            max-le {a = octets_for y.asked y.result} first (omega arith)
+        go false is = let r = le-max_right (octets_in y.result) (longest_given h) in let b = before in omega arith
 
     -- a reply is put
     fits_reply : (first last : List Leaving) (y : Leaving) → x.leaving ≡ first ++ y ∷ last → y.stale ≡ None → (es fs : Cache) → Keeps c s compose (machine_of P) eq rm x.now y x.stored es fs
@@ -209,7 +222,7 @@ module _ (c : Conf) (s : Settings) (compose : Request → Result Octets Error) (
         fit = kept.leaves y (subst (IsIn y) (sym is) (in_here y first last))
 
         given : GivesWay rm (longest_given (Put (Reply y.request y.result) ∷ h)) cached.left
-        given = gives_way_longer rm (longest_kept (store x.now y x.stored)) (longest_given (Put (Reply y.request y.result) ∷ h)) (stored_given y) cached.left cached.gives_way
+        given = gives_way_longer rm (longest_kept (store x.now y x.stored)) (longest_given (Put (Reply y.request y.result) ∷ h)) (stored_given y fit) cached.left cached.gives_way
 
         no_ask : is_asked_here y.request h ≡ true → (u : Octets) → IsFresh c s y.request u past w h → ⊥
         no_ask here u fr = fresh_not_here c s y.request u past w h fr kept.row here

@@ -20,8 +20,8 @@ use Rattle.client_request.specs.Composed.{composed}
 use Rattle.right_trace.specs.Settings.{Settings, first_settings}
 use Rattle.right_trace.specs.Requests.{Asking, asking}
 use Rattle.right_trace.specs.Keys.{Key, key_of, question_of, TellsKeys}
-use Rattle.right_trace.specs.Trace.{Came, Put, after}
-use Rattle.right_trace.specs.Weights.{Room, HasRoom, weight, longest_form, longest_given}
+use Rattle.right_trace.specs.Trace.{History, Came, Put, after}
+use Rattle.right_trace.specs.Weights.{Room, HasRoom, weight, longest_form, longest_given, octets_given}
 use Rattle.right_trace.specs.Hit.{asks_since, replies_since, Views, AllHit}
 use Rattle.right_trace.specs.StaleServed.{AllServeStale}
 use Rattle.proof_right.specs.examples.Messages.{plain_request, aaaa_request, answer}
@@ -39,10 +39,22 @@ lengths : (longest_form (answer 18 52 100) ≤ 1000) × (longest_form (answer 18
 unfolding name_at walk head_at data_at data_spelling question_at record_at list_at items_at questions_of answer_of authority_of additional_of answer_items authority_items additional_items first_question sole_question reads knows opt_of opt_rcode contents_of longest_form
 lengths = (omega arith, omega arith)
 
+-- no reply carried a longer message than so many octets
+abbrev pub AreWithin : (n : ℕ) → History → Type 0
+AreWithin n [] = Unit {0}
+AreWithin n (Came e ∷ h) = AreWithin n h
+AreWithin n (Put o ∷ h) = (octets_given o ≤ n) × AreWithin n h
+
+pub within : (n : ℕ) (h : History) → AreWithin n h → longest_given h ≤ n
+within n [] w = omega arith
+within n (Came e ∷ h) w = within n h w
+within n (Put o ∷ h) w = max-le {a = octets_given o} w.0 (within n h w.1)
+
 has_room : HasRoom room_for_one (longest_given (after its_row before_it)) 0
 has_room =
     let l = lengths in
-    let most : longest_given (after its_row before_it) ≤ 1000 = max-le (omega (arith, l.1)) (max-le (omega arith) (max-le (omega (arith, l.0)) (max-le (omega arith) (max-le (omega arith) (max-le (omega arith) (max-le (omega arith) (omega arith))))))) in
+    let least : 0 ≤ 1000 = omega arith in
+    let most : longest_given (after its_row before_it) ≤ 1000 = within 1000 (after its_row before_it) (l.1, (l.0, (least, (least, (least, (least, tt)))))) in
     record { few = omega arith; light = omega arith }
 
 -- the first message alone has it too
@@ -66,7 +78,13 @@ worked = record {
 
 -- no message is longer than the first, where that is asked again and handed on
 pub row_short : (w : Event) → longest_given (Put (OpenDgram 1 0) ∷ Put (Start 1 0 Dgram) ∷ Came w ∷ before_it) ≤ longest_form (answer 18 52 100)
-row_short w = max-le (omega arith) (max-le (omega arith) (max-le (omega arith) (max-le (omega arith) (max-le (omega arith) (max-le (omega arith) (max-le (omega arith) (omega arith)))))))
+row_short w =
+    let most : ℕ = longest_form (answer 18 52 100) in
+    let least : 0 ≤ most = omega arith in
+    within most (Put (OpenDgram 1 0) ∷ Put (Start 1 0 Dgram) ∷ Came w ∷ before_it) (least, (least, (le_self most, (least, (least, (least, (least, tt)))))))
+  where
+    le_self : (n : ℕ) → n ≤ n
+    le_self n = omega arith
 
 pub not_missed : (room : Room) → HasRoom room (longest_form (answer 18 52 100)) 0 → AllHit by_datagrams first_settings composed room [] missed → ⊥
 not_missed room has h =
@@ -77,9 +95,12 @@ not_missed room has h =
 
 -- An entry that gave way
 
+types_differ : 28 ≡ 1 → ⊥
+types_differ e = absurd (omega (arith, e))
+
 keys_differ : key_of aaaa_request ≡ key_of plain_request → ⊥
 unfolding name_at walk head_at data_at data_spelling question_at record_at list_at items_at questions_of answer_of authority_of additional_of answer_items authority_items additional_items first_question sole_question reads knows opt_of opt_rcode contents_of question_of key_of
-keys_differ e = let t : 28 ≡ 1 = ap (λ (k : Key). k.rtype) e in absurd (cc)
+keys_differ e = types_differ (ap (λ (k : Key). k.rtype) e)
 
 its_request : (q r : Request) (t u : ℕ) → Path (Option Asking) (Some (record { request = q; moment = t })) (Some (record { request = r; moment = u })) → q ≡ r
 its_request q r t u e =
@@ -126,26 +147,24 @@ giving_way = record {
     | inr ne ↦ ap (λ b. cond b (Some v) None) ne
   ];
   no_hit = λ s n. (
-    (λ q r j t moment v age m o what ask. absurd (cc)),
-    (λ q r j t moment v age m o what. absurd (cc)),
-    (λ q r j t moment v age m o what. absurd (cc)),
-    (λ q r j t moment v age m o what ask ever val pos ca_q ca_r keys. absurd (second_is_other q r j t what ask keys)),
-    (λ q r j t moment v age m o what. absurd (cc)),
-    (λ q r j t moment v age m o what. absurd (cc)),
-    (λ q r j t moment v age m o what ask ever val pos ca_q ca_r keys composed is le views room. absurd (first_has_none n _ q r j t what ask keys room)),
-    (λ q r j t moment v age m o what. absurd (cc)),
-    tt,
+    (λ q r j t moment v age m o what ask. absurd (cc)), (
+    (λ q r j t moment v age m o what. absurd (cc)), (
+    (λ q r j t moment v age m o what. absurd (cc)), (
+    (λ q r j t moment v age m o what ask ever val pos ca_q ca_r keys. absurd (second_is_other q r j t what ask keys)), (
+    (λ q r j t moment v age m o what. absurd (cc)), (
+    (λ q r j t moment v age m o what. absurd (cc)), (
+    (λ q r j t moment v age m o what ask ever val pos ca_q ca_r keys composed is le views room. absurd (first_has_none n _ q r j t what ask keys room)), (
+    (λ q r j t moment v age m o what. absurd (cc)), tt)))))))
   );
   none_served = λ s n. (
-    (λ q r j t moment v m x what ask. absurd (cc)),
-    (λ q r j t moment v m x what. absurd (cc)),
-    (λ q r j t moment v m x what. absurd (cc)),
-    (λ q r j t moment v m x what ask ever val pos known tells ca_q ca_r keys. absurd (second_is_other q r j t what ask keys)),
-    (λ q r j t moment v m x what. absurd (cc)),
-    (λ q r j t moment v m x what. absurd (cc)),
-    (λ q r j t moment v m x what ask ever val pos known tells ca_q ca_r keys past_it views room. absurd (first_has_none n _ q r j t what ask keys room)),
-    (λ q r j t moment v m x what. absurd (cc)),
-    tt,
+    (λ q r j t moment v m x what ask. absurd (cc)), (
+    (λ q r j t moment v m x what. absurd (cc)), (
+    (λ q r j t moment v m x what. absurd (cc)), (
+    (λ q r j t moment v m x what ask ever val pos known tells ca_q ca_r keys. absurd (second_is_other q r j t what ask keys)), (
+    (λ q r j t moment v m x what. absurd (cc)), (
+    (λ q r j t moment v m x what. absurd (cc)), (
+    (λ q r j t moment v m x what ask ever val pos known tells ca_q ca_r keys past_it views room. absurd (first_has_none n _ q r j t what ask keys room)), (
+    (λ q r j t moment v m x what. absurd (cc)), tt)))))))
   );
 }
   where

@@ -79,9 +79,8 @@ serving = record {
   none_between = refl;
   has_room = room_fewer room_for_one _ (longest_form (answer 18 52 100)) 0 0 (row_short (record { moment = record { 0 = 200000000 }; what = Ask plain_request })) (omega arith) has_room_alone;
   never_fails = (
-    (λ le. ((λ v e f. absurd (cc)), (λ v e f. absurd (cc)), tt)),
-    (λ le. ((λ v e f. absurd (cc)), (λ v e f. it_is_marked v e f), tt)),
-    tt,
+    (λ le. ((λ v e f. absurd (cc)), ((λ v e f. absurd (cc)), tt))),
+    ((λ le. ((λ v e f. absurd (cc)), ((λ v e f. it_is_marked v e f), tt))), tt),
   );
 }
   where

@@ -1,7 +1,12 @@
 -- The cache exactly as it is kept beside the moves: which entry is used and stored, and when an asking must be answered from one.
-use Rattle.std.specs.Prelude.{◌≡◌, ℕ, ◌+◌, ◌<◌, ◌≤◌, max, Bool, true, false, if◌then◌else◌, Option, Some, None, List, [], ◌∷◌, Result, Ok, Err}
+use Rattle.std.specs.Prelude.{◌≡◌, ℕ, ◌+◌, ◌<◌, ◌≤◌, max, Bool, true, false, if◌then◌else◌, Option, Some, None, List, [], ◌∷◌, ◌++◌, length, map, Result, Ok, Err}
+use Rattle.std.specs.Option.{option_map_or}
+use Rattle.std.specs.List.{sum_by}
 use Rattle.std.specs.Map.{lookup}
+use Rattle.dns_names.specs.Name.{Labels}
 use Rattle.dns_base.specs.Data.{Data}
+use Rattle.dns_base.specs.Draft.{question_size, record_size}
+use Rattle.dns_base.specs.Knowing.{Knowing, knows}
 use Rattle.client_request.specs.Request.{Request}
 use Rattle.client_request.specs.declared.error.Error.{Error}
 use Rattle.client_request.specs.declared.event.Row.{Row}
@@ -9,10 +14,10 @@ use Rattle.right_trace.specs.Trace.{Conf}
 use Rattle.right_trace.specs.Messages.{Octets}
 use Rattle.right_trace.specs.Settings.{Settings}
 use Rattle.right_trace.specs.Errors.{is_failing}
-use Rattle.right_trace.specs.Keys.{Key, key_of, is_cacheable}
+use Rattle.right_trace.specs.Keys.{Key, key_of, spelled_name, is_cacheable}
 use Rattle.right_trace.specs.Parts.{Parts, read_parts, known_parts, Says}
-use Rattle.right_trace.specs.Weights.{Room, octets_in}
-use Rattle.right_trace.specs.Views.{tells_of_name, view_of, view_validity}
+use Rattle.right_trace.specs.Weights.{Room}
+use Rattle.right_trace.specs.Views.{tells_of_name, view_of, view_validity, with_name}
 use Rattle.proof_right.specs.machine.Part.{ServerPart}
 use Rattle.proof_right.specs.machine.Client.{Leaving, Entry, Upper, Made, is_failure_of, Move, Server_moves, Hands_on, Gives_up, Drops, Keeps_back, Delivers, Concludes, Times_out, Revives, Replies, Forgets, Derives, Answers, Takes_on, Moves, Rests, Goes, IsRun, Ends, Goes_on, row_begins, store}
 use Rattle.proof_right.specs.machine.Cache.{Op, AskDoes, after_ops, stored, GivesWay, AllGiveWay}
@@ -61,10 +66,19 @@ pub record MayRevive (s : Settings) (now : ℕ) (r : Request) (old : Option Entr
   pub allowed : 0 < s.stale_for
   pub in_time : age ≤ view_validity s entry.first r parts + s.stale_for
 
--- the longest message of those that were stored
+-- how many octets a message takes with its names written out, its questions under this name
+abbrev pub written_under : Labels → Knowing → ℕ
+written_under name m = 12 + sum_by question_size (map (with_name name) m.questions) + sum_by record_size (m.answer ++ (m.authority ++ m.additional))
+
+-- how many octets the result of a request has, or takes written out for who asks for its name, where that is more
+abbrev pub octets_for : Request → Result Octets Error → ℕ
+octets_for r (Ok m) = max (length m) (option_map_or (written_under (spelled_name r)) (knows m) 0)
+octets_for r (Err e) = 0
+
+-- the longest of what was stored
 abbrev pub longest_kept : List Entry → ℕ
 longest_kept [] = 0
-longest_kept (e ∷ es) = max (octets_in e.result) (longest_kept es)
+longest_kept (e ∷ es) = max (octets_for e.first e.result) (longest_kept es)
 
 module _ (c : Conf) (s : Settings) (compose : Request → Result Octets Error) (P : ServerPart c) (eq : Key → Key → Bool) (room : Room) where
   -- an asking looks, where these are stored, or leaves all as it was
