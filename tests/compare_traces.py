@@ -11,8 +11,8 @@ several, and `all` everything. The stage, how much of the client is built, count
 is the profile's own where none is given. Judges: `check_trace` compares with the reference client step by step,
 `check_right` says whether a trace is right by the reference's reading of the definitions, and `definitions` whether it is by
 those of this folder (`judge_by_definitions.py`). Lines `set` whose name begins with the NAME of a `--leave-out` are left out of
-each script, and a bound on a cache's octets always is. With `--drawing` each script has a line `set` whose name begins with one of
-its NAMEs. With `--stale` (profile `all`) servers keep well a while and fail a while, so that what has expired serves.
+each script. With `--drawing` each script has a line `set` whose name begins with one of its NAMEs. With `--stale` (profile
+`all`) servers keep well a while and fail a while, so that what has expired serves.
 """
 
 import argparse
@@ -38,7 +38,7 @@ def script_of(folder, seed, options):
     words = ["--stale"] if options.stale else []
     made = reference(folder, "plain.fuzz", "--seed", str(seed), "--events", str(options.events), "--profile", options.profile,
                      "--stage", str(options.stage), *words, check=True).stdout
-    left = heads(["max-cache-octets", *options.leave_out])
+    left = heads(options.leave_out)
     return b"".join(it for it in made.splitlines(keepends=True) if not it.startswith(left))
 
 

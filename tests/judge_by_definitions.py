@@ -65,20 +65,9 @@ class Reference:
     def __init__(self, folder):
         sys.path.insert(0, folder)
         from plain import fuzz, script
-        from plain.settings import CacheConfig
         from plain.tests import audit
         self.script, self.auditing, self.refusal = script, audit, script.ScriptFault
-
-        class BoundedByEntries(fuzz.Fuzzer):
-            """Its caches have no bound on octets, which no client here has."""
-
-            def _settings(self):
-                conf, redundant, cache = super()._settings()
-                self.head = [line for line in self.head if not line.startswith("set max-cache-octets ")]
-                cache.max_cache_octets = CacheConfig().max_cache_octets
-                return conf, redundant, cache
-
-        self.fuzzer = BoundedByEntries
+        self.fuzzer = fuzz.Fuzzer
 
     def made(self, seed, events, profile, stage):
         """A script and its trace."""

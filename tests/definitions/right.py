@@ -9,8 +9,8 @@ from . import messages as dns
 from .history import BACK_OFF, History
 from .requests import covers
 from .texts import Err
-from .views import (is_deferred, is_failing_message, is_final, is_valid_stale, known_parts, says, stale_of, tells_of_name,
-                    validity_of_message, view_of, view_validity)
+from .views import (is_deferred, is_failing_message, is_final, is_valid_stale, known_parts, longest_form, says, stale_of,
+                    tells_of_name, validity_of_message, view_of, view_validity, weight)
 
 Fault = namedtuple("Fault", "row out definition")
 FreshReply = namedtuple("FreshReply", "message moment place")
@@ -63,6 +63,7 @@ class Judge:
         self.unkept = set()         # requests whose message came, has no validity and isn't given
         self.log = []               # askings and replies in order
         self.reply_place = {}       # request: the place in the log of its newest reply
+        self.longest = 0            # the longest message that a reply carried
         self.fresh = {}             # request: its fresh replies
         self.errors = {}            # request: its replies with an error, by their own cause
         self.earlier = {}           # request: causes of servers in earlier rows
@@ -488,6 +489,8 @@ class Judge:
             self.errors.setdefault(k, []).append(ErrorReply(result, h.now))
         elif k in h.asking and not isinstance(result, Err) and self.marked != k and self.is_fresh(k, result):
             self.fresh.setdefault(k, []).append(FreshReply(result, h.now, len(self.log)))
+        if not isinstance(result, Err):
+            self.longest = max(self.longest, longest_form(result))
         self.reply_place[k] = len(self.log)
         self.log.append(Replied(k, result, h.now, h.is_asked_here(k), h.newest.kind == "ask", h.row, self.marked == k))
 
@@ -540,8 +543,12 @@ class Judge:
         since = self.log[place + 1:]
         asks = self.log[place].in_row_of_ask + sum(isinstance(e, Asked) and e.request != k for e in since)
         replies = [e for e in since if isinstance(e, Replied) and not (e.row == self.h.row and e.request == k)]
-        return 3 * asks + len(replies) < self.settings.max_cache_entries and all(
-            self.out_is_view(e, q, x) for e in replies if e.request != k)
+        return self.has_room(3 * asks + len(replies)) and all(self.out_is_view(e, q, x) for e in replies if e.request != k)
+
+    def has_room(self, others):
+        """An entry has room beside so many others, whatever messages they keep that a reply carried so far."""
+        return (others < self.settings.max_cache_entries
+                and (others + 1) * weight(self.longest) <= self.settings.max_cache_octets)
 
     def out_is_view(self, e, q, x):
         """A reply to a request with the key of q is a view of its message, given in its own asking's row, or marked."""

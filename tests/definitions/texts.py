@@ -38,7 +38,7 @@ SWITCHES = {"defer-transport-error": "defers_errors", "defer-refused": "defers_r
 
 
 def first_settings():
-    settings = SimpleNamespace(max_cache_entries=1000)
+    settings = SimpleNamespace(max_cache_entries=1000, max_cache_octets=2**64 - 1)
     for name in SWITCHES.values():
         setattr(settings, name, False)
     for name, (value, _, _) in DURATIONS.items():
@@ -61,6 +61,8 @@ def take_setting(settings, name, value):
         setattr(settings, SWITCHES[name], value == "on")
     elif name == "max-cache-entries":
         settings.max_cache_entries = max(1, min(1000000000, int(value)))
+    elif name == "max-cache-octets":
+        settings.max_cache_octets = max(65536, int(value))
     else:
         _, least, greatest = DURATIONS[name]
         setattr(settings, name.replace("-", "_"), max(least, min(greatest, int(value))) * SECOND)

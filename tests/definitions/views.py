@@ -53,6 +53,24 @@ def says(m, x):
     return parts is not None and lowered_parts(parts) == lowered_parts(x)
 
 
+# ---- what messages weigh
+
+def written_out(x):
+    """How many octets a message takes with its names written out."""
+    records = sum(dns.octet_count(i.owner) + 10 + dns.data_size(i.content) for i in x.answer + x.authority + x.additional)
+    return 12 + sum(dns.octet_count(q.name) + 4 for q in x.questions) + records
+
+
+def longest_form(m):
+    """How many octets a message has, or takes with its names written out where that is more."""
+    parts = known_parts(m)
+    return max(len(m), 0 if parts is None else written_out(parts))
+
+
+def weight(octets):
+    return 1024 + 2 * octets
+
+
 # ---- validity (RFC 2308 3, 5)
 
 def has_item(rtype, class_, items):
