@@ -20,7 +20,7 @@ use Rattle.right_trace.specs.Settings.{Settings}
 use Rattle.right_trace.specs.Parts.{IsIn}
 use Rattle.proof_right.specs.machine.Client.{Waiting, Leaving, Entry, is_failure_of, Caches, Answers, Takes_on, Derives, newcomer, answer, take_on, unmade, outcome_of, validity_of, Nowhere}
 use Rattle.proof_right.specs.machine.Cache.{Op, after_ops}
-use Rattle.proof_right.specs.machine.Exact.{Value, MayRevive, ServedBy, Looks, Looked, LeftAlone, OwnServes, OwnMessage}
+use Rattle.proof_right.specs.machine.Exact.{MayRevive, longest_kept, ServedBy, Looks, Looked, LeftAlone, OwnServes, OwnMessage}
 use Rattle.proof_right.proofs.Composing.{composed_refused}
 use Rattle.proof_right.proofs.client.Outcomes.{given_so}
 use Rattle.right_trace.specs.Updates.{with_at}
@@ -44,10 +44,10 @@ use Rattle.client_cache.specs.declared.steps.Way.TheVariants.{Asks}
 use Rattle.proof_cache.specs.Caching.{Caching, its, State, Listed, room, cached, reading, IsHanded, names, Owns, all_stored, IsJob, AreJobs, IsTied}
 use Rattle.proof_cache.specs.Laws.{FindsAs, ListsAs, SparesAs, found_for, spare_for, unstored}
 use Rattle.proof_cache.specs.Listed.{listed}
-use Rattle.proof_cache.specs.Listing.{AreAlike, AreListed, all_listed, all_stored_as}
+use Rattle.proof_cache.specs.Listing.{Weighed, AreAlike, AreListed, all_listed, all_stored_as, exact_of, exact_ops}
 use Rattle.proof_cache.specs.Results.{Sanely}
 use Rattle.proof_cache.specs.Standing.{IsResult, StandsForStored, TableStands, Derived, Nothing, More}
-use Rattle.proof_cache.proofs.Listing.{DerivedToo, all_lists_listed, derived_more, derived_too, listed_more}
+use Rattle.proof_cache.proofs.Listing.{DerivedToo, derived_more, derived_too, exact_after, is_longest, listed_more}
 use Rattle.proof_cache.proofs.Tables.{each_more}
 use Rattle.proof_cache.proofs.Calls.{Calling, call_leaves, led_up}
 use Rattle.proof_cache.proofs.CachedCalls.{LeavesBelow, fair_onto}
@@ -64,9 +64,9 @@ mild_fault r e (inl p) = ap is_failure p.0
 mild_fault r e (inr p) = ap is_failure p.0
 
 -- what is listed is stored
-all_among : (stored : List Entry) (es : List (Key × Value)) → AreListed stored es → (e : Entry) → IsIn e (all_stored_as es) → IsIn e stored
+all_among : (stored : List Entry) (es : List (Key × Weighed)) → AreListed stored es → (e : Entry) → IsIn e (all_stored_as es) → IsIn e stored
 all_among stored [] h e is = absurd is
-all_among stored (x ∷ es) h e (inl same) = subst (λ e. IsIn e stored) same h.0
+all_among stored (x ∷ es) h e (inl same) = subst (λ e. IsIn e stored) same (h.0).0
 all_among stored (x ∷ es) h e (inr there) = all_among stored es h.1 e there
 
 -- where more is stored, a table stands to it still
@@ -112,7 +112,7 @@ module _ (g : Caching) where
 
     -- what is derived for the list is derived of what is stored
     listed_now : AreListed a.stored es
-    listed_now = subst (λ zs. AreListed (all_stored a.now zs a.stored) (all_listed (room g) a.now zs es)) none t.listed
+    listed_now = t.listed
 
     too : DerivedToo a.stored lists.after
     too = derived_too (all_stored_as es) lists.after a.stored lists.derived (all_among a.stored es listed_now)
@@ -125,13 +125,16 @@ module _ (g : Caching) where
     among_finds x is = derived_more too.stored finds.after finds.derived x (too.among x is)
 
     abbrev left : Listed g
-    left = after_ops same_key (room g) lists.ops es
+    left = after_ops same_key lists.ops es
 
-    looks : Looks g.c (its g) composed g.P same_key (room g) r es left
-    looks = elim lists.asks [ inl asks ↦ Looked lists.ops asks refl | inr none ↦ LeftAlone (ap (λ (os : List (Op Value)). after_ops same_key (room g) os es) none) ]
+    looks : Looks g.c (its g) composed g.P same_key (room g) finds.after r (exact_of es) (exact_of left)
+    looks = elim lists.asks [
+      | inl asks ↦ Looked (exact_ops lists.ops) asks (lists.gives (longest_kept finds.after) (λ e is. is_longest finds.after e (among_finds e is))) (exact_after lists.ops es)
+      | inr none ↦ LeftAlone (ap (λ (os : List (Op Weighed)). exact_of (after_ops same_key os es)) none)
+    ]
 
     -- where nothing answers, the own entry does not serve
-    none_serves : (m : List ℕ) → composed r ≡ Ok m → seen.answer ≡ None → OwnServes g.c (its g) composed g.P same_key (room g) r a.now es (λ v. ⊥)
+    none_serves : (m : List ℕ) → composed r ≡ Ok m → seen.answer ≡ None → OwnServes g.c (its g) composed g.P same_key (room g) r a.now (exact_of es) (λ v. ⊥)
     none_serves m composes none cacheable v is serves = let f = lists.serves m composes cacheable v is serves in absurd (let p = f.1 in cc)
 
     -- the machine once it has derived
@@ -197,14 +200,14 @@ module _ (g : Caching) where
       said = answers v.ticket (plain.part_of o) (ticked v)
 
       -- from the own entry, where that serves
-      served : (m : List ℕ) → composed r ≡ Ok m → OwnServes g.c (its g) composed g.P same_key (room g) r a.now es (λ v. ServedBy v r a.now o)
+      served : (m : List ℕ) → composed r ≡ Ok m → OwnServes g.c (its g) composed g.P same_key (room g) r a.now (exact_of es) (λ v. ServedBy v r a.now o)
       served m composes cacheable v is serves =
           let f = lists.serves m composes cacheable v is serves in
           let one : f.0 ≡ o = (let p = f.1 in let q = answer_is in cc) in
           subst (ServedBy v r a.now) one f.2
 
       -- where a message is listed under the own key, it does not fail
-      mild : (made : Outcome) → composed r ≡ made → OwnMessage g.c (its g) composed g.P same_key (room g) r es (λ v. is_failure_of o ≡ false)
+      mild : (made : Outcome) → composed r ≡ made → OwnMessage g.c (its g) composed g.P same_key (room g) r (exact_of es) (λ v. is_failure_of o ≡ false)
       mild (Ok m) made cacheable v n own message = lists.mild m made cacheable v n own message o answer_is
       mild (Err e) made cacheable v n own message = subst (λ o. is_failure_of o ≡ false) error (mild_fault r e (composed_refused r e octets made))
         where
@@ -235,8 +238,8 @@ module _ (g : Caching) where
             (subst (TableStands (its g) a.now finds.after) (sym same) finds.stands);
         alike = subst (λ zs. AreAlike (its g) a.now (all_listed (room g) a.now (zs ++ given ∷ []) left) kept.table.entries) (sym none)
             (subst (λ (u : Table). AreAlike (its g) a.now left u.entries) (sym same) lists.alike);
-        cap = ap (λ (u : Table). u.cap) same ∙ lists.room;
-        listed = subst (λ zs. AreListed (all_stored a.now (zs ++ given ∷ []) finds.after) (all_listed (room g) a.now (zs ++ given ∷ []) left)) (sym none) listed_after;
+        cap = ap (λ (u : Table). u.room) same ∙ lists.room_is;
+        listed = listed_after;
         told = λ z is. told_of z (subst (λ zs. IsIn z (zs ++ given ∷ [])) none is);
         unasked = unasked_on;
         jobs = subst (AreJobs g a.now a.expired (g.names c.upstream) a.held) (sym waiting) t.jobs;
@@ -297,8 +300,8 @@ module _ (g : Caching) where
       alike_there : AreAlike (its g) a.now left k1.table.entries
       alike_there = subst (λ (u : Table). AreAlike (its g) a.now left u.entries) (sym same) lists.alike
 
-      cap_there : k1.table.cap ≡ room g
-      cap_there = ap (λ (u : Table). u.cap) same ∙ lists.room
+      cap_there : k1.table.room ≡ room g
+      cap_there = ap (λ (u : Table). u.room) same ∙ lists.room_is
 
       next : (ticked v).ticket ≡ suc v.ticket
       next = add-one v.ticket
@@ -515,7 +518,7 @@ module _ (g : Caching) where
           stands = subst (λ zs. TableStands (its g) a.now (all_stored a.now (zs ++ fault ∷ []) finds.after) kept.table) (sym none) (subst (λ zs. TableStands (its g) a.now (all_stored a.now zs finds.after) kept.table) one_fault s.stands);
           alike = subst (λ zs. AreAlike (its g) a.now (all_listed (room g) a.now (zs ++ fault ∷ []) left) kept.table.entries) (sym none) (subst (λ zs. AreAlike (its g) a.now (all_listed (room g) a.now zs left) kept.table.entries) one_fault s.alike);
           cap = s.cap;
-          listed = subst (λ zs. AreListed (all_stored a.now (zs ++ fault ∷ []) finds.after) (all_listed (room g) a.now (zs ++ fault ∷ []) left)) (sym none) (all_lists_listed (room g) a.now (fault ∷ []) finds.after left listed_after);
+          listed = listed_after;
           told = λ z is. told_of z (subst (λ zs. IsIn z (zs ++ fault ∷ [])) none is);
           unasked = unasked_on;
           jobs = record {

@@ -113,7 +113,7 @@ module _ (g : Caching) where
           (subst (λ zs. TableStands (its g) a.now (all_stored a.now zs a.stored) c.kept.table) none t.stands));
       alike = subst (λ n. AreAlike (its g) n e c.kept.table.entries) (sym i.now) (subst (λ zs. AreAlike (its g) a.now (all_listed (room g) a.now zs e) c.kept.table.entries) none t.alike);
       cap = t.cap;
-      listed = subst (λ es. AreListed es e) (sym i.stored) (subst (λ zs. AreListed (all_stored a.now zs a.stored) (all_listed (room g) a.now zs e)) none t.listed);
+      listed = subst (λ es. AreListed es e) (sym i.stored) t.listed;
       unasked = λ n le. ap (λ (x : ℕ → Option Entry). x n) i.expired ∙ t.unasked n (subst (λ m. m ≤ n) i.asked le);
       jobs = one_less g b.now b.expired (g.number q) (g.names c.upstream) b.held c.kept.waiting (jobs_without k a b i (g.names c.upstream) c.kept.waiting t.jobs);
     }

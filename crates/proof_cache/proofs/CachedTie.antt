@@ -7,7 +7,9 @@ use Rattle.client_request.specs.Composed.{composed}
 use Rattle.client_request.specs.View.{View}
 use Rattle.client_request.specs.declared.event.What.{What}
 use Rattle.right_trace.specs.Parts.{IsIn}
-use Rattle.proof_right.specs.machine.Client.{Waiting, begun, row_begins, store}
+use Rattle.proof_right.specs.machine.Client.{Waiting, Leaving, begun, row_begins, store}
+use Rattle.proof_right.specs.machine.Exact.{Keeps}
+use Rattle.cache_rules.specs.Key.{same_key}
 use Rattle.proof_parts.specs.ClientTie.{IsClientTie, StandsIn}
 use Rattle.right_trace.specs.InOctets.{IsInOctets}
 use Rattle.proof_parts.specs.PartTie.{Phase, Untold, Told, MayEnd}
@@ -16,11 +18,11 @@ use Rattle.client_cache.specs.Keeping.{spare_stands_in}
 use Rattle.client_cache.specs.Plain.{Cached, Job, Response, job_stands_in, stands_in_below}
 use Rattle.proof_cache.specs.Caching.{Caching, its, State, Listed, room, cached, first, ticket_of, IsHanded, stale, names, Owns, all_stored, IsJob, IsTied}
 use Rattle.proof_cache.specs.Listed.{listed, CachesAreTied}
-use Rattle.proof_cache.specs.Listing.{AreAlike, AreListed, lists, all_listed}
+use Rattle.proof_cache.specs.Listing.{AreAlike, AreListed, exact_of, lists, all_listed}
 use Rattle.proof_cache.specs.Standing.{TableStands}
 use Rattle.proof_cache.proofs.CachedAsking.{asks_it}
 use Rattle.proof_cache.proofs.CachedCalls as calls
-use Rattle.proof_cache.proofs.Listing.{alike_later}
+use Rattle.proof_cache.proofs.Listing.{alike_later, lists_gives, lists_listed}
 use Rattle.proof_cache.proofs.Results.{begun_sanely, row_begins_sanely}
 use Rattle.proof_cache.proofs.Tables.{standing_laws}
 
@@ -37,8 +39,7 @@ module _ (g : Caching) where
     alike = subst (λ zs. AreAlike (its g) (max event.moment.0 a.now) (all_listed (room g) (max event.moment.0 a.now) zs e) c.kept.table.entries) (sym none)
         (alike_later (its g) a.now (max event.moment.0 a.now) e c.kept.table.entries (greater event.moment.0 a.now) (subst (λ zs. AreAlike (its g) a.now (all_listed (room g) a.now zs e) c.kept.table.entries) none t.alike));
     cap = t.cap;
-    listed = subst (λ zs. AreListed (all_stored (max event.moment.0 a.now) zs a.stored) (all_listed (room g) (max event.moment.0 a.now) zs e)) (sym none)
-        (subst (λ zs. AreListed (all_stored a.now zs a.stored) (all_listed (room g) a.now zs e)) none t.listed);
+    listed = t.listed;
     told = λ z is. absurd (subst (IsIn z) none is);
     unasked = t.unasked;
     jobs = record {
@@ -81,6 +82,10 @@ module _ (g : Caching) where
       same : m.request ≡ k
       same = one_of (g.names c.upstream (suc r.ticket)) m.request k m.named named
 
+  -- what leaves is stored in the list of the exact cache, beside as many others as have room
+  keeps : (a : State g) (z : Leaving) (e : Listed g) → AreListed a.stored e → Keeps g.c (its g) composed g.P same_key (room g) a.now z a.stored (exact_of e) (exact_of (lists (room g) a.now z e))
+  keeps a z e l = (let k = lists_gives (room g) a.now z a.stored e l in record { left = k.0; gives_way = k.1; entries = k.2 })
+
   tied : IsClientTie (its g) g.P (listed g) (cached g) (ticket_of g) (stale g) (IsHanded g) (first g) (IsTied g) (names g) (Owns g)
   tied = record {
     fresh = λ x now place. record {
@@ -99,7 +104,7 @@ module _ (g : Caching) where
     same = λ phase c x y a e t now dues timer ticket place. record { settings = t.settings; below = g.tie.same phase c.upstream x y a t.below now dues timer ticket place; now = t.now ∙ sym now; sane = t.sane; stands = t.stands; alike = t.alike; cap = t.cap; listed = t.listed; told = t.told; unasked = t.unasked; jobs = t.jobs };
     replies = λ phase c x a e z zs is t. (
       lists (room g) a.now z e,
-      (refl, t.told z (subst (IsIn z) (sym is) (inl refl))),
+      (keeps a z e t.listed, t.told z (subst (IsIn z) (sym is) (inl refl))),
       record {
         settings = t.settings;
         below = g.tie.alike phase c.upstream x a (record a { leaving = zs; stored = store a.now z a.stored }) t.below refl refl refl refl;
@@ -108,7 +113,7 @@ module _ (g : Caching) where
         stands = subst (λ ls. TableStands (its g) a.now (all_stored a.now ls a.stored) c.kept.table) is t.stands;
         alike = subst (λ ls. AreAlike (its g) a.now (all_listed (room g) a.now ls e) c.kept.table.entries) is t.alike;
         cap = t.cap;
-        listed = subst (λ ls. AreListed (all_stored a.now ls a.stored) (all_listed (room g) a.now ls e)) is t.listed;
+        listed = lists_listed (room g) a.now z a.stored e t.listed;
         told = λ y at. t.told y (subst (IsIn y) (sym is) (inr at));
         unasked = t.unasked;
         jobs = t.jobs;

@@ -22,7 +22,6 @@ use Rattle.proof_cache.specs.Listing.{AreAlike, AreListed, all_listed}
 use Rattle.proof_cache.specs.Results.{Sanely, WentOn, LeavesWithResult}
 use Rattle.proof_cache.specs.Standing.{TableStands}
 use Rattle.proof_cache.proofs.Following.{Stays as StaysSo, all_stay, led_beside, led_on, one_led}
-use Rattle.proof_cache.proofs.Listing.{all_lists_listed}
 use Rattle.proof_cache.proofs.Results.{leads_sanely}
 use Rattle.proof_cache.proofs.Settling.{IsAskedFor, IsRevived, AllTold, Stays, Changes, IsToldAt, Settled, all_settle, leaving_is}
 
@@ -50,7 +49,7 @@ module _ (g : Caching) where
     pub settings : k.settings ≡ g.cache
     pub stands : TableStands (its g) from.now from.stored k.table
     pub alike : AreAlike (its g) from.now f k.table.entries
-    pub cap : k.table.cap ≡ room g
+    pub cap : k.table.room ≡ room g
     pub listed : AreListed from.stored f
     pub unasked : (i : ℕ) → from.asked ≤ i → from.expired i ≡ None
     pub jobs : AreJobs g from.now from.expired named from.held k.waiting
@@ -66,7 +65,7 @@ module _ (g : Caching) where
     stands = subst (λ zs. TableStands (its g) a.now (all_stored a.now zs a.stored) c.kept.table) none t.stands;
     alike = subst (λ zs. AreAlike (its g) a.now (all_listed (room g) a.now zs e) c.kept.table.entries) none t.alike;
     cap = t.cap;
-    listed = subst (λ zs. AreListed (all_stored a.now zs a.stored) (all_listed (room g) a.now zs e)) none t.listed;
+    listed = t.listed;
     unasked = t.unasked;
     jobs = t.jobs;
   }
@@ -161,8 +160,7 @@ module _ (g : Caching) where
             (subst (λ es. TableStands (its g) from.now (all_stored from.now s.leaving es) kept.table) (sym stays.stored) s.stands);
         alike = subst (λ n. AreAlike (its g) n (all_listed (room g) n s.leaving f) kept.table.entries) (sym l.now) s.alike;
         cap = s.cap;
-        listed = subst (λ n. AreListed (all_stored n s.leaving l.end.stored) (all_listed (room g) n s.leaving f)) (sym l.now)
-            (subst (λ es. AreListed (all_stored from.now s.leaving es) (all_listed (room g) from.now s.leaving f)) (sym stays.stored) (all_lists_listed (room g) from.now s.leaving from.stored f h.listed));
+        listed = subst (λ es. AreListed es f) (sym stays.stored) h.listed;
         told = λ z is. subst (λ n. IsToldAt g n l.end.expired z) (sym l.now) (subst (λ x. IsToldAt g from.now x z) (sym stays.expired) (told_there z is));
         unasked = λ i le. ap (λ (x : ℕ → Option Entry). x i) stays.expired ∙ h.unasked i (subst (λ n. n ≤ i) l.asked le);
         jobs = subst (λ n. AreJobs g n l.end.expired (g.names w) l.end.held kept.waiting) (sym l.now) (subst (λ x. AreJobs g from.now x (g.names w) l.end.held kept.waiting) (sym stays.expired) jobs_there);

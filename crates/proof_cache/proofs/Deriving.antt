@@ -1,7 +1,7 @@
 -- What is derived from an entry stands for what the machine derives.
 use Rattle.std.proofs.Common.{◌≡◌, ℕ, ◌<◌, ◌≤◌, Bool, true, false, List, ◌∷◌, length, refl, sym, ◌∙◌, ap, subst, ◌&&◌, ◌||◌}
 use Rattle.std.specs.Prelude.{Some, None, Result, Ok, Err, not, if◌then◌else◌}
-use Rattle.dns_names.specs.Name.{IsLegal, AreOctets}
+use Rattle.dns_names.specs.Name.{IsLegal, AreOctets, lowered}
 use Rattle.dns_base.specs.Header.{rcode_of}
 use Rattle.dns_base.specs.Message.{header_of}
 use Rattle.client_request.specs.Request.{Request}
@@ -27,6 +27,7 @@ use Rattle.client_cache.specs.Keeping.{Stored, Entry, Asked, Outcome, same_class
 use Rattle.proof_cache.specs.Standing.{Anew, KeepsMessage, KeepsResult, Message, Fault, Stands, Derived, Nothing, More}
 use Rattle.proof_cache.specs.Laws.{DerivingIsMoving}
 use Rattle.proof_cache.proofs.Views.{none_out, rd_stays, rd_itself, covers_itself, covers_on, parts_header, one_rcode, is_view, known_now, keeps_for}
+use Rattle.proof_cache.proofs.Lengths.{view_short}
 use Rattle.proof_cache.proofs.Serving.{refused}
 use Rattle.proof_cache.proofs.Messages.{AreBytes, between_octets, view_is_message}
 
@@ -41,12 +42,19 @@ same_is Plain Do e = absurd cc
 same_is Plain Ad e = absurd cc
 same_is Plain Plain e = refl
 
+not_both : (c d : FlagClass) → same_class c d ≡ false → is_do c ≡ true → is_do d ≡ true → ⊥
+not_both Do Do e f g = cc
+not_both Do Ad e f g = cc
+not_both Do Plain e f g = cc
+not_both Ad d e f g = cc
+not_both Plain d e f g = cc
+
 not_do : (c d : FlagClass) → is_do c ≡ false → (is_do c && not (is_do d)) ≡ false
 not_do Do d e = absurd cc
 not_do Ad d e = refl
 not_do Plain d e = refl
 
-module _ (cache : CacheSettings) (s : Settings) (now : ℕ) (a : Asked) (legal : IsLegal a.name) (octets : AreOctets a.name) (from : FlagClass) (rd : Bool) (flags : flags_cover from a.key.flags ≡ true) (signing : (not (is_do from && is_signing a.key.rtype) || is_do a.key.flags) ≡ true) where
+module _ (cache : CacheSettings) (s : Settings) (now : ℕ) (a : Asked) (legal : IsLegal a.name) (octets : AreOctets a.name) (named : lowered a.name ≡ a.key.name) (from : FlagClass) (rd : Bool) (flags : flags_cover from a.key.flags ≡ true) (signing : (not (is_do from && is_signing a.key.rtype) || is_do a.key.flags) ≡ true) where
   -- the key of an entry, and that with the request's own flags
   abbrev there : Key
   there = record a.key { flags = from; rd = rd }
@@ -109,8 +117,9 @@ module _ (cache : CacheSettings) (s : Settings) (now : ℕ) (a : Asked) (legal :
           (keeps_for its q there m e.validity x keeps st.covers own on (not_do from a.key.flags bare)))))
 
       -- another is written anew
-      anew : (y : Octets) → view_octets header a.name (leaves_out there own) 0 x.message ≡ Ok y → DerivesAs first (revalued e header y (or_unread (validity_of_message (cached_by cache) y)))
-      anew y made =
+      anew : (y : Octets) → view_octets header a.name (leaves_out there own) 0 x.message ≡ Ok y → is_do from ≡ true → same_class from a.key.flags ≡ false → DerivesAs first (revalued e header y (or_unread (validity_of_message (cached_by cache) y)))
+      anew y made added other =
+          let same = keeps.whole added in
           let v = view_made header a.name (leaves_out there own) (Lessened 0) x.message y viewable made in
           let w = is_view its q there m e.validity x keeps st.covers header v.parts v.known in
           let says = v.says there own refl one_code in
@@ -125,17 +134,20 @@ module _ (cache : CacheSettings) (s : Settings) (now : ℕ) (a : Asked) (legal :
             octets = bytes;
             flags = header_is;
             kept = Anew own a.name w.first onto (covers_itself own) (none_out a.key.flags) w.known view refl;
+            whole = λ is. absurd (not_both from a.key.flags other added is);
+            short = view_short header a.name q.name (leaves_out there own) m y long (named ∙ sym st.covers.name) (subst (λ o. IsViewable header a.name o) same viewable)
+                (subst (λ o. view_octets header a.name (leaves_out there own) 0 o ≡ Ok y) same made);
           }))))
 
-      written : (v : Outcome) → view_octets header a.name (leaves_out there own) 0 x.message ≡ v → DerivesAs first (rewritten cache e header v)
-      written (Ok y) made = anew y made
-      written (Err f) made = known_now its q there m e.validity x keeps st.covers (refused header a.name (leaves_out there own) (Lessened 0) x.message f viewable made).1
+      written : (v : Outcome) → view_octets header a.name (leaves_out there own) 0 x.message ≡ v → is_do from ≡ true → same_class from a.key.flags ≡ false → DerivesAs first (rewritten cache e header v)
+      written (Ok y) made added other = anew y made added other
+      written (Err f) made added other = known_now its q there m e.validity x keeps st.covers (refused header a.name (leaves_out there own) (Lessened 0) x.message f viewable made).1
 
       message_so : same_class from a.key.flags ≡ false → DerivesAs first (derived_message cache from a e (reflagged from a.key.flags false x))
       message_so other = go (is_do from) refl
         where
           go : (b : Bool) → is_do from ≡ b → DerivesAs first (if b then rewritten cache e header (view_octets header a.name (leaves_out there own) 0 x.message) else Ok (record e { outcome = Ok (record x { header = header }) }))
-          go true added = written _ refl
+          go true added = written _ refl added other
           go false bare = header_alone bare
 
     outcome_so : same_class from a.key.flags ≡ false → (f : Outcome) (o : Result Stored Error) → first.result ≡ f → e.outcome ≡ o → KeepsResult its q there e.validity f o → DerivesAs first (derived_outcome cache from a e o)

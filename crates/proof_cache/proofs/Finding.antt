@@ -1,6 +1,7 @@
 -- What a request finds is what the machine gives.
-use Rattle.std.proofs.Common.{◌≡◌, ℕ, ◌-◌, ◌≤◌, Bool, true, false, List, ◌∷◌, inl, inr, refl, arith, sym, subst, ◌&&◌, ◌||◌}
+use Rattle.std.proofs.Common.{◌≡◌, ℕ, ◌-◌, ◌≤◌, Bool, true, false, List, ◌∷◌, inl, inr, refl, arith, sym, ◌∙◌, ap, subst, ◌&&◌, ◌||◌}
 use Rattle.std.specs.Prelude.{Option, Some, None, IfSome, Result, Ok, Err, not, is_some, if◌then◌else◌}
+use Rattle.dns_names.specs.Name.{lowered}
 use Rattle.dns_names.proofs.Heads.{none_some}
 use Rattle.client_request.specs.Request.{Request, is_dnssec_ok}
 use Rattle.client_request.specs.declared.error.Error.{Error}
@@ -27,10 +28,10 @@ use Rattle.proof_cache.proofs.Deriving.{DerivesAs, derives, clears}
 
 -- ---- the flags that are found may serve
 
-record MayServe (k : Key) (to : FlagClass) (class : AdDo) (rd : Bool) : Type 0 where
-  recursion : (rd || not k.rd) ≡ true
-  flags : flags_cover (flag_class class) to ≡ true
-  signing : (not (is_do (flag_class class) && is_signing k.rtype) || is_do to) ≡ true
+pub record MayServe (k : Key) (to : FlagClass) (class : AdDo) (rd : Bool) : Type 0 where
+  pub recursion : (rd || not k.rd) ≡ true
+  pub flags : flags_cover (flag_class class) to ≡ true
+  pub signing : (not (is_do (flag_class class) && is_signing k.rtype) || is_do to) ≡ true
 
 if_either : {F : Type 0} (P : F → Type 0) (o p : Option F) → IfSome o P → IfSome p P → IfSome (or_else o p) P
 if_either P (Some f) p x y = x
@@ -67,7 +68,7 @@ module _ (t : Table) (k : Key) where
     by_class Plain = if_either (λ f. MayServe k Plain f.class f.rd) (if_kept t k (flags classes.None rd)) (first_from_ad t k rd)
         (tried Plain classes.None rd (record { recursion = fits; flags = refl; signing = refl })) (by_ad Plain refl refl)
 
-  may_serve : IfSome (first_kept t k) (λ f. MayServe k k.flags f.class f.rd)
+  pub may_serve : IfSome (first_kept t k) (λ f. MayServe k k.flags f.class f.rd)
   may_serve = if_either (λ f. MayServe k k.flags f.class f.rd) (first_class t k k.rd) (if k.rd then None else first_class t k true) (by_class k.rd (rd_itself k.rd) k.flags) (again k.rd)
     where
       again : (b : Bool) → IfSome (if b then None else first_class t k true) (λ f. MayServe k k.flags f.class f.rd)
@@ -75,6 +76,11 @@ module _ (t : Table) (k : Key) where
       again false = by_class true refl k.flags
 
 -- ---- what is found
+
+-- the name that is asked for is that of the key, but for case
+pub asked_named : (r : Request) (a : Asked) → IsAskedBy r a → lowered a.name ≡ a.key.name
+unfolding key_of
+asked_named r a asked = asked.name ∙ sym (ap (λ (k : Key). k.name) asked.key)
 
 rd_cut : (x y : Bool) → (x && not y) ≡ true → x ≡ true
 rd_cut true y e = refl
@@ -133,7 +139,7 @@ module _ (c : Conf) (cache : CacheSettings) (s : Settings) (compose : Request �
 
     module _ (t : Table) (st : TableStands its now stored t) (first : machine.Entry) (is_in : IsIn first stored) (e : Entry) (stands : Stands its now there e first) where
       abbrev Derives : Result Entry Error → Type 0
-      Derives = DerivesAs cache s now a asked.legal asked.octets (flag_class class) rd may.flags may.signing first
+      Derives = DerivesAs cache s now a asked.legal asked.octets (asked_named r a asked) (flag_class class) rd may.flags may.signing first
 
       abbrev at_own : machine.Entry
       at_own = record first { under = own }
@@ -172,7 +178,7 @@ module _ (c : Conf) (cache : CacheSettings) (s : Settings) (compose : Request �
 
       cleared_so : (e' : Entry) → Derives (Ok e') → clears_rd (flags class rd) a.key ≡ true → Finds (stores_and_serves a now (rd_cleared a.key.flags e') (stores_with_rd a (flags class rd) e' t))
       cleared_so e' d cut =
-          let here : Stands its now a.key (rd_cleared a.key.flags e') at_key = clears cache s now a asked.legal asked.octets (flag_class class) rd may.flags may.signing e' at_own cut from_own d in
+          let here : Stands its now a.key (rd_cleared a.key.flags e') at_key = clears cache s now a asked.legal asked.octets (asked_named r a asked) (flag_class class) rd may.flags may.signing e' at_own cut from_own d in
           let one : Among after_both (a.key, rd_cleared a.key.flags e') = (at_key, inl refl, here) in
           record {
             after = after_both;
@@ -202,7 +208,7 @@ module _ (c : Conf) (cache : CacheSettings) (s : Settings) (compose : Request �
         go (Some e) is =
             let p = looked (Among stored) there t.entries e st is in
             keeps_so (uses there t) used p.0 p.1 e p.2 (derived cache (flag_class class) a e)
-            (derives cache s now a asked.legal asked.octets (flag_class class) rd may.flags may.signing e p.0 p.2)
+            (derives cache s now a asked.legal asked.octets (asked_named r a asked) (flag_class class) rd may.flags may.signing e p.0 p.2)
 
     taken : (t : Table) → TableStands its now stored t → Finds (takes cache a now t (Some (flags class rd)))
     taken t st = go (is_own (flags class rd) a.key)

@@ -1,5 +1,7 @@
+pub mod Weighing
 pub mod LookUps
 pub mod Tables
+pub mod Light
 pub mod Listing
 pub mod Octets
 pub mod ReadOctets
@@ -9,6 +11,7 @@ pub mod Asking
 pub mod ReadViews
 pub mod Views
 pub mod Serving
+pub mod Lengths
 pub mod Deriving
 pub mod Finding
 pub mod Sparing

@@ -1,11 +1,11 @@
 -- What a request does to the table, it does to a list that is alike.
-use Rattle.std.proofs.Common.{◌≡◌, ℕ, ◌-◌, ◌≤◌, Bool, true, false, not, is_some, cond, List, [], ◌∷◌, Option, Some, None, Result, Ok, Err, inl, inr, refl, arith, sym, ◌∙◌, ap, ap₂, subst, ◌&&◌, ◌==◌}
-use Rattle.std.specs.Prelude.{nat_le, option_map, if◌then◌else◌}
+use Rattle.std.proofs.Common.{◌≡◌, ℕ, zero, suc, ◌-◌, ◌≤◌, Bool, true, false, not, is_some, cond, List, [], ◌∷◌, length, take, Option, Some, None, Result, Ok, Err, inl, inr, refl, arith, sym, ◌∙◌, ap, ap₂, subst, ◌&&◌, ◌==◌}
+use Rattle.std.specs.Prelude.{nat_le, max, option_map, IfSome, if◌then◌else◌}
 use Rattle.std.specs.List.{AllByRecursion}
 use Rattle.std.specs.Option.{option_map_or}
 use Rattle.std.specs.Map.{lookup, lookup_entry, remove_entry}
 use Rattle.std.proofs.lemmas.Bool.{le-leb, leb-true}
-use Rattle.lru.specs.LruCache.{lru_cache, promoted, put_entries}
+use Rattle.lru.specs.LruCache.{promoted}
 use Rattle.client_request.specs.Request.{Request, is_dnssec_ok}
 use Rattle.client_request.specs.declared.error.Error.{Error}
 use Rattle.client_settings.specs.Settings.{CacheSettings, seconds}
@@ -14,11 +14,13 @@ use Rattle.right_trace.specs.Settings.{Settings}
 use Rattle.right_trace.specs.Keys.{FlagClass, Do, Ad, Plain, Key, KeysCover, KeyCovers, key_of, spelled_name, is_cacheable, question_or}
 use Rattle.dns_base.specs.Message.{sole_question}
 use Rattle.right_trace.specs.Trace.{Conf, first_transports}
+use Rattle.right_trace.specs.Weights.{Room, weight}
+use Rattle.dns_names.proofs.Heads.{none_some}
 use Rattle.right_trace.specs.Validity.{validity_of_parts}
 use Rattle.right_trace.specs.Views.{viewed}
-use Rattle.proof_right.specs.machine.Cache.{Op, Uses, Stores, AskDoes, Misses, Takes, TakesFlags, TakesRd, TakesBoth, First, NoneThere, tried, in_block, after_ops}
+use Rattle.proof_right.specs.machine.Cache.{Op, Uses, Stores, AskDoes, Misses, Takes, TakesFlags, TakesRd, TakesBoth, First, NoneThere, tried, in_block, after_ops, stored, AllGiveWay}
 use Rattle.proof_right.specs.machine.Client as machine
-use Rattle.proof_right.specs.machine.Exact.{Value, Serves, ServedBy, Viewing}
+use Rattle.proof_right.specs.machine.Exact.{Value, Serves, ServedBy, Viewing, octets_for}
 use Rattle.proof_right.specs.machine.Exact as exact
 use Rattle.proof_parts.specs.ClientTie.{StandsIn}
 use Rattle.cache_rules.specs.declared.key.AdDo.{AdDo}
@@ -26,42 +28,47 @@ use Rattle.cache_rules.specs.declared.key.AdDo.TheVariants as classes
 use Rattle.cache_rules.specs.Key.{same_key, same_is_equal, flag_class, key_in}
 use Rattle.cache_rules.specs.Validity.{with_cache}
 use Rattle.cache_rules.proofs.KeyLaws.{keys_are_of_requests}
-use Rattle.client_cache.specs.Keeping.{Stored, Entry, Table, Asked, Outcome, Spare, spare_from, spare_in, first_kept, asked_in, entry_under, with_flags, flags, if_kept, or_else, first_above_ad, first_from_ad, first_of_class, first_class, same_class, is_own, shown, serves, gives_own, takes_own, takes_other, takes, uses, looks_up}
+use Rattle.client_cache.specs.Keeping.{Stored, octets_kept, weight_of, Entry, Table, Asked, Outcome, Spare, spare_from, spare_in, first_kept, asked_in, entry_under, with_flags, flags, if_kept, or_else, first_above_ad, first_from_ad, first_of_class, first_class, same_class, is_own, shown, serves, gives_own, takes_own, takes_other, takes, uses, looks_up}
 use Rattle.proof_cache.proofs.LookUps.{look_ups_are_askings}
 use Rattle.proof_cache.specs.Laws.{ListsAs, LookUpsAreListed, RequestsAreListed, SparesAs, found_asking, found_for, spare_asking, spare_for, spare_looked}
-use Rattle.proof_cache.specs.Listing.{Agree, AreAlike, AreListed, StandsFor, all_stored_as, stored_as}
+use Rattle.proof_cache.specs.Listing.{Weighed, Agree, IsAlike, AreAlike, AreListed, StandsFor, all_stored_as, exact_of, exact_ops, stored_as}
+use Rattle.proof_cache.specs.LookUps.{DerivesLight}
 use Rattle.right_trace.specs.Parts.{IsIn}
-use Rattle.proof_cache.specs.Standing.{KeepsMessage, KeepsResult, Message, Fault, StandsForStored, IsAskedBy, Nothing}
+use Rattle.proof_cache.specs.Standing.{KeepsMessage, KeepsResult, Message, Fault, Stands, StandsForStored, TableStands, IsAskedBy, Nothing}
 use Rattle.proof_cache.proofs.Asking.{asked_are_of_requests}
-use Rattle.proof_cache.proofs.Finding.{look_ups_are_answers}
-use Rattle.proof_cache.proofs.Listing.{listed_at, used_alike, stored_alike, seen_alike, there_alike, agree_more, alike_stands, listed_for, alone_alike, put_first, put_both, listed_more, all_listed_so, derived_more, agree_listed, listed_agree}
+use Rattle.proof_cache.proofs.Deriving.{DerivesAs, derives}
+use Rattle.proof_cache.proofs.Finding.{MayServe, asked_named, may_serve, look_ups_are_answers}
+use Rattle.proof_cache.proofs.Light.{IsLight, all_give}
+use Rattle.proof_cache.proofs.Lengths.{named_so}
+use Rattle.proof_cache.proofs.Listing.{listed_at, used_alike, stored_alike, seen_alike, there_alike, exact_found, agree_more, alike_stands, listed_for, all_stored_so, derived_more}
 use Rattle.proof_cache.proofs.Serving.{shows, unshown}
 use Rattle.proof_cache.proofs.Sparing.{spare_is}
-use Rattle.proof_cache.proofs.Tables.{looked}
+use Rattle.proof_cache.proofs.Tables.{each_more, looked}
 use Rattle.client_cache.specs.declared.table.Flags.{Flags}
 use Rattle.proof_cache.proofs.Views.{covers_itself, rd_stays, read_valid, known_now}
 
 -- ---- the same entry is used
 
-module _ (R : Key → Value → Entry → Type 0) (es : List (Key × Value)) (ts : List (Key × Entry)) (agree : Agree R es ts) where
-  none_there : (ks : List Key) → NoneThere same_key ts ks → NoneThere same_key es ks
+module _ (R : Key → Weighed → Entry → Type 0) (es : List (Key × Weighed)) (ts : List (Key × Entry)) (agree : Agree R es ts) where
+  none_there : (ks : List Key) → NoneThere same_key ts ks → NoneThere same_key (exact_of es) ks
   none_there [] h = tt
   none_there (k ∷ ks) h = (there_alike R k es ts agree ∙ h.0, none_there ks h.1)
 
-  first_there : (ks : List Key) (k : Key) → First same_key ts ks k → First same_key es ks k
+  first_there : (ks : List Key) (k : Key) → First same_key ts ks k → First same_key (exact_of es) ks k
   first_there [] k h = absurd h
   first_there (j ∷ js) k (inl p) = inl (there_alike R j es ts agree ∙ p.0, p.1)
   first_there (j ∷ js) k (inr p) = inr (there_alike R j es ts agree ∙ p.0, first_there js k p.1)
 
-module _ (s : Settings) (now cap : ℕ) (own : Key) (es : List (Key × Value)) (ts : List (Key × Entry)) (after : List machine.Entry) (alike : Agree (λ k v e. StandsFor s now k v e × IsIn (stored_as k v) after) es ts) where
-  -- An asking of the table is one of the list, which is alike again.
-  record Carried (left : List (Key × Entry)) : Type 0 where
-    ops : List (Op Value)
-    asks : AskDoes same_key own es ops
-    alike_after : Agree (λ k v e. StandsFor s now k v e × IsIn (stored_as k v) after) (after_ops same_key cap ops es) left
+module _ (s : Settings) (now : ℕ) (own : Key) (es : List (Key × Weighed)) (ts : List (Key × Entry)) (after : List machine.Entry) (dummy : Weighed) (alike : Agree (λ k v e. IsAlike s now k v e × IsIn (stored_as k v.value) after) es ts) where
+  abbrev R : Key → Weighed → Entry → Type 0
+  R k v e = IsAlike s now k v e × IsIn (stored_as k v.value) after
 
-  abbrev R : Key → Value → Entry → Type 0
-  R k v e = StandsFor s now k v e × IsIn (stored_as k v) after
+  -- An asking of the table is one of the list, which is alike again.
+  record Carried (given : List (Op Entry)) (left : List (Key × Entry)) : Type 0 where
+    ops : List (Op Weighed)
+    asks : AskDoes same_key own (exact_of es) (exact_ops ops)
+    alike_after : Agree R (after_ops same_key ops es) left
+    gives : (room : Room) (longest : ℕ) → AllGiveWay room longest given → AllGiveWay room longest (exact_ops ops)
 
   abbrev Stood : Key × Entry → Type 0
   Stood = StandsForStored s now after
@@ -69,7 +76,7 @@ module _ (s : Settings) (now cap : ℕ) (own : Key) (es : List (Key × Value)) (
   used : (k : Key) → Agree R (promoted (same_key k) es) (promoted (same_key k) ts)
   used k = used_alike R (same_key k) es ts alike
 
-  first : (k : Key) → First same_key ts (tried own) k → First same_key es (tried own) k
+  first : (k : Key) → First same_key ts (tried own) k → First same_key (exact_of es) (tried own) k
   first k h = first_there R es ts alike (tried own) k h
 
   -- a key with another RD is another
@@ -80,49 +87,89 @@ module _ (s : Settings) (now cap : ℕ) (own : Key) (es : List (Key × Value)) (
       go true is = absurd (other (sym (ap (λ (j : Key). j.rd) (same_is_equal own (in_block own k.rd own.flags) is))))
       go false is = refl
 
-  carried_both : (k : Key) (u e : Entry) → First same_key ts (tried own) k → (k.flags ≡ own.flags → ⊥) → (k.rd ≡ own.rd → ⊥) → AllByRecursion Stood (after_ops same_key cap (Uses k ∷ Stores (in_block own k.rd own.flags) u ∷ Stores own e ∷ []) ts)
-      → Carried (after_ops same_key cap (Uses k ∷ Stores (in_block own k.rd own.flags) u ∷ Stores own e ∷ []) ts)
-  carried_both k u e at flags rd all = elim (put_both Stood cap j own u e (promoted (same_key k) ts) (other_key k rd) all) [
-    | inl p ↦ (let w = listed_for s now after j u p in record {
-      ops = Uses k ∷ Stores j w.0 ∷ Stores own last.0 ∷ [];
-      asks = TakesBoth k w.0 last.0 (first k at) flags rd;
-      alike_after = stored_alike R cap own last.0 e (put_entries same_key (lru_cache (promoted (same_key k) es) cap) j w.0) (put_entries same_key (lru_cache (promoted (same_key k) ts) cap) j u) (last.1, last.2)
-          (stored_alike R cap j w.0 u (promoted (same_key k) es) (promoted (same_key k) ts) (w.1, w.2) (used k));
-    })
-    | inr p ↦ record {
-      ops = Uses k ∷ Stores j last.0 ∷ Stores own last.0 ∷ [];
-      asks = TakesBoth k last.0 last.0 (first k at) flags rd;
-      alike_after = alone_alike R cap own last.0 e (put_entries same_key (lru_cache (promoted (same_key k) es) cap) j last.0) (put_entries same_key (lru_cache (promoted (same_key k) ts) cap) j u)
-          (stored_alike (λ k v e. Unit {0}) cap j last.0 u (promoted (same_key k) es) (promoted (same_key k) ts) tt (agree_more R (λ k v e. Unit {0}) (λ k v e r. tt) (promoted (same_key k) es) (promoted (same_key k) ts) (used k)))
-          p.0 p.1 (last.1, last.2);
-    }
-  ]
+  -- What is listed for what is stored, if that is put in; where it is not, it is whatever.
+  abbrev Chosen : Key → Entry → Option ℕ → Type 0
+  Chosen k e left = (v : Weighed) × ((n : ℕ) → left ≡ Some n → R k v e)
+
+  put_in : (k : Key) (e : Entry) → Stood (k, e) → (left : Option ℕ) → Chosen k e left
+  put_in k e stood left = (let v = listed_for s now after k e stood in (v.0, λ n is. (v.1, v.2)))
+
+  chosen : (k : Key) (e : Entry) (left : Option ℕ) (xs : List (Key × Entry)) → AllByRecursion Stood (stored same_key k e left xs) → Chosen k e left
+  chosen k e None xs all = (dummy, λ n is. absurd cc)
+  chosen k e (Some n) xs all = put_in k e all.0 (Some n)
+
+  -- what was stored before, under another key, is there too, unless nothing else stays
+  before : (j k : Key) (d e : Entry) (left rest : Option ℕ) (xs : List (Key × Entry)) → same_key k j ≡ false → (rest ≡ Some 0 → ⊥) → AllByRecursion Stood (stored same_key k e rest (stored same_key j d left xs)) → Chosen j d left
+  before j k d e None rest xs other some all = (dummy, λ n is. absurd cc)
+  before j k d e (Some n) None xs other some all = put_in j d (go (same_key k j) other all) (Some n)
+    where
+      go : (b : Bool) → b ≡ false → AllByRecursion Stood (cond b (take n (remove_entry (same_key j) xs)) ((j, d) ∷ remove_entry (same_key k) (take n (remove_entry (same_key j) xs)))) → Stood (j, d)
+      go true is h = absurd cc
+      go false is h = h.0
+  before j k d e (Some n) (Some zero) xs other some all = absurd (some refl)
+  before j k d e (Some n) (Some (suc m)) xs other some all = put_in j d (go (same_key k j) other all.1) (Some n)
+    where
+      go : (b : Bool) → b ≡ false → AllByRecursion Stood (take (suc m) (cond b (take n (remove_entry (same_key j) xs)) ((j, d) ∷ remove_entry (same_key k) (take n (remove_entry (same_key j) xs))))) → Stood (j, d)
+      go true is h = absurd cc
+      go false is h = h.0
+
+  carried_both : (k : Key) (u e : Entry) (l m : Option ℕ) → First same_key ts (tried own) k → (k.flags ≡ own.flags → ⊥) → (k.rd ≡ own.rd → ⊥) → AllByRecursion Stood (after_ops same_key (Uses k ∷ Stores (in_block own k.rd own.flags) u l ∷ Stores own e m ∷ []) ts)
+      → Carried (Uses k ∷ Stores (in_block own k.rd own.flags) u l ∷ Stores own e m ∷ []) (after_ops same_key (Uses k ∷ Stores (in_block own k.rd own.flags) u l ∷ Stores own e m ∷ []) ts)
+  carried_both k u e l m at flags rd all = go m all
     where
       j : Key
       j = in_block own k.rd own.flags
 
-      last : (v : Value) × StandsFor s now own v e × IsIn (stored_as own v) after
-      last = listed_for s now after own e (put_first Stood cap own e (put_entries same_key (lru_cache (promoted (same_key k) ts) cap) j u) all)
+      used_es : List (Key × Weighed)
+      used_es = promoted (same_key k) es
 
-  carried : (ops : List (Op Entry)) → AskDoes same_key own ts ops → AllByRecursion Stood (after_ops same_key cap ops ts) → Carried (after_ops same_key cap ops ts)
-  carried _ (Misses none) all = record { ops = []; asks = Misses (none_there R es ts alike (tried own) none); alike_after = alike }
-  carried _ (Takes k at) all = record { ops = Uses k ∷ []; asks = Takes k (first k at); alike_after = used k }
-  carried _ (TakesFlags k e at flags) all =
+      used_ts : List (Key × Entry)
+      used_ts = promoted (same_key k) ts
+
+      both : (m : Option ℕ) → (m ≡ Some 0 → ⊥) → AllByRecursion Stood (stored same_key own e m (stored same_key j u l used_ts)) → Carried (Uses k ∷ Stores j u l ∷ Stores own e m ∷ []) (stored same_key own e m (stored same_key j u l used_ts))
+      both m some all =
+          let w = before j own u e l m used_ts (other_key k rd) some all in
+          let last = chosen own e m (stored same_key j u l used_ts) all in
+          record {
+            ops = Uses k ∷ Stores j w.0 l ∷ Stores own last.0 m ∷ [];
+            asks = TakesBoth k (w.0).value (last.0).value l m (first k at) flags rd;
+            alike_after = stored_alike R own last.0 e m (stored same_key j w.0 l used_es) (stored same_key j u l used_ts) last.1 (stored_alike R j w.0 u l used_es used_ts w.1 (used k));
+            gives = λ room longest h. h;
+          }
+
+      go : (m : Option ℕ) → AllByRecursion Stood (stored same_key own e m (stored same_key j u l used_ts)) → Carried (Uses k ∷ Stores j u l ∷ Stores own e m ∷ []) (stored same_key own e m (stored same_key j u l used_ts))
+      go None all = both None (λ is. none_some is) all
+      go (Some (suc n)) all = both (Some (suc n)) (λ is. (let more : suc n ≡ 0 = cc in omega (arith, more))) all
+      go (Some zero) all =
+          let last = put_in own e all.0 (Some 0) in
+          record {
+            ops = Uses k ∷ Stores j dummy l ∷ Stores own last.0 (Some 0) ∷ [];
+            asks = TakesBoth k dummy.value (last.0).value l (Some 0) (first k at) flags rd;
+            alike_after = (refl, last.1 0 refl, tt);
+            gives = λ room longest h. h;
+          }
+
+  carried : (ops : List (Op Entry)) → AskDoes same_key own ts ops → AllByRecursion Stood (after_ops same_key ops ts) → Carried ops (after_ops same_key ops ts)
+  carried _ (Misses none) all = record { ops = []; asks = Misses (none_there R es ts alike (tried own) none); alike_after = alike; gives = λ room longest h. h }
+  carried _ (Takes k at) all = record { ops = Uses k ∷ []; asks = Takes k (first k at); alike_after = used k; gives = λ room longest h. h }
+  carried _ (TakesFlags k e l at flags) all =
       let j = in_block own k.rd own.flags in
-      let v = listed_for s now after j e (put_first Stood cap j e (promoted (same_key k) ts) all) in
+      let v = chosen j e l (promoted (same_key k) ts) all in
       record {
-        ops = Uses k ∷ Stores j v.0 ∷ [];
-        asks = TakesFlags k v.0 (first k at) flags;
-        alike_after = stored_alike R cap j v.0 e (promoted (same_key k) es) (promoted (same_key k) ts) (v.1, v.2) (used k);
+        ops = Uses k ∷ Stores j v.0 l ∷ [];
+        asks = TakesFlags k (v.0).value l (first k at) flags;
+        alike_after = stored_alike R j v.0 e l (promoted (same_key k) es) (promoted (same_key k) ts) v.1 (used k);
+        gives = λ room longest h. h;
       }
-  carried _ (TakesRd k e at rd) all =
-      let v = listed_for s now after own e (put_first Stood cap own e (promoted (same_key k) ts) all) in
+  carried _ (TakesRd k e l at rd) all =
+      let v = chosen own e l (promoted (same_key k) ts) all in
       record {
-        ops = Uses k ∷ Stores own v.0 ∷ [];
-        asks = TakesRd k v.0 (first k at) rd;
-        alike_after = stored_alike R cap own v.0 e (promoted (same_key k) es) (promoted (same_key k) ts) (v.1, v.2) (used k);
+        ops = Uses k ∷ Stores own v.0 l ∷ [];
+        asks = TakesRd k (v.0).value l (first k at) rd;
+        alike_after = stored_alike R own v.0 e l (promoted (same_key k) es) (promoted (same_key k) ts) v.1 (used k);
+        gives = λ room longest h. h;
       }
-  carried _ (TakesBoth k u e at flags rd) all = carried_both k u e at flags rd all
+  carried _ (TakesBoth k u e l m at flags rd) all = carried_both k u e l m at flags rd all
 
 -- ---- what is kept under the own key is the first that is tried
 
@@ -250,18 +297,18 @@ used_there test es = go (lookup_entry test es) refl
     go None e = refl
     go (Some x) e = let f = found_passes test es x e in ap (λ b. cond b (Some x.1) (lookup test (remove_entry test es))) f.0 ∙ sym f.1
 
-module _ (cache : CacheSettings) (s : Settings) (now : ℕ) (r : Request) (a : Asked) (asked : IsAskedBy r a) (es : List (Key × Value)) (t : Table) (alike : AreAlike (with_cache cache s) now es t.entries)
-    (after : List machine.Entry) (listed : AreListed after es) (stands : AllByRecursion (StandsForStored (with_cache cache s) now after) (looks_up cache a now t).table.entries) where
+module _ (cache : CacheSettings) (s : Settings) (now : ℕ) (r : Request) (a : Asked) (asked : IsAskedBy r a) (es : List (Key × Weighed)) (t : Table) (alike : AreAlike (with_cache cache s) now es t.entries)
+    (after : List machine.Entry) (listed : AllByRecursion (λ (x : Key × Weighed). IsIn (stored_as x.0 x.1.value) after) es) (stands : AllByRecursion (StandsForStored (with_cache cache s) now after) (looks_up cache a now t).table.entries) where
   abbrev Spares : Option Spare → Type 0
-  Spares spare = SparesAs (with_cache cache s) cache now r es after spare
+  Spares spare = SparesAs (with_cache cache s) cache now r (exact_of es) after spare
 
   covering : (k : Key) → k ≡ a.key → KeyCovers k r
   covering k is = record { cacheable = asked.cacheable; keys = subst (λ k. KeysCover k (key_of r)) (sym (is ∙ asked.key)) (covers_itself (key_of r)) }
 
   -- something is listed under the own key
-  own_spared : (v : Value) → lookup (same_key a.key) es ≡ Some v → Spares (spare_looked cache a now t (first_kept t a.key))
+  own_spared : (v : Value) → lookup (same_key a.key) (exact_of es) ≡ Some v → Spares (spare_looked cache a now t (first_kept t a.key))
   own_spared v is =
-      let f = seen_alike (StandsFor (with_cache cache s) now) a.key es t.entries v alike is in
+      let f = seen_alike (with_cache cache s) now a.key es t.entries v alike is in
       let first = own_first cache a now t f.0 f.1 in
       let left : Table = (takes_own a now t).table in
       let own : entry_under a.key left ≡ Some f.0 = ap (λ (u : Table). entry_under a.key u) (own_table (entry_under a.key t)) ∙ (used_there (same_key a.key) t.entries ∙ f.1) in
@@ -270,9 +317,9 @@ module _ (cache : CacheSettings) (s : Settings) (now : ℕ) (r : Request) (a : A
       ∙ ap (λ o. if cache.stale_for == 0 then None else spare_from a o) own)))
       (record {
         old = Some (stored_as a.key v);
-        there = λ e same. (let one : stored_as a.key v ≡ e = cc in (subst (λ e. IsIn e after) one (listed_at after a.key es v listed is), covering e.under (ap (λ (e : machine.Entry). e.under) (sym one))));
+        there = λ e same. (let one : stored_as a.key v ≡ e = cc in (subst (λ e. IsIn e after) one (is_stored v is), covering e.under (ap (λ (e : machine.Entry). e.under) (sym one))));
         own = λ cacheable w m there message.
-            let two : v ≡ w = same_value v w is (subst (λ k. lookup (same_key k) es ≡ Some w) (sym asked.key) there) in
+            let two : v ≡ w = same_value v w is (subst (λ k. lookup (same_key k) (exact_of es) ≡ Some w) (sym asked.key) there) in
             ap₂ (λ (k : Key) (v : Value). Some (exact.entry_under k v)) asked.key two;
         is = spare_is cache s now r a asked f.0 (stored_as a.key v) f.2;
       })
@@ -281,22 +328,25 @@ module _ (cache : CacheSettings) (s : Settings) (now : ℕ) (r : Request) (a : A
       own_table None = refl
       own_table (Some e) = refl
 
-      same_value : (v w : Value) → lookup (same_key a.key) es ≡ Some v → lookup (same_key a.key) es ≡ Some w → v ≡ w
+      is_stored : (v : Value) → lookup (same_key a.key) (exact_of es) ≡ Some v → IsIn (stored_as a.key v) after
+      is_stored v is = (let u = exact_found a.key es v is in subst (λ (v : Value). IsIn (stored_as a.key v) after) u.2 (listed_at after a.key es u.0 listed u.1))
+
+      same_value : (v w : Value) → lookup (same_key a.key) (exact_of es) ≡ Some v → lookup (same_key a.key) (exact_of es) ≡ Some w → v ≡ w
       same_value v w p q = let both : Some v ≡ Some w = sym p ∙ q in cc
 
   -- nothing is, but there may be what was derived
-  other_spared : lookup (same_key a.key) es ≡ None → (o : Option Flags) → first_kept t a.key ≡ o → Spares (spare_looked cache a now t o)
+  other_spared : lookup (same_key a.key) (exact_of es) ≡ None → (o : Option Flags) → first_kept t a.key ≡ o → Spares (spare_looked cache a now t o)
   other_spared none None is = record { old = None; there = λ e f. absurd (cc); own = λ cacheable v m there message. absurd (not_there v there); is = λ later on. nothing_spared (with_cache cache s) later r }
     where
-      not_there : (v : Value) → lookup (same_key (key_of r)) es ≡ Some v → ⊥
-      not_there v there = let p : None ≡ Some v = sym none ∙ subst (λ k. lookup (same_key k) es ≡ Some v) (sym asked.key) there in cc
+      not_there : (v : Value) → lookup (same_key (key_of r)) (exact_of es) ≡ Some v → ⊥
+      not_there v there = let p : None ≡ Some v = sym none ∙ subst (λ k. lookup (same_key k) (exact_of es) ≡ Some v) (sym asked.key) there in cc
   other_spared none (Some f) is = by (entry_under a.key left) refl
     where
       left : Table
       left = (takes cache a now t (Some f)).table
 
-      not_there : (v : Value) → lookup (same_key (key_of r)) es ≡ Some v → ⊥
-      not_there v there = let p : None ≡ Some v = sym none ∙ subst (λ k. lookup (same_key k) es ≡ Some v) (sym asked.key) there in cc
+      not_there : (v : Value) → lookup (same_key (key_of r)) (exact_of es) ≡ Some v → ⊥
+      not_there v there = let p : None ≡ Some v = sym none ∙ subst (λ k. lookup (same_key k) (exact_of es) ≡ Some v) (sym asked.key) there in cc
 
       none_spared : (b : Bool) → Spares (if b then None else None)
       none_spared true = record { old = None; there = λ e f. absurd (cc); own = λ cacheable v m there message. absurd (not_there v there); is = λ later on. nothing_spared (with_cache cache s) later r }
@@ -314,9 +364,9 @@ module _ (cache : CacheSettings) (s : Settings) (now : ℕ) (r : Request) (a : A
           }
 
   looked_spares : Spares (spare_looked cache a now t (first_kept t a.key))
-  looked_spares = by (lookup (same_key a.key) es) refl
+  looked_spares = by (lookup (same_key a.key) (exact_of es)) refl
     where
-      by : (o : Option Value) → lookup (same_key a.key) es ≡ o → Spares (spare_looked cache a now t (first_kept t a.key))
+      by : (o : Option Value) → lookup (same_key a.key) (exact_of es) ≡ o → Spares (spare_looked cache a now t (first_kept t a.key))
       by None none = other_spared none (first_kept t a.key) refl
       by (Some v) is = own_spared v is
 
@@ -326,30 +376,83 @@ module _ (cache : CacheSettings) (s : Settings) (now : ℕ) (r : Request) (a : A
 no_servers : Conf
 no_servers = record { servers = []; timeout = 0; transports = first_transports }
 
+-- an entry that stands is no longer than what it stands for, written out
+pub stands_light : (s : Settings) (now : ℕ) (k : Key) (e : Entry) (x : machine.Entry) → Stands s now k e x → octets_kept e.outcome ≤ octets_for x.first x.result
+stands_light s now k e x st = by x.result e.outcome st.result
+  where
+    by : (f : Outcome) (o : Result Stored Error) → KeepsResult s (key_of x.first) k e.validity f o → octets_kept o ≤ octets_for x.first f
+    by _ _ (Message m y keeps) = subst (λ n. length y.message ≤ max (length m) n) (named_so x.first m) keeps.short
+    by _ _ (Fault f valid) = omega arith
+
+-- what is derived is no longer either
+derives_light : (cache : CacheSettings) (s : Settings) (now longest : ℕ) (r : Request) (a : Asked) (t : Table) (stored : List machine.Entry) → IsAskedBy r a → TableStands (with_cache cache s) now stored t
+    → ((x : machine.Entry) → IsIn x stored → octets_for x.first x.result ≤ longest) → DerivesLight cache a t (weight longest)
+derives_light cache s now longest r a t stored asked stands most f d e kept there made =
+    let p = looked (StandsForStored (with_cache cache s) now stored) (with_flags f a.key) t.entries d stands there in
+    let x = p.0 in
+    let may : MayServe a.key a.key.flags f.class f.rd = subst (λ o. IfSome o (λ f. MayServe a.key a.key.flags f.class f.rd)) kept (may_serve t a.key) in
+    let at = derives cache s now a asked.legal asked.octets (asked_named r a asked) (flag_class f.class) f.rd may.flags may.signing d x p.2 in
+    let st = subst (DerivesAs cache s now a asked.legal asked.octets (asked_named r a asked) (flag_class f.class) f.rd may.flags may.signing x) made at in
+    let light = stands_light (with_cache cache s) now (record a.key { rd = f.rd }) e (record x { under = record a.key { rd = f.rd } }) st in
+    let least = most x p.1 in
+    omega arith
+
+-- what is listed, all of which stands
+all_listed_so : (s : Settings) (now : ℕ) (after : List machine.Entry) (es : List (Key × Weighed)) (ts : List (Key × Entry)) → Agree (λ k v e. IsAlike s now k v e × IsIn (stored_as k v.value) after) es ts → AreListed after es
+all_listed_so s now after [] [] h = tt
+all_listed_so s now after [] (t ∷ ts) h = absurd h
+all_listed_so s now after (e ∷ es) [] h = absurd h
+all_listed_so s now after (e ∷ es) (t ∷ ts) h =
+    let one = h.1 in
+    let light = stands_light s now t.0 t.1 (stored_as t.0 e.1.value) (one.0).0 in
+    let same = (one.0).1 in
+    ((subst (λ (k : Key). IsIn (stored_as k e.1.value) after) (sym h.0) one.1, subst (λ n. n ≤ octets_for e.1.value.first e.1.value.result) same light), all_listed_so s now after es ts h.2)
+
+listed_agree : (s : Settings) (now : ℕ) (after : List machine.Entry) (es : List (Key × Weighed)) (ts : List (Key × Entry)) → AreAlike s now es ts → AllByRecursion (λ (x : Key × Weighed). IsIn (stored_as x.0 x.1.value) after) es → Agree (λ k v e. IsAlike s now k v e × IsIn (stored_as k v.value) after) es ts
+listed_agree s now after [] [] h l = tt
+listed_agree s now after [] (t ∷ ts) h l = absurd h
+listed_agree s now after (e ∷ es) [] h l = absurd h
+listed_agree s now after (e ∷ es) (t ∷ ts) h l = (h.0, (h.1, subst (λ (k : Key). IsIn (stored_as k e.1.value) after) h.0 l.0), listed_agree s now after es ts h.2 l.1)
+
+light_table : (s : Settings) (now longest : ℕ) (stored : List machine.Entry) (ts : List (Key × Entry)) → AllByRecursion (StandsForStored s now stored) ts → ((x : machine.Entry) → IsIn x stored → octets_for x.first x.result ≤ longest) → AllByRecursion (IsLight (weight longest)) ts
+light_table s now longest stored ts stands most =
+    each_more (StandsForStored s now stored) (IsLight (weight longest)) (λ x p. (let light = stands_light s now x.0 x.1 (p.0) p.2 in let least = most (p.0) p.1 in omega arith)) ts stands
+
+nothing_listed : Request → Weighed
+nothing_listed r = record { value = record { first = r; number = 0; result = Ok []; moment = 0 }; octets = 0 }
+
 pub look_ups_are_listed : LookUpsAreListed
 look_ups_are_listed cache s compose now r a es t limited asked alike =
     let does = look_ups_are_askings cache a now t in
-    let finds = look_ups_are_answers no_servers cache s (λ r. Ok []) now 0 r a (all_stored_as es) t limited asked ([], refl) (alike_stands (with_cache cache s) now es t.entries alike) in
-    let listed = listed_more (all_stored_as es) finds.after (derived_more (all_stored_as es) finds.after finds.derived) es (all_listed_so es) in
-    let agree = listed_agree (StandsFor (with_cache cache s) now) finds.after es t.entries alike listed in
-    let c = carried (with_cache cache s) now t.cap a.key es t.entries finds.after agree does.0 does.1 (subst (λ (u : Table). AllByRecursion (StandsForStored (with_cache cache s) now finds.after) u.entries) does.2 finds.stands) in
-    let both : Key → Value → Entry → Type 0 = λ k v e. StandsFor (with_cache cache s) now k v e × IsIn (stored_as k v) finds.after in
+    let stands = alike_stands (with_cache cache s) now es t.entries alike in
+    let finds = look_ups_are_answers no_servers cache s (λ r. Ok []) now 0 r a (all_stored_as es) t limited asked ([], refl) stands in
+    let stored_now = each_more (λ (x : Key × Weighed). IsIn (stored_as x.0 x.1.value) (all_stored_as es)) (λ (x : Key × Weighed). IsIn (stored_as x.0 x.1.value) finds.after) (λ x is. derived_more (all_stored_as es) finds.after finds.derived (stored_as x.0 x.1.value) is) es (all_stored_so es) in
+    let agree = listed_agree (with_cache cache s) now finds.after es t.entries alike stored_now in
+    let c = carried (with_cache cache s) now a.key es t.entries finds.after (nothing_listed r) agree does.ops does.asks (subst (λ (u : Table). AllByRecursion (StandsForStored (with_cache cache s) now finds.after) u.entries) does.is finds.stands) in
+    let both : Key → Weighed → Entry → Type 0 = λ k v e. IsAlike (with_cache cache s) now k v e × IsIn (stored_as k v.value) finds.after in
     record {
       ops = c.ops;
-      asks = inl (subst (λ k. AskDoes same_key k es c.ops) asked.key c.asks);
-      alike = subst (λ (u : Table). AreAlike (with_cache cache s) now (after_ops same_key t.cap c.ops es) u.entries) (sym does.2) (agree_more both (StandsFor (with_cache cache s) now) (λ k v e p. p.0) (after_ops same_key t.cap c.ops es) (after_ops same_key t.cap does.0 t.entries) c.alike_after);
+      asks = inl (subst (λ k. AskDoes same_key k (exact_of es) (exact_ops c.ops)) asked.key c.asks);
+      alike = subst (λ (u : Table). AreAlike (with_cache cache s) now (after_ops same_key c.ops es) u.entries) (sym does.is) (agree_more both (IsAlike (with_cache cache s) now) (λ k v e p. p.0) (after_ops same_key c.ops es) (after_ops same_key does.ops t.entries) c.alike_after);
       after = finds.after;
       derived = finds.derived;
-      spares = λ o made. looked_spares cache s now r a asked es t alike finds.after listed finds.stands;
-      listed = agree_listed finds.after (after_ops same_key t.cap c.ops es) (after_ops same_key t.cap does.0 t.entries) (agree_more both (λ k v e. IsIn (stored_as k v) finds.after) (λ k v e p. p.1) (after_ops same_key t.cap c.ops es) (after_ops same_key t.cap does.0 t.entries) c.alike_after);
-      room = ap (λ (u : Table). u.cap) does.2;
+      listed = all_listed_so (with_cache cache s) now finds.after (after_ops same_key c.ops es) (after_ops same_key does.ops t.entries) c.alike_after;
+      gives = λ longest most.
+          let least : (x : machine.Entry) → IsIn x (all_stored_as es) → octets_for x.first x.result ≤ longest = λ x is. most x (derived_more (all_stored_as es) finds.after finds.derived x is) in
+          c.gives t.room longest (all_give t.room longest does.ops t.entries does.leave (does.light (weight longest) (derives_light cache s now longest r a t (all_stored_as es) asked stands least)) (light_table (with_cache cache s) now longest (all_stored_as es) t.entries stands least));
+      spares = λ o made. looked_spares cache s now r a asked es t alike finds.after stored_now finds.stands;
+      room_is = ap (λ (u : Table). u.room) does.is;
       serves = λ o made cacheable v is sv.
-          let f = seen_alike (StandsFor (with_cache cache s) now) a.key es t.entries v alike (subst (λ k. lookup (same_key k) es ≡ Some v) (sym asked.key) is) in
+          let f = seen_alike (with_cache cache s) now a.key es t.entries v alike (subst (λ k. lookup (same_key k) (exact_of es) ≡ Some v) (sym asked.key) is) in
           answered cache s now r a asked limited t v f.0 f.1 f.2 sv;
       mild = λ o made cacheable v m is message y given.
-          let f = seen_alike (StandsFor (with_cache cache s) now) a.key es t.entries v alike (subst (λ k. lookup (same_key k) es ≡ Some v) (sym asked.key) is) in
+          let f = seen_alike (with_cache cache s) now a.key es t.entries v alike (subst (λ k. lookup (same_key k) (exact_of es) ≡ Some v) (sym asked.key) is) in
           mild_own cache s now r a asked limited t v f.0 f.1 f.2 m message y given;
     }
+
+-- what an asking that is not looked up does to the list: nothing
+unlisted : (s : Settings) (now : ℕ) (es : List (Key × Weighed)) (ts : List (Key × Entry)) → AreAlike s now es ts → AreListed (all_stored_as es) es
+unlisted s now es ts alike = all_listed_so s now (all_stored_as es) es ts (listed_agree s now (all_stored_as es) es ts alike (all_stored_so es))
 
 -- what a message asks, by its key
 abbrev of_key : Octets → Key → Asked
@@ -367,10 +470,10 @@ requests_are_listed cache s compose now r es t limited octets says alike = go (c
         some_asked None e f = cc
         some_asked (Some k) e f = cc
 
-    asking : (m : Octets) → compose r ≡ Ok m → (o : Option Asked) → asked_in r.header (is_dnssec_ok r) m ≡ o → ListsAs (with_cache cache s) cache compose now t.cap r es (spare_asking cache now t o) (found_asking cache now t o)
-    asking m made None is = record { ops = []; asks = inr refl; alike = alike; after = all_stored_as es; derived = Nothing (all_stored_as es); listed = all_listed_so es; spares = λ o composed. record { old = None; there = λ e f. absurd (cc); own = λ cacheable v n there message. absurd (not_kept m made is cacheable); is = λ later on. nothing_spared (with_cache cache s) later r }; room = refl; serves = λ o composed cacheable v there sv. absurd (not_kept m made is cacheable); mild = λ o composed cacheable v n there message y given. absurd (not_kept m made is cacheable) }
+    asking : (m : Octets) → compose r ≡ Ok m → (o : Option Asked) → asked_in r.header (is_dnssec_ok r) m ≡ o → ListsAs (with_cache cache s) cache compose now t.room r es (spare_asking cache now t o) (found_asking cache now t o)
+    asking m made None is = record { ops = []; asks = inr refl; alike = alike; after = all_stored_as es; derived = Nothing (all_stored_as es); listed = unlisted (with_cache cache s) now es t.entries alike; gives = λ longest most. tt; spares = λ o composed. record { old = None; there = λ e f. absurd (cc); own = λ cacheable v n there message. absurd (not_kept m made is cacheable); is = λ later on. nothing_spared (with_cache cache s) later r }; room_is = refl; serves = λ o composed cacheable v there sv. absurd (not_kept m made is cacheable); mild = λ o composed cacheable v n there message y given. absurd (not_kept m made is cacheable) }
     asking m made (Some a) is = look_ups_are_listed cache s compose now r a es t limited (asked_are_of_requests r m a octets (says m made) is) alike
 
-    go : (o : Outcome) → compose r ≡ o → ListsAs (with_cache cache s) cache compose now t.cap r es (spare_for cache r.header (is_dnssec_ok r) now t o) (found_for cache r.header (is_dnssec_ok r) now t o)
-    go (Err e) made = record { ops = []; asks = inr refl; alike = alike; after = all_stored_as es; derived = Nothing (all_stored_as es); listed = all_listed_so es; spares = λ o composed. absurd (let p = composed in let q = made in cc); room = refl; serves = λ o composed cacheable v there sv. absurd (let p = composed in let q = made in cc); mild = λ o composed cacheable v n there message y given. absurd (let p = composed in let q = made in cc) }
+    go : (o : Outcome) → compose r ≡ o → ListsAs (with_cache cache s) cache compose now t.room r es (spare_for cache r.header (is_dnssec_ok r) now t o) (found_for cache r.header (is_dnssec_ok r) now t o)
+    go (Err e) made = record { ops = []; asks = inr refl; alike = alike; after = all_stored_as es; derived = Nothing (all_stored_as es); listed = unlisted (with_cache cache s) now es t.entries alike; gives = λ longest most. tt; spares = λ o composed. absurd (let p = composed in let q = made in cc); room_is = refl; serves = λ o composed cacheable v there sv. absurd (let p = composed in let q = made in cc); mild = λ o composed cacheable v n there message y given. absurd (let p = composed in let q = made in cc) }
     go (Ok m) made = asking m made (asked_in r.header (is_dnssec_ok r) m) refl

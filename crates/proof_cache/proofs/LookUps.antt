@@ -1,14 +1,15 @@
 -- A request that looks a cache up does what an asking of `proof_right`'s machine does.
-use Rattle.std.proofs.Common.{◌≡◌, ℕ, Bool, true, false, ◌&&◌, not, is_some, List, [], ◌∷◌, ◌++◌, map, Option, Some, None, Result, Ok, Err, inl, inr, refl, sym, ◌∙◌, ap, subst, if◌then◌else◌}
+use Rattle.std.proofs.Common.{◌≡◌, ℕ, ◌≤◌, Bool, true, false, ◌&&◌, not, is_some, List, [], ◌∷◌, ◌++◌, map, Option, Some, None, Result, Ok, Err, inl, inr, refl, sym, ◌∙◌, ap, subst, if◌then◌else◌}
 use Rattle.client_request.specs.declared.error.Error.{Error}
 use Rattle.client_settings.specs.Settings.{CacheSettings}
 use Rattle.right_trace.specs.Keys.{FlagClass, Do, Ad, Plain, Key, is_signing}
-use Rattle.proof_right.specs.machine.Cache.{Uses, Stores, Misses, Takes, TakesFlags, TakesRd, TakesBoth, First, NoneThere, tried, block, in_block}
+use Rattle.proof_right.specs.machine.Cache.{Uses, Stores, stored, Misses, Takes, TakesFlags, TakesRd, TakesBoth, First, NoneThere, tried, block, in_block}
 use Rattle.cache_rules.specs.declared.key.AdDo.TheVariants as classes
 use Rattle.cache_rules.specs.Key.{same_key, flag_class}
 use Rattle.client_cache.specs.declared.table.Flags.{Flags}
-use Rattle.client_cache.specs.Keeping.{Entry, Table, Asked, Found, entry_under, uses, with_flags, if_kept, or_else, flags, first_above_ad, first_from_ad, first_of_class, first_class, first_kept, same_class, clears_rd, is_own, keeps_derived, gives_own, gives_other, takes, derived, rd_cleared}
-use Rattle.proof_cache.specs.LookUps.{Does, LookUpsAreAskings}
+use Rattle.client_cache.specs.Keeping.{Entry, Table, Asked, Found, entry_under, weight_of, with_entries, stores, uses, with_flags, if_kept, or_else, flags, first_above_ad, first_from_ad, first_of_class, first_class, first_kept, same_class, clears_rd, is_own, keeps_derived, gives_own, gives_other, takes, derived, rd_cleared}
+use Rattle.proof_cache.specs.LookUps.{DerivesLight, Does, LookUpsAreAskings}
+use Rattle.proof_cache.proofs.Weighing.{left_of, stored_is, cleared_weighs}
 
 -- ---- the flags that are found are those of the first key that is there
 
@@ -105,13 +106,17 @@ uncleared false false e fit = refl
 differs : (a b : Bool) → a ≡ true → b ≡ false → a ≡ b → ⊥
 differs a b e f same = cc
 
-choose : (a : Asked) (t : Table) (b : Bool) (x y : Found) → (b ≡ true → Does a t x) → (b ≡ false → Does a t y) → Does a t (if b then x else y)
-choose a t true x y p q = p refl
-choose a t false x y p q = q refl
+choose : (s : CacheSettings) (a : Asked) (t : Table) (b : Bool) (x y : Found) → (b ≡ true → Does s a t x) → (b ≡ false → Does s a t y) → Does s a t (if b then x else y)
+choose s a t true x y p q = p refl
+choose s a t false x y p q = q refl
 
-module _ (a : Asked) (now : ℕ) (t : Table) (f : Flags) where
+module _ (s : CacheSettings) (a : Asked) (now : ℕ) (t : Table) (f : Flags) (kept : first_kept t a.key ≡ Some f) where
   abbrev there : Key
   there = with_flags f a.key
+
+  -- the table once the entry there is used
+  abbrev used : Table
+  used = uses there t
 
   abbrev is_same : Bool
   is_same = same_class (flag_class f.class) a.key.flags
@@ -122,56 +127,86 @@ module _ (a : Asked) (now : ℕ) (t : Table) (f : Flags) where
   abbrev IsFirst : Type 0
   IsFirst = First same_key t.entries (tried a.key) there
 
-  with_rd_alone : IsFirst → (e : Entry) → is_same ≡ true → clears ≡ true → Does a t (keeps_derived a f now (uses there t) (Ok e))
-  with_rd_alone first e same cut =
+  -- it is derived of the entry there
+  abbrev Derives : Entry → Type 0
+  Derives e = (d : Entry) × (entry_under there t ≡ Some d) × (derived s (flag_class f.class) a d ≡ Ok e)
+
+  light_own : (e : Entry) → Derives e → (most : ℕ) → DerivesLight s a t most → weight_of e ≤ most
+  light_own e d most light = light f (d.0) e kept d.1 d.2
+
+  light_cleared : (e : Entry) → Derives e → (most : ℕ) → DerivesLight s a t most → weight_of (rd_cleared a.key.flags e) ≤ most
+  light_cleared e d most light = subst (λ n. n ≤ most) (sym (cleared_weighs a.key.flags e)) (light_own e d most light)
+
+  with_rd_alone : IsFirst → (e : Entry) → Derives e → is_same ≡ true → clears ≡ true → Does s a t (keeps_derived a f now used (Ok e))
+  with_rd_alone first e d same cut =
       let rd = cleared f.rd a.key.rd cut in
-      (Uses there ∷ Stores a.key (rd_cleared a.key.flags e) ∷ [], TakesRd there (rd_cleared a.key.flags e) first (differs f.rd a.key.rd rd.0 rd.1), rw cut (rw same refl))
+      let c : Entry = rd_cleared a.key.flags e in
+      record {
+        ops = Uses there ∷ Stores a.key c (left_of used a.key c) ∷ [];
+        asks = TakesRd there c (left_of used a.key c) first (differs f.rd a.key.rd rd.0 rd.1);
+        leave = (refl, tt);
+        light = λ most light. (light_cleared e d most light, tt);
+        is = rw cut (rw same (stored_is a.key c used));
+      }
 
-  with_both : IsFirst → (e : Entry) → is_same ≡ false → clears ≡ true → Does a t (keeps_derived a f now (uses there t) (Ok e))
-  with_both first e same cut =
-      let rd = cleared f.rd a.key.rd cut in (
-        Uses there ∷ Stores (in_block a.key f.rd a.key.flags) e ∷ Stores a.key (rd_cleared a.key.flags e) ∷ [],
-        TakesBoth there e (rd_cleared a.key.flags e) first (others (flag_class f.class) a.key.flags same) (differs f.rd a.key.rd rd.0 rd.1),
-        rw cut (rw same (rw rd.0 refl)),
-      )
+  -- the key of what is stored with RD as it was found
+  abbrev as_found : Key
+  as_found = in_block a.key f.rd a.key.flags
 
-  with_class_alone : IsFirst → Fits a.key f → (e : Entry) → is_same ≡ false → clears ≡ false → Does a t (keeps_derived a f now (uses there t) (Ok e))
-  with_class_alone first fit e same cut =
-      let rd = uncleared f.rd a.key.rd cut fit in (
-        Uses there ∷ Stores (in_block a.key f.rd a.key.flags) e ∷ [],
-        TakesFlags there e first (others (flag_class f.class) a.key.flags same),
-        rw cut (rw rd refl),
-      )
+  with_both : IsFirst → (e : Entry) → Derives e → is_same ≡ false → clears ≡ true → Does s a t (keeps_derived a f now used (Ok e))
+  with_both first e d same cut =
+      let rd = cleared f.rd a.key.rd cut in
+      let c : Entry = rd_cleared a.key.flags e in
+      let between : Table = with_entries (stored same_key as_found e (left_of used as_found e) used.entries) used in
+      record {
+        ops = Uses there ∷ Stores as_found e (left_of used as_found e) ∷ Stores a.key c (left_of between a.key c) ∷ [];
+        asks = TakesBoth there e c (left_of used as_found e) (left_of between a.key c) first (others (flag_class f.class) a.key.flags same) (differs f.rd a.key.rd rd.0 rd.1);
+        leave = (refl, (refl, tt));
+        light = λ most light. (light_own e d most light, (light_cleared e d most light, tt));
+        is = rw cut (rw same (ap (λ (b : Bool). stores a.key c (stores (record a.key { rd = b }) e used)) (sym rd.0) ∙ (ap (stores a.key c) (stored_is as_found e used) ∙ stored_is a.key c between)));
+      }
 
-  taken_other : IsFirst → Fits a.key f → (r : Result Entry Error) (same cut : Bool) → is_same ≡ same → clears ≡ cut → (same && not cut) ≡ false → Does a t (keeps_derived a f now (uses there t) r)
-  taken_other first fit (Err x) same cut es ec own = (Uses there ∷ [], Takes there first, refl)
-  taken_other first fit (Ok e) true true es ec own = with_rd_alone first e es ec
-  taken_other first fit (Ok e) true false es ec own = absurd cc
-  taken_other first fit (Ok e) false true es ec own = with_both first e es ec
-  taken_other first fit (Ok e) false false es ec own = with_class_alone first fit e es ec
+  with_class_alone : IsFirst → Fits a.key f → (e : Entry) → Derives e → is_same ≡ false → clears ≡ false → Does s a t (keeps_derived a f now used (Ok e))
+  with_class_alone first fit e d same cut =
+      let rd = uncleared f.rd a.key.rd cut fit in
+      record {
+        ops = Uses there ∷ Stores as_found e (left_of used as_found e) ∷ [];
+        asks = TakesFlags there e (left_of used as_found e) first (others (flag_class f.class) a.key.flags same);
+        leave = (refl, tt);
+        light = λ most light. (light_own e d most light, tt);
+        is = rw cut (ap (λ (b : Bool). stores (record a.key { rd = b }) e used) (sym rd) ∙ stored_is as_found e used);
+      }
 
-  taken_at : (s : CacheSettings) → IsFirst → Fits a.key f → (o : Option Entry) → (is_same && not clears) ≡ false → Does a t (gives_other s a f now (uses there t) o)
-  taken_at s first fit None own = (Uses there ∷ [], Takes there first, refl)
-  taken_at s first fit (Some e) own = taken_other first fit (derived s (flag_class f.class) a e) is_same clears refl refl own
+  taken_other : IsFirst → Fits a.key f → (d : Entry) → entry_under there t ≡ Some d → (r : Result Entry Error) → derived s (flag_class f.class) a d ≡ r → (same cut : Bool) → is_same ≡ same → clears ≡ cut → (same && not cut) ≡ false
+      → Does s a t (keeps_derived a f now used r)
+  taken_other first fit d is (Err x) made same cut es ec own = record { ops = Uses there ∷ []; asks = Takes there first; leave = tt; light = λ most light. tt; is = refl }
+  taken_other first fit d is (Ok e) made true true es ec own = with_rd_alone first e (d, is, made) es ec
+  taken_other first fit d is (Ok e) made true false es ec own = absurd cc
+  taken_other first fit d is (Ok e) made false true es ec own = with_both first e (d, is, made) es ec
+  taken_other first fit d is (Ok e) made false false es ec own = with_class_alone first fit e (d, is, made) es ec
+
+  taken_at : IsFirst → Fits a.key f → (o : Option Entry) → entry_under there t ≡ o → (is_same && not clears) ≡ false → Does s a t (gives_other s a f now used o)
+  taken_at first fit None is own = record { ops = Uses there ∷ []; asks = Takes there first; leave = tt; light = λ most light. tt; is = refl }
+  taken_at first fit (Some e) is own = taken_other first fit e is (derived s (flag_class f.class) a e) refl is_same clears refl refl own
 
   own_key : Fits a.key f → is_same ≡ true → clears ≡ false → there ≡ a.key
   own_key fit same cut =
       ap (λ x. record a.key { flags = x; rd = f.rd }) (same_is (flag_class f.class) a.key.flags same)
       ∙ ap (λ x. record a.key { rd = x }) (uncleared f.rd a.key.rd cut fit)
 
-  taken_own : IsFirst → there ≡ a.key → (o : Option Entry) → Does a t (gives_own a now (uses a.key t) o)
-  taken_own first same None = (Uses a.key ∷ [], Takes a.key (subst (First same_key t.entries (tried a.key)) same first), refl)
-  taken_own first same (Some e) = (Uses a.key ∷ [], Takes a.key (subst (First same_key t.entries (tried a.key)) same first), refl)
+  taken_own : IsFirst → there ≡ a.key → (o : Option Entry) → Does s a t (gives_own a now (uses a.key t) o)
+  taken_own first same None = record { ops = Uses a.key ∷ []; asks = Takes a.key (subst (First same_key t.entries (tried a.key)) same first); leave = tt; light = λ most light. tt; is = refl }
+  taken_own first same (Some e) = record { ops = Uses a.key ∷ []; asks = Takes a.key (subst (First same_key t.entries (tried a.key)) same first); leave = tt; light = λ most light. tt; is = refl }
 
-  taken : (s : CacheSettings) → IsFirst → Fits a.key f → Does a t (takes s a now t (Some f))
-  taken s first fit =
-      choose a t (is_own f a.key) _ _
+  taken : IsFirst → Fits a.key f → Does s a t (takes s a now t (Some f))
+  taken first fit =
+      choose s a t (is_own f a.key) _ _
       (λ e. let own = cleared is_same clears e in taken_own first (own_key fit own.0 own.1) (entry_under a.key t))
-      (λ e. taken_at s first fit (entry_under there t) e)
+      (λ e. taken_at first fit (entry_under there t) refl e)
 
-looked : (s : CacheSettings) (a : Asked) (now : ℕ) (t : Table) (o : Option Flags) → FoundAmong a.key t o (tried a.key) → Does a t (takes s a now t o)
-looked s a now t None none = ([], Misses none, refl)
-looked s a now t (Some f) p = taken a now t f s p.0 p.1
+looked : (s : CacheSettings) (a : Asked) (now : ℕ) (t : Table) (o : Option Flags) → first_kept t a.key ≡ o → FoundAmong a.key t o (tried a.key) → Does s a t (takes s a now t o)
+looked s a now t None is none = record { ops = []; asks = Misses none; leave = tt; light = λ most light. tt; is = refl }
+looked s a now t (Some f) is p = taken s a now t f is p.0 p.1
 
 pub look_ups_are_askings : LookUpsAreAskings
-look_ups_are_askings s a now t = looked s a now t (first_kept t a.key) (found_first a.key t)
+look_ups_are_askings s a now t = looked s a now t (first_kept t a.key) refl (found_first a.key t)

@@ -104,7 +104,7 @@ module _ (g : Caching) where
     pub settings : y.0.settings ≡ g.cache
     pub stands : TableStands (its g) now (all_stored now leaving stored) y.0.table
     pub alike : AreAlike (its g) now (all_listed (room g) now leaving es) y.0.table.entries
-    pub cap : y.0.table.cap ≡ room g
+    pub cap : y.0.table.room ≡ room g
     pub jobs : AreJobs g now expired left held y.0.waiting
 
   record One (p : Posted) (x : Gave) (named : ℕ → Option ℕ) (held : ℕ → Option Waiting) (now : ℕ) (expired : ℕ → Option Entry) (stored : List Entry) (es : Listed g) (v : View) (y : Kept × View) : Type 0 where
@@ -118,7 +118,7 @@ module _ (g : Caching) where
     settings : y.0.settings ≡ g.cache
     stands : TableStands (its g) now (store now leaving stored) y.0.table
     alike : AreAlike (its g) now (lists (room g) now leaving es) y.0.table.entries
-    cap : y.0.table.cap ≡ room g
+    cap : y.0.table.room ≡ room g
     jobs : AreJobs g now expired (with_at p.ticket None named) held y.0.waiting
 
   pub one_less : (now : ℕ) (expired : ℕ → Option Entry) (i : ℕ) (named : ℕ → Option ℕ) (held : ℕ → Option Waiting) (waiting : List (ℕ × Job)) → AreJobs g now expired named held waiting → AreJobs g now expired (with_at i None named) held (frees i waiting)
@@ -130,7 +130,7 @@ module _ (g : Caching) where
   }
 
   module _ (p : Posted) (x : Gave) (named : ℕ → Option ℕ) (held : ℕ → Option Waiting) (now : ℕ) (expired : ℕ → Option Entry) (stored : List Entry) (es : Listed g) (k : Kept) (v : View) (at : v.now ≡ now) (set : k.settings ≡ g.cache) (name : named p.ticket ≡ Some x.request)
-      (asked : IsAskedFor held x) (jobs : AreJobs g now expired named held k.waiting) (stands : TableStands (its g) now stored k.table) (alike : AreAlike (its g) now es k.table.entries) (cap : k.table.cap ≡ room g) where
+      (asked : IsAskedFor held x) (jobs : AreJobs g now expired named held k.waiting) (stands : TableStands (its g) now stored k.table) (alike : AreAlike (its g) now es k.table.entries) (cap : k.table.room ≡ room g) where
     abbrev Ones : Kept × View → Type 0
     Ones y = One p x named held now expired stored es v y
 
@@ -190,7 +190,7 @@ module _ (g : Caching) where
       settings = set;
       stands = kept.stands;
       alike = subst (λ n. AreAlike (its g) now (lists n now z es) result.1.entries) cap (kept.alike es alike);
-      cap = kept.room ∙ cap;
+      cap = kept.room_is ∙ cap;
       jobs = one_less now expired p.ticket named held k.waiting jobs;
     })
 
@@ -257,7 +257,7 @@ module _ (g : Caching) where
 
   pub all_settle : (ps : List Posted) (xs : List Gave) (named left : ℕ → Option ℕ) (held : ℕ → Option Waiting) (now : ℕ) (expired : ℕ → Option Entry) (stored : List Entry) (es : Listed g) (k : Kept) (v : View)
       → v.now ≡ now → k.settings ≡ g.cache → Gives named ps (map post_of xs) left → AllByRecursion (IsAskedFor held) xs → AreJobs g now expired named held k.waiting → TableStands (its g) now stored k.table
-      → AreAlike (its g) now es k.table.entries → k.table.cap ≡ room g → Settled named left held now expired stored es xs v (settles_all ps k v)
+      → AreAlike (its g) now es k.table.entries → k.table.room ≡ room g → Settled named left held now expired stored es xs v (settles_all ps k v)
   all_settle [] [] named left held now expired stored es k v at set h asked jobs stands alike cap = record {
     board = [];
     view = ap (λ (b : List Posted). onto b v) (sym (append-nil v.board));

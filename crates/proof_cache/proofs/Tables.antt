@@ -4,14 +4,16 @@ use Rattle.std.specs.Prelude.{suc, zero}
 use Rattle.std.specs.List.{AllByRecursion}
 use Rattle.std.specs.Option.{option_map_or}
 use Rattle.std.specs.Map.{lookup, lookup_entry, remove_entry}
-use Rattle.lru.specs.LruCache.{LruCache, promoted, put_entries}
+use Rattle.lru.specs.LruCache.{promoted}
 use Rattle.right_trace.specs.Keys.{Key}
 use Rattle.right_trace.specs.Settings.{Settings}
+use Rattle.proof_right.specs.machine.Cache.{stored}
 use Rattle.proof_right.specs.machine.Client as machine
 use Rattle.cache_rules.specs.Key.{same_key, same_is_equal}
 use Rattle.client_cache.specs.Keeping.{Entry, Table, uses, stores}
 use Rattle.proof_cache.specs.Standing.{StandsForStored, TableStands}
 use Rattle.proof_cache.specs.Laws.{StandingLaws}
+use Rattle.proof_cache.proofs.Weighing.{left_of, stored_is}
 
 -- the key that is looked up, as it is in the table
 pub key_found : {V : Type 0} (k : Key) (es : List (Key × V)) (x : Key × V) → lookup_entry (same_key k) es ≡ Some x → k ≡ x.0
@@ -26,7 +28,7 @@ module _ {V : Type 0} (P : Key × V → Type 0) where
   abbrev Each : List (Key × V) → Type 0
   Each es = AllByRecursion P es
 
-  removed : (test : Key → Bool) (es : List (Key × V)) → Each es → Each (remove_entry test es)
+  pub removed : (test : Key → Bool) (es : List (Key × V)) → Each es → Each (remove_entry test es)
   removed test [] h = tt
   removed test (e ∷ es) h = go (test e.0) (removed test es h.1)
     where
@@ -47,19 +49,17 @@ module _ {V : Type 0} (P : Key × V → Type 0) where
   few (suc n) [] h = tt
   few (suc n) (e ∷ es) h = (h.0, few n es h.1)
 
-  used : (test : Key → Bool) (es : List (Key × V)) → Each es → Each (promoted test es)
+  pub used : (test : Key → Bool) (es : List (Key × V)) → Each es → Each (promoted test es)
   used test es h = go (lookup_entry test es) refl
     where
       go : (o : Option (Key × V)) → lookup_entry test es ≡ o → Each (option_map_or (λ e. e ∷ remove_entry test es) o es)
       go None e = h
       go (Some x) e = (one_found test es x h e, removed test es h)
 
-  pub put : (k : Key) (v : V) (t : LruCache Key V) → Each t.entries → P (k, v) → Each (put_entries same_key t k v)
-  put k v t h p = go (lookup_entry (same_key k) t.entries) refl
-    where
-      go : (o : Option (Key × V)) → lookup_entry (same_key k) t.entries ≡ o → Each (option_map_or (λ e. (e.0, v) ∷ remove_entry (same_key k) t.entries) o ((k, v) ∷ take (t.cap - 1) t.entries))
-      go None e = (p, few (t.cap - 1) t.entries h)
-      go (Some x) e = (subst (λ (j : Key). P (j, v)) (key_found k t.entries x e) p, removed (same_key k) t.entries h)
+  -- what is stored is one of these, if it is put in
+  pub each_stored : (k : Key) (v : V) (left : Option ℕ) (es : List (Key × V)) → Each es → ((n : ℕ) → left ≡ Some n → P (k, v)) → Each (stored same_key k v left es)
+  each_stored k v None es h p = removed (same_key k) es h
+  each_stored k v (Some n) es h p = (p n refl, few n (remove_entry (same_key k) es) (removed (same_key k) es h))
 
   -- an entry that is found is one of these
   pub looked : (k : Key) (es : List (Key × V)) (v : V) → Each es → lookup (same_key k) es ≡ Some v → P (k, v)
@@ -77,7 +77,7 @@ module _ (P : Key × Entry → Type 0) where
   after_use k t h = used P (same_key k) t.entries h
 
   pub after_store : (k : Key) (v : Entry) (t : Table) → AllByRecursion P t.entries → P (k, v) → AllByRecursion P (stores k v t).entries
-  after_store k v t h p = put P k v t h p
+  after_store k v t h p = subst (λ (u : Table). AllByRecursion P u.entries) (sym (stored_is k v t)) (each_stored P k v (left_of t k v) t.entries h (λ n is. p))
 
 pub each_more : {A : Type 0} (P Q : A → Type 0) → ((x : A) → P x → Q x) → (xs : List A) → AllByRecursion P xs → AllByRecursion Q xs
 each_more P Q f [] h = tt

@@ -273,8 +273,18 @@ module _ (s : Settings) (q k : Key) (m : Octets) (validity : ℕ) (x : Stored) (
     octets = between_octets k.flags r.flags (k.rd && not r.rd) x.header keeps.octets;
     flags = view_laws.headers q k r x.header (flags_in (header_of m)) keeps.header covers on keeps.flags;
     kept = go keeps.kept;
+    whole = λ is. keeps.whole (do_back k.flags r.flags on.flags is);
+    short = keeps.short;
   }
     where
+      -- what serves a key with DO has it
+      do_back : (f g : FlagClass) → flags_cover f g ≡ true → is_do g ≡ true → is_do f ≡ true
+      do_back Do g e d = refl
+      do_back f Ad e d = absurd cc
+      do_back f Plain e d = absurd cc
+      do_back Ad Do e d = absurd cc
+      do_back Plain Do e d = absurd cc
+
       go : IsKept s q k m validity x → IsKept s q r m validity (record x { header = header_between k.flags r.flags (k.rd && not r.rd) x.header })
       go (Whole same out valid) = Whole same (sym (out_same q.flags k.flags r.flags covers.flags on.flags none) ∙ out) valid
       go (Anew w spelled its to_w from_w out its_known says valid) =

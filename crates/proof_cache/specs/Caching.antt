@@ -12,9 +12,9 @@ use Rattle.right_trace.specs.Keys.{Key}
 use Rattle.right_trace.specs.Parts.{IsIn}
 use Rattle.right_trace.specs.Settings.{Settings}
 use Rattle.right_trace.specs.Trace.{Conf}
+use Rattle.right_trace.specs.Weights.{Room}
 use Rattle.proof_right.specs.machine.Part.{ServerPart}
 use Rattle.proof_right.specs.machine.Client.{Waiting, Leaving, Entry, Upper, store}
-use Rattle.proof_right.specs.machine.Exact.{Value}
 use Rattle.proof_parts.specs.ClientTie.{StandsIn, IsTold}
 use Rattle.proof_parts.specs.Lines.{Sorted}
 use Rattle.proof_parts.specs.PartTie.{Phase}
@@ -24,7 +24,7 @@ use Rattle.cache_rules.specs.Laws.{kept_key}
 use Rattle.cache_rules.specs.Validity.{with_cache}
 use Rattle.client_cache.specs.Keeping.{Spare, spare_stands_in}
 use Rattle.client_cache.specs.Plain.{Job, Cached, Response, Reading, read, room_of, stale as stale_below, started, transport}
-use Rattle.proof_cache.specs.Listing.{AreAlike, AreListed, all_listed}
+use Rattle.proof_cache.specs.Listing.{Weighed, AreAlike, AreListed, all_listed}
 use Rattle.proof_cache.specs.Results.{GivesMessages, Sanely}
 use Rattle.proof_cache.specs.Standing.{TableStands}
 
@@ -64,10 +64,10 @@ module _ (g : Caching) where
 
   -- what is kept beside the machine: the entries, the most recently used first
   abbrev pub Listed : Type 0
-  Listed = List (Key × Value)
+  Listed = List (Key × Weighed)
 
-  -- how many there may be
-  abbrev pub room : ℕ
+  -- how many there may be, and what they may weigh
+  abbrev pub room : Room
   room = room_of g.cache
 
   abbrev pub reading : Reading Request
@@ -126,8 +126,8 @@ module _ (g : Caching) where
     pub sane : Sanely g.Sane a
     pub stands : TableStands (its g) a.now (all_stored a.now a.leaving a.stored) c.kept.table
     pub alike : AreAlike (its g) a.now (all_listed (room g) a.now a.leaving e) c.kept.table.entries
-    pub cap : c.kept.table.cap ≡ room g
-    pub listed : AreListed (all_stored a.now a.leaving a.stored) (all_listed (room g) a.now a.leaving e)
+    pub cap : c.kept.table.room ≡ room g
+    pub listed : AreListed a.stored e
     pub told : (z : Leaving) → IsIn z a.leaving → IsTold (its g) a z
     pub unasked : (k : ℕ) → a.asked ≤ k → a.expired k ≡ None
     pub jobs : AreJobs g a.now a.expired (g.names c.upstream) a.held c.kept.waiting

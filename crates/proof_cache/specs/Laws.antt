@@ -5,14 +5,15 @@ use Rattle.client_request.specs.Request.{Request, is_dnssec_ok}
 use Rattle.client_request.specs.Carries.{SaysRequest, IsOfOctets}
 use Rattle.client_settings.specs.Settings.{CacheSettings, seconds}
 use Rattle.right_trace.specs.Trace.{Conf}
+use Rattle.right_trace.specs.Weights.{Room}
 use Rattle.right_trace.specs.Messages.{Octets}
 use Rattle.right_trace.specs.Settings.{Settings}
 use Rattle.right_trace.specs.Keys.{Key, KeyCovers, key_of, is_cacheable}
 use Rattle.right_trace.specs.Parts.{IsIn}
-use Rattle.proof_right.specs.machine.Cache.{Op, AskDoes, after_ops}
+use Rattle.proof_right.specs.machine.Cache.{Op, AskDoes, after_ops, AllGiveWay}
 use Rattle.proof_right.specs.machine.Served.{served}
 use Rattle.proof_right.specs.machine.Client as machine
-use Rattle.proof_right.specs.machine.Exact.{Value, Serves, ServedBy, entry_under}
+use Rattle.proof_right.specs.machine.Exact.{Value, Serves, ServedBy, entry_under, octets_for}
 use Rattle.proof_parts.specs.ClientTie.{StandsIn}
 use Rattle.cache_rules.specs.Key.{same_key}
 use Rattle.cache_rules.specs.Laws.{kept_key}
@@ -20,7 +21,7 @@ use Rattle.cache_rules.specs.Validity.{with_cache}
 use Rattle.client_cache.specs.declared.table.Flags.{Flags}
 use Rattle.client_cache.specs.Keeping.{Table, Asked, Found, Outcome, Spare, spare_stands_in, asked_in, first_kept, found, looks_up, keeps, spare_in, takes}
 use Rattle.client_cache.specs.Plain.{empty}
-use Rattle.proof_cache.specs.Listing.{AreAlike, AreListed, all_stored_as, lists}
+use Rattle.proof_cache.specs.Listing.{Weighed, AreAlike, AreListed, all_stored_as, exact_of, exact_ops, lists}
 use Rattle.proof_cache.specs.Standing.{IsResult, TableStands, IsAskedBy, Derived}
 
 -- What a composed message asks is what its request asks.
@@ -91,36 +92,37 @@ pub record SparesAs (s : Settings) (cache : CacheSettings) (now : ℕ) (r : Requ
   pub is : (then : ℕ) → now ≤ then → StandsIn s then r old (spare_stands_in cache then spare)
 
 -- What an asking does to a list that is alike to the table that it looks up: it uses and stores as an exact asking does, or leaves all as it was. Where the entry under its own key serves it, it is answered from that.
-pub record ListsAs (s : Settings) (cache : CacheSettings) (compose : Request → Outcome) (now cap : ℕ) (r : Request) (es : List (Key × Value)) (spare : Option Spare) (x : Found) : Type 0 where
-  pub ops : List (Op Value)
-  pub asks : AskDoes same_key (key_of r) es ops ⊎ (ops ≡ [])
-  pub alike : AreAlike s now (after_ops same_key cap ops es) x.table.entries
+pub record ListsAs (s : Settings) (cache : CacheSettings) (compose : Request → Outcome) (now : ℕ) (room : Room) (r : Request) (es : List (Key × Weighed)) (spare : Option Spare) (x : Found) : Type 0 where
+  pub ops : List (Op Weighed)
+  pub asks : AskDoes same_key (key_of r) (exact_of es) (exact_ops ops) ⊎ (ops ≡ [])
+  pub alike : AreAlike s now (after_ops same_key ops es) x.table.entries
   pub after : List machine.Entry
   pub derived : Derived (all_stored_as es) after
-  pub listed : AreListed after (after_ops same_key cap ops es)
-  pub spares : (o : Octets) → compose r ≡ Ok o → SparesAs s cache now r es after spare
-  pub room : x.table.cap ≡ cap
-  pub serves : (o : Octets) → compose r ≡ Ok o → is_cacheable r ≡ true → (v : Value) → lookup (same_key (key_of r)) es ≡ Some v → Serves s v r now → (y : Outcome) × (x.answer ≡ Some y) × ServedBy v r now y
-  pub mild : (o : Octets) → compose r ≡ Ok o → is_cacheable r ≡ true → (v : Value) (m : Octets) → lookup (same_key (key_of r)) es ≡ Some v → v.result ≡ Ok m → (y : Outcome) → x.answer ≡ Some y → machine.is_failure_of y ≡ false
+  pub listed : AreListed after (after_ops same_key ops es)
+  pub gives : (longest : ℕ) → ((e : machine.Entry) → IsIn e after → octets_for e.first e.result ≤ longest) → AllGiveWay room longest (exact_ops ops)
+  pub spares : (o : Octets) → compose r ≡ Ok o → SparesAs s cache now r (exact_of es) after spare
+  pub room_is : x.table.room ≡ room
+  pub serves : (o : Octets) → compose r ≡ Ok o → is_cacheable r ≡ true → (v : Value) → lookup (same_key (key_of r)) (exact_of es) ≡ Some v → Serves s v r now → (y : Outcome) × (x.answer ≡ Some y) × ServedBy v r now y
+  pub mild : (o : Octets) → compose r ≡ Ok o → is_cacheable r ≡ true → (v : Value) (m : Octets) → lookup (same_key (key_of r)) (exact_of es) ≡ Some v → v.result ≡ Ok m → (y : Outcome) → x.answer ≡ Some y → machine.is_failure_of y ≡ false
 
 -- A request that looks the table up; a TTL has 32 bits, and so has what the settings allow in seconds.
 abbrev pub LookUpsAreListed : Type 0
-LookUpsAreListed = (cache : CacheSettings) (s : Settings) (compose : Request → Outcome) (now : ℕ) (r : Request) (a : Asked) (es : List (Key × Value)) (t : Table)
-    → cache.max_validity ≤ seconds 4294967295 → IsAskedBy r a → AreAlike (with_cache cache s) now es t.entries → ListsAs (with_cache cache s) cache compose now t.cap r es (spare_looked cache a now t (first_kept t a.key)) (looks_up cache a now t)
+LookUpsAreListed = (cache : CacheSettings) (s : Settings) (compose : Request → Outcome) (now : ℕ) (r : Request) (a : Asked) (es : List (Key × Weighed)) (t : Table)
+    → cache.max_validity ≤ seconds 4294967295 → IsAskedBy r a → AreAlike (with_cache cache s) now es t.entries → ListsAs (with_cache cache s) cache compose now t.room r es (spare_looked cache a now t (first_kept t a.key)) (looks_up cache a now t)
 
 -- The same for each request, as it is composed.
 abbrev pub RequestsAreListed : Type 0
-RequestsAreListed = (cache : CacheSettings) (s : Settings) (compose : Request → Outcome) (now : ℕ) (r : Request) (es : List (Key × Value)) (t : Table)
+RequestsAreListed = (cache : CacheSettings) (s : Settings) (compose : Request → Outcome) (now : ℕ) (r : Request) (es : List (Key × Weighed)) (t : Table)
     → cache.max_validity ≤ seconds 4294967295 → IsOfOctets r → ((m : Octets) → compose r ≡ Ok m → SaysRequest m r) → AreAlike (with_cache cache s) now es t.entries
-    → ListsAs (with_cache cache s) cache compose now t.cap r es (spare_for cache r.header (is_dnssec_ok r) now t (compose r)) (found_for cache r.header (is_dnssec_ok r) now t (compose r))
+    → ListsAs (with_cache cache s) cache compose now t.room r es (spare_for cache r.header (is_dnssec_ok r) now t (compose r)) (found_for cache r.header (is_dnssec_ok r) now t (compose r))
 
 -- What is given and kept of a result that came is what the machine's reply gives and stores; a list that is alike to the table still is.
 pub record KeepsAs (s : Settings) (now : ℕ) (stored : List machine.Entry) (z : machine.Leaving) (t : Table) (x : Outcome × Table) : Type 0 where
   pub given : x.0 ≡ z.result
   pub unstored : z.is_stored ≡ false → x.1 ≡ t
   pub stands : TableStands s now (machine.store now z stored) x.1
-  pub room : x.1.cap ≡ t.cap
-  pub alike : (es : List (Key × Value)) → AreAlike s now es t.entries → AreAlike s now (lists t.cap now z es) x.1.entries
+  pub room_is : x.1.room ≡ t.room
+  pub alike : (es : List (Key × Weighed)) → AreAlike s now es t.entries → AreAlike s now (lists t.room now z es) x.1.entries
 
 -- Of a message without a validity, which becomes an error, nothing needs to be known.
 abbrev pub WhatIsKeptIsStored : Type 0

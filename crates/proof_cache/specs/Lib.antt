@@ -1,3 +1,4 @@
+pub mod Weighing
 pub mod LookUps
 pub mod Standing
 pub mod Listing

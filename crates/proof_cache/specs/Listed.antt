@@ -1,26 +1,28 @@
 -- The list that `proof_right`'s exact cache keeps, beside the machine of a client with a cache.
-use Rattle.std.specs.Prelude.{◌≡◌, if◌then◌else◌, List, [], map, refl}
+use Rattle.std.specs.Prelude.{◌≡◌, if◌then◌else◌, List, [], map, Some, refl}
 use Rattle.std.proofs.Common.{sym, subst}
-use Rattle.lru.specs.LruCache.{lru_cache, put_entries}
 use Rattle.client_request.specs.Composed.{composed}
 use Rattle.client_request.specs.declared.event.Row.{Row}
 use Rattle.right_trace.specs.Hit.{AllHit}
 use Rattle.right_trace.specs.StaleServed.{AllServeStale}
 use Rattle.right_trace.specs.Keys.{key_of, TellsKeys}
 use Rattle.right_trace.specs.Timely.{AllAskedInOctets}
-use Rattle.proof_right.specs.machine.Client.{Made, Move, Server_moves, Hands_on, Gives_up, Drops, Keeps_back, Delivers, Concludes, Times_out, Revives, Replies, Forgets, Derives, Answers, Takes_on, IsRun, begun}
+use Rattle.proof_right.specs.machine.Client.{Made, Move, Server_moves, Hands_on, Gives_up, Drops, Keeps_back, Delivers, Concludes, Times_out, Revives, Replies, Forgets, Derives, Answers, Takes_on, IsRun, begun, store}
+use Rattle.proof_right.specs.machine.Cache.{stored}
 use Rattle.proof_right.specs.machine.Exact as exact
-use Rattle.proof_right.specs.machine.Exact.{value_of, RunCached}
+use Rattle.proof_right.specs.machine.Exact.{value_of, longest_kept, RunCached}
 use Rattle.proof_right.specs.machine.Served.{served}
 use Rattle.proof_parts.specs.ClientTie.{Beside, RunBeside, IsClientTie}
 use Rattle.proof_parts.specs.Leading.{IsBelow}
 use Rattle.cache_rules.specs.Key.{same_key}
 use Rattle.proof_cache.specs.Caching.{Caching, its, State, Listed, room, cached, first, ticket_of, IsHanded, stale, names, Owns, IsTied}
+use Rattle.proof_cache.specs.Listing.{exact_of}
+use Rattle.proof_cache.proofs.Weighing.{all_stay}
 
 module _ (g : Caching) where
   -- what a move makes of it
   abbrev pub Does : (x : State g) (d : Made g.P.State) → Move g.c (its g) composed g.P x d → (before after : Listed g) → Type 0
-  Does x d m e f = exact.Cached g.c (its g) composed g.P same_key (room g) x d m e f
+  Does x d m e f = exact.Cached g.c (its g) composed g.P same_key (room g) x d m (exact_of e) (exact_of f)
 
   -- moves below it leave it alone
   pub below_keeps : (x : State g) (d : Made g.P.State) (m : Move g.c (its g) composed g.P x d) (e : Listed g) → IsBelow (its g) composed g.P x d m → Does x d m e e
@@ -46,7 +48,11 @@ module _ (g : Caching) where
     Does = Does;
     below = below_keeps;
     derives = λ x y k is covers e. refl;
-    unstored = λ x before after y is e no told. (subst (λ b. e ≡ (if b then put_entries same_key (lru_cache e (room g)) (key_of y.asked) (value_of x.now y) else e)) (sym no) refl, told);
+    unstored = λ x before after y is e no told. (record {
+      left = Some (room g).entries;
+      gives_way = all_stay (room g) (longest_kept (store x.now y x.stored));
+      entries = subst (λ b. exact_of e ≡ (if b then stored same_key (key_of y.asked) (value_of x.now y) (Some (room g).entries) (exact_of e) else exact_of e)) (sym no) refl;
+    }, told);
     revives = λ x before after y old m is fails there may e. refl;
   }
 
@@ -57,7 +63,7 @@ CachesAreTied = (g : Caching) → IsClientTie (its g) g.P (listed g) (cached g) 
 -- A run of the machine with this list beside it is one with its exact cache.
 abbrev pub RunsAreCached : Type 1
 RunsAreCached = (g : Caching) (x : State g) (rows : List Row) (run : IsRun g.c (its g) composed g.P x rows) (e : Listed g)
-    → RunBeside (its g) g.P (listed g) x rows run e → RunCached g.c (its g) composed g.P same_key (room g) x rows run e
+    → RunBeside (its g) g.P (listed g) x rows run e → RunCached g.c (its g) composed g.P same_key (room g) x rows run (exact_of e)
 
 -- Its test of keys tells equal ones.
 abbrev pub KeysAreTold : Type 0

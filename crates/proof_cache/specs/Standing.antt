@@ -2,20 +2,23 @@
 --
 --   the machine:  a first result, whose it was ──► under each key for which it is derived
 --   the table:    the first message, or its view written anew ──► under the header of its view for the key
-use Rattle.std.specs.Prelude.{◌≡◌, ℕ, ◌<◌, ◌≤◌, true, false, Some, List, ◌∷◌, length, Result, Ok, Err, slice_index}
+use Rattle.std.specs.Prelude.{◌≡◌, ℕ, ◌<◌, ◌≤◌, true, false, Some, List, ◌∷◌, length, max, Result, Ok, Err, slice_index}
+use Rattle.std.specs.Option.{option_map_or}
 use Rattle.std.specs.List.{AllByRecursion}
 use Rattle.dns_names.specs.Name.{Labels, lowered, IsLegal, AreOctets}
 use Rattle.dns_base.specs.Data.{Data}
+use Rattle.dns_base.specs.Knowing.{knows}
 use Rattle.dns_base.specs.Message.{header_of}
 use Rattle.client_request.specs.Request.{Request}
 use Rattle.client_request.specs.declared.error.Error.{Error}
 use Rattle.right_trace.specs.Messages.{Octets}
 use Rattle.right_trace.specs.Settings.{Settings}
-use Rattle.right_trace.specs.Keys.{Key, KeysCover, key_of, spelled_name, is_cacheable}
+use Rattle.right_trace.specs.Keys.{Key, KeysCover, key_of, spelled_name, is_cacheable, is_do}
 use Rattle.right_trace.specs.Parts.{IsIn, Parts, flags_in, known_parts, Says}
 use Rattle.right_trace.specs.Validity.{validity_of_message, validity_of_parts}
 use Rattle.right_trace.specs.Views.{viewed_header, leaves_out, viewed}
 use Rattle.proof_right.specs.machine.Client as machine
+use Rattle.proof_right.specs.machine.Exact.{written_under}
 use Rattle.client_cache.specs.Keeping.{Stored, Entry, Table, Asked, Outcome}
 
 -- A message that came: it has a header, and is of octets.
@@ -34,7 +37,7 @@ pub data IsKept (s : Settings) (q k : Key) (m : Octets) (validity : ℕ) (x : St
   Anew : (w : Key) (name : Labels) (first : Parts Data) → KeysCover q w → KeysCover w k → leaves_out w k ≡ false → known_parts m ≡ Some first
       → Says x.message (viewed q w name 0 first) → validity ≡ validity_of_parts s (viewed q w name 0 first) → IsKept s q k m validity x
 
--- The first message had some validity, and what is kept of it has the header of the view, in four octets.
+-- The first message had some validity, and what is kept of it has the header of the view, in four octets. For a key with DO it is itself, and it is nowhere longer than that written out, its questions under the key's name.
 pub record KeepsMessage (s : Settings) (q k : Key) (m : Octets) (validity : ℕ) (x : Stored) : Type 0 where
   pub valid : (n : ℕ) × (validity_of_message s m ≡ Some n) × (0 < n)
   pub own : IsMessage x.message
@@ -42,6 +45,8 @@ pub record KeepsMessage (s : Settings) (q k : Key) (m : Octets) (validity : ℕ)
   pub octets : (i : ℕ) → slice_index x.header i < 256
   pub flags : flags_in x.header ≡ viewed_header q k (flags_in (header_of m))
   pub kept : IsKept s q k m validity x
+  pub whole : is_do k.flags ≡ true → x.message ≡ m
+  pub short : length x.message ≤ max (length m) (option_map_or (written_under q.name) (knows m) 0)
 
 -- An error is kept as it is.
 pub data KeepsResult (s : Settings) (q k : Key) (validity : ℕ) : Outcome → Result Stored Error → Type 0 where

@@ -95,7 +95,7 @@ not_missed room has h =
 
 -- An entry that gave way
 
-types_differ : 28 ≡ 1 → ⊥
+types_differ : Path ℕ 28 1 → ⊥
 types_differ e = absurd (omega (arith, e))
 
 keys_differ : key_of aaaa_request ≡ key_of plain_request → ⊥
