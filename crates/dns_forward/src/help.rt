@@ -23,7 +23,12 @@ counts.
                             with a second and three attempts where it says none; a server
                             that fails is passed by. crate: resolv.conf to the letter, and
                             the settings of the crate domain
---entries N                 keep so many answers, from 1 to 1000000000; 100000
+--entries N                 keep so many answers, from 1 to 1000000000; 100000, and as many
+                            as may be where their memory is bounded
+--memory OCTETS             keep answers that weigh so much, from 65536 to
+                            1125899906842624, each 1024 and twice its octets; with K, M
+                            or G of 1024; 64M where --entries isn't said, and no bound
+                            by crate
 --stale SECONDS             give what has expired for so long where servers fail, from 0
                             to 604800; 86400, and 0 by crate
 --failure SECONDS           keep a failure for so long, from 1 to 300; 5, and 30 by crate

@@ -1,8 +1,8 @@
 -- What a forwarder is made of, as the options say.
-use Rattle.std.specs.Prelude.{ℕ, Option, None, Some}
+use Rattle.std.specs.Prelude.{ℕ, ◌==◌, if◌then◌else◌, Option, None, Some}
 use Rattle.std.specs.Ordering.{nat_cmp}
 use Rattle.client_request.specs.Limits.{limited}
-use Rattle.client_settings.specs.Settings.{CacheSettings, RedundantSettings, default_cache, default_redundant, seconds}
+use Rattle.client_settings.specs.Settings.{CacheSettings, RedundantSettings, default_cache, default_redundant, no_bound, seconds}
 use Rattle.client_settings.specs.Client.{default_transports}
 use Rattle.client_settings.specs.declared.settings.Settings.{Settings}
 use Rattle.client_settings.specs.declared.settings.Transports.{Transports}
@@ -25,15 +25,29 @@ abbrev pub failure_by : Policy → ℕ
 failure_by Plain = 30
 failure_by Practice = 5
 
+-- What the answers that are kept weigh together at most where that isn't said: 64 MiB in practice, and no bound where it is said how many they are.
+abbrev pub memory_by : Policy → Option ℕ → ℕ
+memory_by Plain entries = no_bound
+memory_by Practice None = 67108864
+memory_by Practice (Some n) = no_bound
+
+-- how many are kept where that isn't said: 100,000, and where something bounds what they weigh as many as may be
+abbrev pub entries_by : (memory : ℕ) → ℕ
+entries_by memory = if memory == no_bound then 100000 else 1000000000
+
 -- what is said, or else this
 abbrev pub said_or : ℕ → Option ℕ → ℕ
 said_or n None = n
 said_or n (Some said) = said
 
--- as by default, but for how many answers are kept, and for how long each kind of them
+abbrev pub memory_of : Options → ℕ
+memory_of o = said_or (memory_by o.policy o.entries) o.memory
+
+-- as by default, but for how many answers are kept, what they weigh, and for how long each kind of them
 abbrev pub cache_of : Options → CacheSettings
 cache_of o = record default_cache {
-  max_cache_entries = limited nat_cmp 1 1000000000 o.entries;
+  max_cache_entries = limited nat_cmp 1 1000000000 (said_or (entries_by (memory_of o)) o.entries);
+  max_cache_octets = limited nat_cmp 65536 no_bound (memory_of o);
   max_validity = limited nat_cmp (seconds 60) (seconds 6048000) (seconds o.max_ttl);
   transport_failure_duration = limited nat_cmp (seconds 1) (seconds 300) (seconds (said_or (failure_by o.policy) o.failure));
   misc_error_duration = limited nat_cmp (seconds 1) (seconds 300) (seconds (said_or (failure_by o.policy) o.failure));

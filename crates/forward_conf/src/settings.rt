@@ -21,6 +21,32 @@ const FAILURE: u64 = 5;
 /// The same by the client's own settings.
 const CLIENT_FAILURE: u64 = 30;
 
+/// What the answers that are kept weigh together at most in practice, in octets.
+const MEMORY: u64 = 67_108_864;
+
+/// How many answers are kept where nothing bounds what they weigh.
+const ENTRIES: u64 = 100_000;
+
+/// How many are kept at most where something does.
+const MOST_ENTRIES: u64 = 1_000_000_000;
+
+/// What the answers that are kept weigh together at most, where that isn't said: nothing bounds it where it is said how many they are.
+fn memory_by(policy: Policy, entries: Option<u64>) -> u64
+    ensures { result ≡ spec.memory_by policy entries }
+{
+    match (policy, entries) {
+        (Policy::Practice, None) => MEMORY,
+        (Policy::Practice, Some(_)) | (Policy::Plain, _) => u64::MAX,
+    }
+}
+
+/// How many answers are kept, where that isn't said and they may weigh so much.
+fn entries_by(memory: u64) -> u64
+    ensures { result ≡ spec.entries_by memory }
+{
+    if memory == u64::MAX { ENTRIES } else { MOST_ENTRIES }
+}
+
 /// For how long an answer that has expired is given, where that isn't said.
 fn stale_by(policy: Policy) -> u64
     ensures { result ≡ spec.stale_by policy }
@@ -45,11 +71,13 @@ fn failure_by(policy: Policy) -> u64
 pub fn cache_of(options: &Options) -> cache::Config
     ensures { result ≡ spec.cache_of options.now }
 {
+    let memory = options.memory.unwrap_or(memory_by(options.policy, options.entries));
     let stale = options.stale.unwrap_or(stale_by(options.policy));
     let failure = options.failure.unwrap_or(failure_by(options.policy));
     let negative = Duration::from_secs(options.max_negative_ttl);
     let mut config = cache::Config::new();
-    config.set_max_cache_entries(options.entries);
+    config.set_max_cache_entries(options.entries.unwrap_or(entries_by(memory)));
+    config.set_max_cache_octets(memory);
     config.set_max_validity(Duration::from_secs(options.max_ttl));
     config.set_max_nxdomain_validity(negative);
     config.set_max_nodata_validity(negative);

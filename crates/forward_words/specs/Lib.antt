@@ -1,3 +1,4 @@
+pub mod Memory
 pub mod Options
 pub mod Sentences
 pub mod Words

@@ -6,6 +6,7 @@ use Rattle.std.specs.Str.{bytes_eq}
 use Rattle.std.specs.String.{string_bytes}
 use Rattle.std.specs.declared.alloc.Global.{Global}
 use Rattle.command_parts.specs.Numbers.{number_in}
+use Rattle.forward_words.specs.Memory.{memory_in}
 use Rattle.dns_values.specs.Address.{IsAddressText}
 use Rattle.dns_values.specs.declared.address.IpAddr.{IpAddr}
 use Rattle.dns_values.specs.declared.address.IpAddr.TheVariants.{V4, V6}
@@ -33,7 +34,8 @@ abbrev pub nothing_said : Policy → Options
 nothing_said policy = record {
   listened = [];
   port = None;
-  entries = 100000;
+  entries = None;
+  memory = None;
   stale = None;
   failure = None;
   max_ttl = 604800;
@@ -58,6 +60,7 @@ unfoldable pub option_rows : List (Row Kind)
 option_rows =
     (codes "--listen", Whole, kinds.Listen)
     ∷ (codes "--policy", Whole, kinds.Policy)
+    ∷ (codes "--memory", Whole, kinds.Memory)
     ∷ (codes "--port", Whole, kinds.Number numbers.Port)
     ∷ (codes "--entries", Whole, kinds.Number numbers.Entries)
     ∷ (codes "--stale", Whole, kinds.Number numbers.Stale)
@@ -92,7 +95,7 @@ range_of numbers.PayloadSize = range 512 65535
 -- and what each says
 abbrev pub number_said : Number → ℕ → Options → Options
 number_said numbers.Port n o = record o { port = Some n }
-number_said numbers.Entries n o = record o { entries = n }
+number_said numbers.Entries n o = record o { entries = Some n }
 number_said numbers.Stale n o = record o { stale = Some n }
 number_said numbers.Failure n o = record o { failure = Some n }
 number_said numbers.MaxTtl n o = record o { max_ttl = n }
@@ -134,6 +137,9 @@ abbrev pub value_said : Number → List ℕ → Options → Said
 value_said number text o =
     ok_or (option_map (λ n. number_said number n o) (number_in (range_of number).least (range_of number).greatest text)) (wrongs.Number (range_of number).least (range_of number).greatest)
 
+abbrev pub memory_said : List ℕ → Options → Said
+memory_said text o = ok_or (option_map (λ n. record o { memory = Some n }) (memory_in text)) wrongs.Memory
+
 unfoldable pub policy_of : List ℕ → Option Policy
 policy_of text =
     if bytes_eq text (codes "crate") then Some policies.Plain
@@ -147,6 +153,7 @@ policy_said text o = ok_or (option_map (λ policy. record o { policy = policy })
 abbrev pub ValueGives : Kind → List ℕ → Options → Said → Type 0
 ValueGives kinds.Listen text o answer = ListenGives text o answer
 ValueGives kinds.Policy text o answer = answer ≡ policy_said text o
+ValueGives kinds.Memory text o answer = answer ≡ memory_said text o
 ValueGives (kinds.Number number) text o answer = answer ≡ value_said number text o
 
 -- What a call answers that takes a value, with what is said then.

@@ -12,6 +12,7 @@ use Rattle.forward_words.specs.declared.wrong.Wrong.TheVariants as wrongs
 -- what is wrong with the value of an option
 abbrev pub wrong_text : Wrong → List ℕ
 wrong_text (wrongs.Number least greatest) = codes "no number from " ++ decimal least ++ codes " to " ++ decimal greatest
+wrong_text wrongs.Memory = codes "no number of octets from 65536 to 1125899906842624, or of 1024 with K, M or G behind it"
 wrong_text wrongs.Address = codes "no address"
 wrong_text wrongs.Everywhere = codes "an address that stands for all of the host's can't be listened at"
 wrong_text wrongs.Mapped = codes "an address of IPv4 that is written as one of IPv6 can't be listened at"

@@ -47,6 +47,8 @@ pub(crate) enum Kind {
     Listen,
     /// How servers are asked.
     Policy,
+    /// What the answers that are kept weigh together at most.
+    Memory,
     /// A number.
     Number(Number),
 }
@@ -84,9 +86,10 @@ pub(crate) struct NumberRange {
 }
 
 /// The options, each by its whole name.
-const OPTIONS: [Row<Kind>; 12] = [
+const OPTIONS: [Row<Kind>; 13] = [
     ("--listen", Letters::Whole, Kind::Listen),
     ("--policy", Letters::Whole, Kind::Policy),
+    ("--memory", Letters::Whole, Kind::Memory),
     ("--port", Letters::Whole, Kind::Number(Number::Port)),
     ("--entries", Letters::Whole, Kind::Number(Number::Entries)),
     ("--stale", Letters::Whole, Kind::Number(Number::Stale)),
@@ -142,7 +145,7 @@ impl Options {
     {
         match number {
             Number::Port => self.port = Some(n as u16),
-            Number::Entries => self.entries = n,
+            Number::Entries => self.entries = Some(n),
             Number::Stale => self.stale = Some(n),
             Number::Failure => self.failure = Some(n),
             Number::MaxTtl => self.max_ttl = n,

@@ -18,6 +18,7 @@
 
 mod kind;
 mod laws;
+mod memory;
 mod options;
 mod taking;
 mod telling;

@@ -36,8 +36,10 @@ pub struct Options {
     pub listened: Seq<IpAddr>,
     /// The port at which every server is asked, in place of its own.
     pub port: Option<u16>,
-    /// How many answers are kept at most.
-    pub entries: u64,
+    /// How many answers are kept at most; as the policy and the memory have it where it isn't said.
+    pub entries: Option<u64>,
+    /// What the answers that are kept weigh together at most, in octets; as the policy has it where it isn't said.
+    pub memory: Option<u64>,
     /// For how long an answer that has expired is given where the servers fail, in seconds; as the policy has it where it isn't said.
     pub stale: Option<u64>,
     /// For how long a failure is kept, in seconds; as the policy has it where it isn't said.
@@ -59,15 +61,16 @@ pub struct Options {
 }
 
 impl Options {
-    /// What no option says: that it is listened at no address, and 100,000 answers are kept, each for a week at most and what is not
-    /// there for an hour.
+    /// What no option says: that it is listened at no address, and answers are kept for a week at most and what is not there for an
+    /// hour.
     fn new(alloc: Global, policy: Policy) -> Options
         ensures { result ≡ nothing_said policy }
     {
         Options {
             listened: Seq::new(alloc),
             port: None,
-            entries: 100_000,
+            entries: None,
+            memory: None,
             stale: None,
             failure: None,
             max_ttl: 604_800,
@@ -109,7 +112,8 @@ impl Options {
 /// |---|---|
 /// | `--listen` | an address of this host at which it is listened; several may be said; 127.0.0.1 where none is |
 /// | `--port` | the port at which every server is asked, in place of its own, from 1 to 65535 |
-/// | `--entries` | how many answers are kept, from 1 to 1000000000; 100000 where it isn't said |
+/// | `--entries` | how many answers are kept, from 1 to 1000000000 |
+/// | `--memory` | what the answers that are kept weigh together, in octets, from 65536 to 1125899906842624; with `K`, `M` or `G` behind the number it is of 1024 octets, of 1024 of these, or of 1024 of those |
 /// | `--stale` | for how many seconds an answer that has expired is given where the servers fail, from 0 to 604800 (RFC 8767) |
 /// | `--failure` | for how many seconds a failure is kept, from 1 to 300 (RFC 9520) |
 /// | `--max-ttl` | for how many seconds an answer is kept at most, from 60 to 6048000; 604800 where it isn't said |
@@ -121,7 +125,7 @@ impl Options {
 /// | `--bufsize` | the payload size that is announced to servers, from 512 to 65535 octets (RFC 6891) |
 /// | `--noedns` | no value: no payload size is announced to servers |
 ///
-/// Where `--stale`, `--failure`, `--sockets`, `--bufsize` and `--noedns` aren't said, it is as the policy has it; of the last two the
+/// Where `--entries`, `--memory`, `--stale`, `--failure`, `--sockets`, `--bufsize` and `--noedns` aren't said, it is as the policy has it; of the last two the
 /// last counts. The options end before the first word that is none of these, or has no value behind it and needs one. An address that stands for all of the host's, as
 /// 0.0.0.0, is refused, since an answer would not always come from the address that was asked; and so is one of IPv4 that is written as
 /// one of IPv6.

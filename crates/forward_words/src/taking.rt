@@ -2,9 +2,10 @@
 
 ghost use Rattle.std.specs.Prelude.{◌≡◌, ◌++◌, ◌∷◌, [], option_map, Some, None, Ok, Err, false, true};
 ghost use Rattle.command_parts.specs.Numbers.{number_in};
-ghost use Rattle.forward_words.specs.Options.{AllAnswer, Answers, ListenGives, ValueGives, fault_at, is_silent, policy_of, policy_said, value_said, why_not_listened};
+ghost use Rattle.forward_words.specs.Options.{AllAnswer, Answers, ListenGives, ValueGives, fault_at, is_silent, memory_said, policy_of, policy_said, value_said, why_not_listened};
 
 use crate::kind::{Kind, Number, kind_of, range_of};
+use crate::memory::memory_in;
 use crate::options::{Announced, Options, Policy};
 use crate::wrong::{Fault, Refusal, ValueFault, Wrong};
 use command_parts::number_in;
@@ -90,6 +91,18 @@ impl Options {
         }
     }
 
+    fn take_memory(&mut self, text: &str) -> Result<(), ValueFault>
+        ensures { Answers (λ o. o ≡ memory_said text.now self.old) result self.new }
+    {
+        match memory_in(text) {
+            Some(octets) => {
+                self.memory = Some(octets);
+                Ok(())
+            }
+            None => Err(ValueFault::Wrong(Wrong::Memory)),
+        }
+    }
+
     fn take_number(&mut self, number: Number, text: &str) -> Result<(), ValueFault>
         ensures { Answers (λ o. o ≡ value_said number text.now self.old) result self.new }
     {
@@ -113,6 +126,7 @@ impl Options {
         match kind {
             Kind::Listen => self.take_address(text),
             Kind::Policy => self.take_policy(text),
+            Kind::Memory => self.take_memory(text),
             Kind::Number(number) => self.take_number(number, text),
         }
     }

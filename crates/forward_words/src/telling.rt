@@ -17,6 +17,9 @@ impl Display for Wrong {
     fn fmt<W: fmt::Write>(&self, f: &mut fmt::Formatter<W>) -> fmt::Result {
         match self {
             Wrong::Number { least, greatest } => write!(f, "no number from {least} to {greatest}"),
+            Wrong::Memory => f.write_str(
+                "no number of octets from 65536 to 1125899906842624, or of 1024 with K, M or G behind it",
+            ),
             Wrong::Address => f.write_str("no address"),
             Wrong::Everywhere => f.write_str(
                 "an address that stands for all of the host's can't be listened at",

@@ -9,6 +9,8 @@ use dns_values::NoMemory;
 pub enum Wrong {
     /// It is no number from the least to the greatest that the option takes.
     Number { least: u64, greatest: u64 },
+    /// It is no size of memory from 65536 octets to a pebibyte.
+    Memory,
     /// It is no address.
     Address,
     /// It stands for all addresses of this host, so that an answer would not always come from the address that was asked.
