@@ -13,6 +13,7 @@ ghost use Rattle.client_request.specs.Response.{IsRefusal};
 ghost use Rattle.client_request.specs.declared.error.Error.TheVariants as errors;
 ghost use Rattle.std.specs.Borrow.{Lends, sem};
 ghost use Rattle.client_settings.specs.Settings.{default_cache};
+ghost use Rattle.client_cache.specs.Keeping.{weights};
 ghost use Rattle.client_cache.specs.Plain as plain;
 ghost use Rattle.client_cache.specs.Serving.{would_serve};
 
@@ -113,6 +114,13 @@ impl<CR, U: SendRequest<CR>> Connection<CR, U> {
         ensures { result ≡ length self.now.kept.table.entries }
     {
         self.kept.table.len()
+    }
+
+    /// What they weigh together: of each 1024, and twice the octets of its message.
+    pub fn weight(&self) -> u128
+        ensures { result ≡ weights self.now.kept.table.entries }
+    {
+        self.kept.table.weighs()
     }
 
     /// The transport below, which can so be called past the cache: what it posts later for a ticket of its own is handed

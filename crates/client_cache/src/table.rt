@@ -95,6 +95,13 @@ impl Table {
         self.entries.len()
     }
 
+    /// What the entries weigh together.
+    pub(crate) fn weighs(&self) -> u128
+        ensures { result ≡ weights self.now.entries }
+    {
+        self.weight
+    }
+
     /// What is kept under a key. An empty table says so at once, since a search would hash the key first.
     pub(crate) fn peek(&self, key: &Key) -> Option<&Entry>
         ensures { option_copied result ≡ plain.entry_under key.now self.now }

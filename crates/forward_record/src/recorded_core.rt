@@ -1,5 +1,6 @@
 //! The client within a forwarder, recorded.
 
+ghost use Rattle.client_cache.specs.Keeping.{weights};
 ghost use Rattle.std.specs.Prelude.{◌≡◌, length};
 ghost use Rattle.client_core.specs.Waiting.{wait_of};
 ghost use Rattle.forward_record.specs.Core.{IsRecordedStep, serves};
@@ -65,6 +66,13 @@ impl<K: Sink + Drop> RecordedCore<K> {
         ensures { result ≡ length self.now.client.layer.kept.table.entries }
     {
         self.client.layers().entry_count()
+    }
+
+    /// What they weigh together: of each 1024, and twice the octets of its message.
+    pub fn weight(&self) -> u128
+        ensures { result ≡ weights self.now.client.layer.kept.table.entries }
+    {
+        self.client.layers().weight()
     }
 
     /// Why the record ended; none while it goes on.

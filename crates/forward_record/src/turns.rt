@@ -74,7 +74,8 @@ pub(crate) fn turn_all<L: Sink, F: Front, C: Clock, W: Words, V: Watch, K: Sink 
         };
         tell_ended(alloc, was, forwarder.within().ended(), errors);
         let entries = forwarder.within().entry_count();
-        watch.turned(forwarder.waiting(), entries, &row);
+        let weight = forwarder.within().weight();
+        watch.turned(forwarder.waiting(), entries, weight, &row);
         let Some(more) = answered.checked_add(answers_in(&row) as u64) else {
             return Err(Error::NumbersUsed);
         };

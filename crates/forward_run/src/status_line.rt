@@ -31,7 +31,7 @@ struct Tally {
 ///
 /// `queries` counts those that were answered or wait. One that was answered is a hit where that was in the turn in which it came, and
 /// else a miss; and refused where the answer has no question. `waiting` is how many wait now. `stale` counts what had expired among the
-/// answers of both kinds. `entries` is how many results are kept now. `memory` is what the system holds for the program, in kibibytes, or 0 where it doesn't tell.
+/// answers of both kinds. `entries` is how many results are kept now, and `weight` what they weigh: of each 1024, and twice the octets of its message. `memory` is what the system holds for the program, in kibibytes, or 0 where it doesn't tell.
 #[derive(Drop)]
 pub struct StatusLine<O: OpenFile + Drop, K: Sink + Drop> {
     alloc: Global,
@@ -127,7 +127,7 @@ impl<O: OpenFile + Drop, K: Sink + Drop> StatusLine<O, K> {
         second_number(str::from_utf8(&buf[..count]).ok()?)
     }
 
-    fn write(&mut self, waiting: u64, entries: usize) {
+    fn write(&mut self, waiting: u64, entries: usize, weight: u128) {
         let Tally {
             hits,
             misses,
@@ -140,7 +140,7 @@ impl<O: OpenFile + Drop, K: Sink + Drop> StatusLine<O, K> {
             .saturating_add(waiting);
         let memory = self.pages().unwrap_or(0).saturating_mul(PAGE);
         if let Ok(line) = format!(in self.alloc;
-            "dns_forward: queries {queries}, hits {hits}, misses {misses}, refused {refused}, waiting {waiting}, stale {stale}, entries {entries}, memory {memory} KiB\n"
+            "dns_forward: queries {queries}, hits {hits}, misses {misses}, refused {refused}, waiting {waiting}, stale {stale}, entries {entries}, weight {weight}, memory {memory} KiB\n"
         ) {
             deliver(&mut self.errors, line.as_bytes());
         }
@@ -148,7 +148,7 @@ impl<O: OpenFile + Drop, K: Sink + Drop> StatusLine<O, K> {
 }
 
 impl<O: OpenFile + Drop, K: Sink + Drop> Watch for StatusLine<O, K> {
-    fn turned(&mut self, waiting: u64, entries: usize, row: &FrontRow) {
+    fn turned(&mut self, waiting: u64, entries: usize, weight: u128, row: &FrontRow) {
         let Some(every) = self.every else {
             return;
         };
@@ -158,6 +158,6 @@ impl<O: OpenFile + Drop, K: Sink + Drop> Watch for StatusLine<O, K> {
             return;
         }
         self.next = second.saturating_add(every);
-        self.write(waiting, entries);
+        self.write(waiting, entries, weight);
     }
 }

@@ -109,7 +109,8 @@ pub(crate) fn turn_all<F: Front, C: Clock, W: Words, V: Watch>(
             Ok(row) => row,
             Err(error) => return Err(error),
         };
-        watch.turned(forwarder.waiting(), forwarder.entry_count(), &row);
+        let entries = forwarder.entry_count();
+        watch.turned(forwarder.waiting(), entries, forwarder.weight(), &row);
         let Some(more) = answered.checked_add(answers_in(&row) as u64) else {
             return Err(Error::NumbersUsed);
         };

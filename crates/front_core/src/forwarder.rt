@@ -1,5 +1,6 @@
 //! The forwarder over the project's client.
 
+ghost use Rattle.client_cache.specs.Keeping.{weights};
 ghost use Rattle.std.specs.Prelude.{◌≡◌, length, true, false, Err, OnOk, OnErr, IfOk, IfErr, IsErrOf};
 ghost use Rattle.client_request.specs.Response.{IsRefusal};
 ghost use Rattle.client_core.specs.Waiting.{wait_of};
@@ -117,5 +118,12 @@ impl Forwarder {
         ensures { result ≡ length self.now.within.layer.kept.table.entries }
     {
         self.over.within().entry_count()
+    }
+
+    /// What they weigh together: of each 1024, and twice the octets of its message.
+    pub fn weight(&self) -> u128
+        ensures { result ≡ weights self.now.within.layer.kept.table.entries }
+    {
+        self.over.within().weight()
     }
 }

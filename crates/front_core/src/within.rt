@@ -1,5 +1,6 @@
 //! The project's client within a forwarder.
 
+ghost use Rattle.client_cache.specs.Keeping.{weights};
 ghost use Rattle.std.specs.Prelude.{◌≡◌, length};
 ghost use Rattle.client_core.specs.Waiting.{wait_of};
 ghost use Rattle.front_core.specs.Core.{IsCoreStep, core_serves};
@@ -47,6 +48,13 @@ impl Core {
         ensures { result ≡ length self.now.layer.kept.table.entries }
     {
         self.client.layers().entry_count()
+    }
+
+    /// What they weigh together.
+    pub(crate) fn weight(&self) -> u128
+        ensures { result ≡ weights self.now.layer.kept.table.entries }
+    {
+        self.client.layers().weight()
     }
 
     /// How long whoever holds the client may wait for something to happen, in microseconds from the moment of its last event on.
