@@ -34,4 +34,4 @@ module _ (room : ℕ) (some : 0 < room) where
 
 pub entries_are_few : EntriesAreFew
 entries_are_few given redundant cache conf words rows trace last left forwards =
-    (rows_keep (room_of cache) (omega arith) (beginning (started_with given redundant cache conf)) words rows trace last left (refl, omega arith) forwards).1
+    (rows_keep (room_of cache).entries (omega arith) (beginning (started_with given redundant cache conf)) words rows trace last left (refl, omega arith) forwards).1

@@ -1,16 +1,16 @@
 -- A cache has no more entries than it may have.
-use Rattle.std.proofs.Common.{◌≡◌, ℕ, suc, ◌-◌, ◌≤◌, ◌<◌, List, [], ◌∷◌, length, take, Option, Some, None, cond, Bool, true, false, refl, subst, ap, arith}
-use Rattle.std.specs.Prelude.{◌==◌, min, Result, Ok, Err, if◌then◌else◌}
+use Rattle.std.proofs.Common.{◌≡◌, ℕ, suc, ◌-◌, ◌≤◌, ◌<◌, List, [], ◌∷◌, length, Option, Some, None, cond, Bool, true, false, refl, subst, ap, arith}
+use Rattle.std.specs.Prelude.{◌==◌, nat_le, Result, Ok, Err, if◌then◌else◌}
 use Rattle.std.specs.Map.{lookup_entry, remove_entry}
 use Rattle.std.specs.Option.{option_map_or}
-use Rattle.std.proofs.lemmas.List.{length-take}
 use Rattle.client_cache.specs.Keeping as keeping
-use Rattle.client_cache.specs.Keeping.{Entry, Outcome, Spare, Table, clears_rd, derived, entry_under, first_kept, is_own, keeps_derived, keeps_for, same_class, stores, stores_with_rd, takes_other, takes_own, uses, with_flags}
+use Rattle.client_cache.specs.Keeping.{Entry, Outcome, Spare, Table, clears_rd, derived, entry_under, first_kept, is_own, keeps_derived, keeps_for, same_class, stores, stores_with_rd, takes_other, takes_own, uses, weight_of, with_flags, with_room}
 use Rattle.client_cache.specs.Plain as plain
 use Rattle.client_cache.specs.Plain.{Cached, Job, Kept, Reading, Response, drops_below, gives, gives_result, gives_instead, gives_outcome, gives_part, goes, settled, settled_after, settles, settles_all, settles_for, transport, way_asked, way_for, way_looked, way_of, with_table}
 use Rattle.client_cache.specs.declared.steps.Way.{Way}
 use Rattle.client_cache.specs.declared.steps.Way.TheVariants.{Asks, Given}
 use Rattle.client_cache.specs.declared.table.Flags.{Flags}
+use Rattle.client_cache.proofs.Weighing.{fit_in}
 use Rattle.cache_rules.specs.Key.{flag_class, same_key}
 use Rattle.cache_rules.specs.Validity.{kept_for}
 use Rattle.client_request.specs.Board.{Part}
@@ -35,6 +35,15 @@ found_size test (e ∷ es) x is = go (test e.0) is (found_size test es x)
     go true at ih = refl
     go false at ih = ap suc (ih at)
 
+-- what is taken out leaves no more than were there
+fewer : (test : Key → Bool) (es : Entries) → length (remove_entry test es) ≤ length es
+fewer test [] = omega arith
+fewer test (e ∷ es) = go (test e.0) (fewer test es)
+  where
+    go : (b : Bool) → length (remove_entry test es) ≤ length es → length (cond b es (e ∷ remove_entry test es)) ≤ suc (length es)
+    go true ih = omega arith
+    go false ih = omega arith
+
 promoted_size : (test : Key → Bool) (es : Entries) → length (promoted test es) ≡ length es
 promoted_size test es = go (lookup_entry test es) refl
   where
@@ -45,20 +54,20 @@ promoted_size test es = go (lookup_entry test es) refl
 module _ (room : ℕ) (some : 0 < room) where
   -- a table has as many entries as it may at most
   abbrev pub Fits : Table → Type 0
-  Fits t = (t.cap ≡ room) × (length t.entries ≤ room)
+  Fits t = (t.room.entries ≡ room) × (length t.entries ≤ room)
 
   uses_fits : (k : Key) (t : Table) → Fits t → Fits (uses k t)
   uses_fits k t fits = let same = promoted_size (same_key k) t.entries in (fits.0, omega (arith, fits.1))
 
   stores_fits : (k : Key) (e : Entry) (t : Table) → Fits t → Fits (stores k e t)
-  stores_fits k e t fits = (fits.0, go (lookup_entry (same_key k) t.entries) refl)
+  stores_fits k e t fits = (fits.0, go (nat_le (weight_of e) t.room.octets))
     where
-      go : (o : Option (Key × Entry)) → lookup_entry (same_key k) t.entries ≡ o → length (option_map_or (λ x. (x.0, e) ∷ remove_entry (same_key k) t.entries) o ((k, e) ∷ take (t.cap - 1) t.entries)) ≤ room
-      go None at = (
-          let size = length-take (t.cap - 1) t.entries in
-          let less : min (t.cap - 1) (length t.entries) ≤ t.cap - 1 = omega arith in
-          omega (arith, fits.0, some))
-      go (Some x) at = let size = found_size (same_key k) t.entries x at in omega (arith, fits.1)
+      abbrev left : Entries
+      left = remove_entry (same_key k) t.entries
+
+      go : (b : Bool) → length (if b then (k, e) ∷ with_room (t.room.entries - 1) (t.room.octets - weight_of e) left else left) ≤ room
+      go true = let few = (fit_in left (t.room.entries - 1) (t.room.octets - weight_of e)).0 in omega (arith, fits.0, some)
+      go false = let few = fewer (same_key k) t.entries in omega (arith, fits.1)
 
   -- ---- what a request finds
 

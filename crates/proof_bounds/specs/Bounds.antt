@@ -48,4 +48,4 @@ StreamsKeepLittle = (given : Transports) (redundant : RedundantSettings) (cache 
 -- The client within keeps at most as many results as it may, and one where it may keep none.
 abbrev pub EntriesAreFew : Type 0
 EntriesAreFew = (given : Transports) (redundant : RedundantSettings) (cache : CacheSettings) (conf : ResolvConf) (words : ℕ → ℕ) (rows : List FrontRow) (trace : List Row) (last : Forwarding Whole) (left : ℕ → ℕ)
-    → Forwards (beginning (started_with given redundant cache conf)) words rows trace last left → length last.within.layer.kept.table.entries ≤ room_of cache
+    → Forwards (beginning (started_with given redundant cache conf)) words rows trace last left → length last.within.layer.kept.table.entries ≤ (room_of cache).entries
