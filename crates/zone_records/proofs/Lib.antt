@@ -12,3 +12,4 @@ pub mod Ordered
 pub mod Searching
 pub mod Changed
 pub mod Wholes
+pub mod Fronts

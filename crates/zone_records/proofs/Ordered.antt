@@ -1,12 +1,15 @@
 -- Records that are sorted, and then each kept once.
-use Rattle.std.proofs.Common.{◌≡◌, Bool, true, false, List, [], ◌∷◌, refl, sym, ap, subst, ◌∙◌}
+use Rattle.std.proofs.Common.{◌≡◌, ◌<◌, Bool, true, false, List, [], ◌∷◌, length, refl, sym, ap, subst, ◌∙◌, arith}
 use Rattle.std.specs.Prelude.{◌||◌, cond}
-use Rattle.std.specs.List.{dedup, dedup_from}
+use Rattle.std.specs.declared.cmp.Ordering.{Ordering}
+use Rattle.std.specs.declared.cmp.Ordering.TheVariants.{Equal, Greater, Less}
+use Rattle.std.specs.List.{AllByRecursion, dedup, dedup_from}
 use Rattle.std.specs.List.Retain.{IsFiltered, DiffersFromLast}
 use Rattle.std.specs.List.Sorted.{IsPermutation, IsSorted, IsStrictlySortedBy}
 use Rattle.std.proofs.lemmas.List.Filters.{dedup_is}
 use Rattle.std.proofs.lemmas.List.Kept.{IsStrictlySortedBy-dedup}
 use Rattle.std.proofs.lemmas.List.Sorted.{list_any-IsPermutation}
+use Rattle.zone_records.specs.Changing.{is_below, is_less}
 use Rattle.zone_records.specs.Folding.{has}
 use Rattle.zone_records.specs.Records.{record_cmp, record_total, is_same}
 use Rattle.zone_records.specs.declared.record.ZoneRecord.{ZoneRecord}
@@ -37,3 +40,40 @@ same_records old mid new moved kept r =
 
 pub is_ordered : (mid new : List ZoneRecord) → IsSorted record_cmp mid → IsFiltered (DiffersFromLast is_same) [] mid new → IsStrictlySortedBy record_cmp new
 is_ordered mid new sorted kept = subst (IsStrictlySortedBy record_cmp) (sym (dedup_is is_same mid new kept)) (IsStrictlySortedBy-dedup record_total (λ x y. refl) mid sorted)
+
+-- ---- records that are in order already
+
+abbrev Ascends : List ZoneRecord → Type 0
+Ascends records = IsStrictlySortedBy record_cmp records
+
+-- Where the records that are left are in order, all are.
+pub record Left (rest records : List ZoneRecord) : Type 0 where
+  pub whole : Ascends rest → Ascends records
+
+less : (o : Ordering) → is_less o ≡ true → o ≡ Less
+less Less h = refl
+less Equal h = absurd cc
+less Greater h = absurd cc
+
+all_above : (x y : ZoneRecord) (others : List ZoneRecord) → record_cmp x y ≡ Less → AllByRecursion (λ z. record_cmp y z ≡ Less) others → AllByRecursion (λ z. record_cmp x z ≡ Less) others
+all_above x y [] first h = tt
+all_above x y (z ∷ others) first h = (record_total.trans x y z first h.0, all_above x y others first h.1)
+
+on_top : (x : ZoneRecord) (others : List ZoneRecord) → is_below x others ≡ true → Ascends others → Ascends (x ∷ others)
+unfolding IsStrictlySortedBy
+on_top x [] below h = (tt, tt)
+on_top x (y ∷ others) below h = let first = less (record_cmp x y) below in ((first, all_above x y others first h.0), h)
+
+pub all_left : (rest records : List ZoneRecord) → rest ≡ records → Left rest records
+all_left rest records same = record { whole = λ h. subst Ascends same h }
+
+pub one_less : (x : ZoneRecord) (rest behind records : List ZoneRecord) → rest ≡ x ∷ behind → is_below x behind ≡ true → Left rest records → Left behind records
+one_less x rest behind records is below left = record { whole = λ h. left.whole (subst Ascends (sym is) (on_top x behind below h)) }
+
+nothing_ascends : Ascends []
+unfolding IsStrictlySortedBy
+nothing_ascends = tt
+
+pub none_left : (rest records : List ZoneRecord) → length rest < 1 → Left rest records → Ascends records
+none_left [] records none left = left.whole nothing_ascends
+none_left (x ∷ rest) records none left = absurd (omega arith)

@@ -3,7 +3,9 @@ use Rattle.std.specs.Prelude.{◌≡◌, ℕ, not, ◌&&◌, ◌||◌, Bool, tru
 use Rattle.zone_reading.specs.declared.steps.Update.{Update}
 use Rattle.zone_reading.specs.declared.steps.Update.TheVariants.{DeleteAllRecords, BeginBatchDelete, DeleteRecord, BeginBatchAdd, AddRecord, Finished}
 use Rattle.zone_records.specs.Folding.{Records, folded, folded_one, has, misses, missing}
-use Rattle.zone_records.specs.Records.{is_same, is_soa}
+use Rattle.std.specs.declared.cmp.Ordering.{Ordering}
+use Rattle.std.specs.declared.cmp.Ordering.TheVariants.{Equal, Greater, Less}
+use Rattle.zone_records.specs.Records.{is_same, is_soa, record_cmp}
 use Rattle.zone_records.specs.declared.changes.Changes.{Changes}
 use Rattle.zone_records.specs.declared.record.ZoneRecord.{ZoneRecord}
 
@@ -68,3 +70,15 @@ added_by (Finished _ _) = []
 abbrev pub all_added : List (Update ZoneRecord) → List ZoneRecord
 all_added [] = []
 all_added (u ∷ us) = added_by u ++ all_added us
+
+-- ---- records in order
+
+abbrev pub is_less : Ordering → Bool
+is_less Less = true
+is_less Equal = false
+is_less Greater = false
+
+-- A record is below the first of others, if there is one.
+abbrev pub is_below : ZoneRecord → List ZoneRecord → Bool
+is_below x [] = true
+is_below x (y ∷ others) = is_less (record_cmp x y)

@@ -1,3 +1,4 @@
+pub mod Octets
 pub mod Records
 pub mod Interpreting
 pub mod Folding

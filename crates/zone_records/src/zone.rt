@@ -8,7 +8,7 @@ ghost use Rattle.zone_records.specs.declared.zone.ApplyFault.TheVariants as appl
 
 use crate::Update;
 use crate::bringing::bring;
-use crate::ordering::order;
+use crate::ordering::order_unless_ordered;
 use crate::record::ZoneRecord;
 use dns_base::{Name, NoMemory, Serial};
 use std::alloc::Global;
@@ -142,7 +142,7 @@ impl Zone {
         ensures records { (r : ZoneRecord) → has result.records r ≡ has records.items r }
     {
         let mut records = records;
-        order(&mut records);
+        order_unless_ordered(&mut records);
         Zone {
             alloc,
             apex,

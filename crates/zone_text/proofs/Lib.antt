@@ -10,3 +10,6 @@ pub mod ReadBack
 pub mod OnlyDigits
 pub mod NumbersBack
 pub mod Worked
+pub mod Taken
+pub mod Tables
+pub mod HeldBack

@@ -67,7 +67,7 @@ rest_above [] h = refl
 rest_above (label ∷ labels) h =
     above_append ((46 ∷ []) ++ label_text label) (flat_map (λ (l : List ℕ). (46 ∷ []) ++ label_text l) labels) (above_more 46 (label_text label) (omega arith) (label_above label h.0)) (rest_above labels h.1)
 
-name_above : (labels : Labels) → AreOctets labels → is_above (name_text labels) ≡ true
+pub name_above : (labels : Labels) → AreOctets labels → is_above (name_text labels) ≡ true
 name_above [] h = refl
 name_above (label ∷ labels) h = above_append (label_text label) (flat_map (λ (l : List ℕ). (46 ∷ []) ++ label_text l) labels) (label_above label h.0) (rest_above labels h.1)
 

@@ -77,15 +77,21 @@ types_high : begin_high type_names ≡ true
 unfolding type_names
 types_high = refl
 
-pub no_class : (n : ℕ) → n < 2 ^ 64 → class_of_text (decimal n) ≡ None
-no_class n h =
-    let first = first_digit (decimal n) (decimal_nonempty n h) (decimal_digits n h) in
+pub digits_no_class : (word : List ℕ) → 0 < length word → all_ascii_digits word ≡ true → class_of_text word ≡ None
+digits_no_class word some all =
+    let first = first_digit word some all in
     ap class_of_text first.2 ∙ no_number class_names 67 (codes "LASS") first.0 first.1 classes_high refl (digit_high first.0 first.3)
 
-pub no_type : (n : ℕ) → n < 2 ^ 64 → type_of_text (decimal n) ≡ None
-no_type n h =
-    let first = first_digit (decimal n) (decimal_nonempty n h) (decimal_digits n h) in
+pub digits_no_type : (word : List ℕ) → 0 < length word → all_ascii_digits word ≡ true → type_of_text word ≡ None
+digits_no_type word some all =
+    let first = first_digit word some all in
     ap type_of_text first.2 ∙ no_number type_names 84 (codes "YPE") first.0 first.1 types_high refl (digit_high first.0 first.3)
+
+pub no_class : (n : ℕ) → n < 2 ^ 64 → class_of_text (decimal n) ≡ None
+no_class n h = digits_no_class (decimal n) (decimal_nonempty n h) (decimal_digits n h)
+
+pub no_type : (n : ℕ) → n < 2 ^ 64 → type_of_text (decimal n) ≡ None
+no_type n h = digits_no_type (decimal n) (decimal_nonempty n h) (decimal_digits n h)
 
 -- ---- lower-case digits
 

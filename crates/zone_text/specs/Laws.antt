@@ -1,9 +1,10 @@
 -- What was printed is read.
-use Rattle.std.specs.Prelude.{◌≡◌, ◌<◌, ◌^◌, ℕ, List, map, Ok}
+use Rattle.std.specs.Prelude.{◌≡◌, ◌<◌, ◌^◌, ◌⊎◌, ℕ, List, map, Ok}
 use Rattle.std.specs.Char.{to_ascii_lowercase}
 use Rattle.std.specs.List.{AllByRecursion}
 use Rattle.dns_names.specs.Name.{AreOctets, IsLegal, Labels, spelling}
 use Rattle.zone_records.specs.Folding.{Zone}
+use Rattle.zone_records.specs.Held.{AllHeld}
 use Rattle.zone_records.specs.declared.record.ZoneRecord.{ZoneRecord}
 use Rattle.zone_text.specs.Lines.{IsText}
 use Rattle.zone_text.specs.Numbers.{numbers_text}
@@ -33,3 +34,8 @@ NumbersBackLaw = (records : List ZoneRecord) → AllByRecursion IsWritable recor
 -- No text that has a flaw has a zone.
 abbrev pub FlawLaw : Type 0
 FlawLaw = (text : List ℕ) (apex : Labels) (flaw : Flaw) (zone : Zone) → HasFlaw text apex (NoZone flaw) → ¬ (IsZoneIn text apex zone)
+
+-- A text of the records of a zone, in either form, has no record but those that the zone may hold, if it has no other.
+abbrev pub HeldBackLaw : Type 0
+HeldBackLaw = (old zone : Zone) (text : List ℕ) → AllHeld old → AllByRecursion IsWritable old.records → IsText old.records text ⊎ (text ≡ numbers_text old.records)
+    → IsZoneIn text old.apex zone → AllHeld zone

@@ -1,6 +1,7 @@
 pub mod Lines
 pub mod Words
 pub mod Saying
+pub mod Taking
 pub mod Numbers
 pub mod Zones
 pub mod Telling

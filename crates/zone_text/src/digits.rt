@@ -2,7 +2,7 @@
 
 ghost use Rattle.std.specs.Prelude.{◌≡◌, ◌++◌, ◌∷◌, ◌<◌, length, None, Some, IfOk, IfSome, MatchOption, OnOk};
 ghost use Rattle.dns_presentation.specs.Octets.{hex_digit, hex_text, hex_value, octets_of_hex};
-ghost use Rattle.zone_text.specs.Saying.{TellsOctets, octet_says};
+ghost use Rattle.zone_text.specs.Saying.{PutsOctets, TellsOctets, octet_says};
 
 use dns_base::NoMemory;
 use std::alloc::Global;
@@ -30,17 +30,19 @@ pub(crate) fn push_digits(text: &mut Vec<u8>, octets: &[u8]) -> Result<(), NoMem
     Ok(())
 }
 
+/// The number that each octet writes as a digit of either case, and 255 for what is no digit.
+static VALUES: [u8; 256] =
+    *b"\xff\xff\xff\xff\xff\xff\xff\xff\xff\xff\xff\xff\xff\xff\xff\xff\xff\xff\xff\xff\xff\xff\xff\xff\xff\xff\xff\xff\xff\xff\xff\xff\xff\xff\xff\xff\xff\xff\xff\xff\xff\xff\xff\xff\xff\xff\xff\xff\x00\x01\x02\x03\x04\x05\x06\x07\x08\x09\xff\xff\xff\xff\xff\xff\xff\x0a\x0b\x0c\x0d\x0e\x0f\xff\xff\xff\xff\xff\xff\xff\xff\xff\xff\xff\xff\xff\xff\xff\xff\xff\xff\xff\xff\xff\xff\xff\xff\xff\xff\x0a\x0b\x0c\x0d\x0e\x0f\xff\xff\xff\xff\xff\xff\xff\xff\xff\xff\xff\xff\xff\xff\xff\xff\xff\xff\xff\xff\xff\xff\xff\xff\xff\xff\xff\xff\xff\xff\xff\xff\xff\xff\xff\xff\xff\xff\xff\xff\xff\xff\xff\xff\xff\xff\xff\xff\xff\xff\xff\xff\xff\xff\xff\xff\xff\xff\xff\xff\xff\xff\xff\xff\xff\xff\xff\xff\xff\xff\xff\xff\xff\xff\xff\xff\xff\xff\xff\xff\xff\xff\xff\xff\xff\xff\xff\xff\xff\xff\xff\xff\xff\xff\xff\xff\xff\xff\xff\xff\xff\xff\xff\xff\xff\xff\xff\xff\xff\xff\xff\xff\xff\xff\xff\xff\xff\xff\xff\xff\xff\xff\xff\xff\xff\xff\xff\xff\xff\xff\xff\xff\xff\xff\xff\xff\xff\xff\xff\xff\xff\xff\xff\xff\xff\xff\xff\xff\xff\xff\xff\xff\xff";
+
 /// The number that a digit of either case writes.
+#[inline(always)]
+#[tactic(auto, using(crate::proofs::Tables::is_digit, crate::proofs::Tables::no_digit))]
 fn hex_value(digit: u8) -> Option<u8>
     ensures value { result ≡ hex_value digit }
     ensures range { IfSome result (λ n. n < 16) }
 {
-    match digit {
-        b'0'..=b'9' => Some(digit - b'0'),
-        b'A'..=b'F' => Some(digit - b'A' + 10),
-        b'a'..=b'f' => Some(digit - b'a' + 10),
-        _ => None,
-    }
+    let value = VALUES[usize::from(digit)];
+    if value < 16 { Some(value) } else { None }
 }
 
 /// The octet that two digits write.
@@ -60,21 +62,32 @@ fn first_two(text: &[u8]) -> Option<(u8, u8, &[u8])>
     }
 }
 
-/// The octets that digits write, two for each.
+/// Puts the octets that digits write, two for each, in place of others. Tells whether the digits write octets.
 #[tactic(auto, using(crate::proofs::Spelled::nothing_before, crate::proofs::Spelled::whole_read, crate::proofs::Spelled::one_digit))]
-pub(crate) fn octets_of(alloc: Global, digits: &[u8]) -> Result<Option<Vec<u8>>, NoMemory>
-    ensures { IfOk result (TellsOctets (octets_of_hex digits.now)) }
+pub(crate) fn put_octets(octets: &mut Vec<u8>, digits: &[u8]) -> Result<bool, NoMemory>
+    ensures { IfOk result (λ is_read. PutsOctets (octets_of_hex digits.now) is_read octets.new.items) }
 {
-    let mut octets = Vec::with_capacity(alloc, digits.len() / 2)?;
+    octets.clear();
     let mut rest = digits;
     while let Some((high, low, behind)) = first_two(rest) {
         let Some(octet) = octet_of(high, low) else {
-            return Ok(None);
+            return Ok(false);
         };
         octets.push(octet)?;
         rest = behind;
     }
     if rest.is_empty() {
+        return Ok(true);
+    }
+    Ok(false)
+}
+
+/// The octets that digits write, two for each.
+pub(crate) fn octets_of(alloc: Global, digits: &[u8]) -> Result<Option<Vec<u8>>, NoMemory>
+    ensures { IfOk result (TellsOctets (octets_of_hex digits.now)) }
+{
+    let mut octets = Vec::with_capacity(alloc, digits.len() / 2)?;
+    if put_octets(&mut octets, digits)? {
         Ok(Some(octets))
     } else {
         Ok(None)

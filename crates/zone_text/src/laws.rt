@@ -1,6 +1,6 @@
 //! What holds of texts.
 
-ghost use Rattle.zone_text.specs.Laws.{FlawLaw, NumbersBackLaw, ReadBackLaw};
+ghost use Rattle.zone_text.specs.Laws.{FlawLaw, HeldBackLaw, NumbersBackLaw, ReadBackLaw};
 
 /// The text of records says these records, in their order.
 pub fn read_back_law()
@@ -15,4 +15,9 @@ pub fn numbers_back_law()
 /// No octets of which a flaw is told have a zone.
 pub fn flaw_law()
     ensures { FlawLaw }
+{}
+
+/// What is read back of a zone's text is what the zone may hold, if the zone had nothing else.
+pub fn held_back_law()
+    ensures { HeldBackLaw }
 {}

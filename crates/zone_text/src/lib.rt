@@ -15,11 +15,14 @@
 //!   that is wrong, and how: it is no record, or an SOA of another zone, a second one, or one without a serial.
 //! - `read_back_law`, `numbers_back_law`, `flaw_law`: what either form prints is read back as those records; no text of
 //!   which a flaw is told has a zone.
+//! - `held_back_law`: where a zone has no record but those that it may hold, what is read back of its text has no other.
 //!
 //! # Why it is so
 //!
 //! - **Each record's data is said twice**, in its form and in hexadecimal digits behind the last semicolon, of which
 //!   just the second is read back: so no form needs a reader.
+//! - **A line in numbers is read in one walk** (`numbers`), into octets that each line uses again; what is written in another
+//!   way is left to the words, one by one, so each line says what the words say.
 //! - **Lines may stand in any order**, since a zone is made of records in any, and in theirs by one walk.
 #![tactic(auto)]
 
@@ -28,12 +31,13 @@ mod digits;
 mod fault;
 mod laws;
 mod lines;
+mod numbers;
 mod reading;
 mod shown;
 mod telling;
 mod zone;
 
 pub use fault::{LinePart, WrongLine};
-pub use laws::{flaw_law, numbers_back_law, read_back_law};
+pub use laws::{flaw_law, held_back_law, numbers_back_law, read_back_law};
 pub use lines::write_text;
 pub use zone::{Flaw, Unread, zone_of};

@@ -8,6 +8,7 @@ ghost use Rattle.zone_text.specs.Saying.{Tells, TellsOctets, TellsPart, digits_s
 use crate::cutting::{behind_last, cut_at};
 use crate::digits::octets_of;
 use crate::fault::{LinePart, PartFault};
+use crate::numbers::Drafts;
 use dns_base::{Class, Name, NameFault, NoMemory, Rtype, Ttl};
 use dns_values::decimal_number;
 use std::alloc::Global;
@@ -139,8 +140,8 @@ fn record_says(
     })
 }
 
-/// The record of a line without its line feed.
-fn line_says(alloc: Global, line: &str) -> Result<ZoneRecord, PartFault>
+/// The record of a line without its line feed, whose words may be names.
+fn words_say(alloc: Global, line: &str) -> Result<ZoneRecord, PartFault>
     ensures { Tells (line_says line.now) result }
 {
     let (owner, behind_owner) = cut_word(line)?;
@@ -150,9 +151,23 @@ fn line_says(alloc: Global, line: &str) -> Result<ZoneRecord, PartFault>
     record_says(alloc, owner, ttl, class, rtype, content)
 }
 
+/// The record of a line without its line feed.
+fn line_says(alloc: Global, drafts: &mut Drafts, line: &str) -> Result<ZoneRecord, PartFault>
+    ensures { Tells (line_says line.now) result }
+{
+    match drafts.numbers_say(alloc, line.as_bytes())? {
+        Some(item) => Ok(item),
+        None => words_say(alloc, line),
+    }
+}
+
 /// The record of the line that begins a text, and what stands behind the line.
 #[tactic(auto, using(crate::proofs::Cuts::cut_shorter))]
-pub(crate) fn first_says(alloc: Global, text: &str) -> Result<(ZoneRecord, &str), PartFault>
+pub(crate) fn first_says<'a>(
+    alloc: Global,
+    drafts: &mut Drafts,
+    text: &'a str,
+) -> Result<(ZoneRecord, &'a str), PartFault>
     ensures read { IfOk result (λ x. first_says text.now ≡ Ok (x.0, x.1.now)) }
     ensures wrong { IfErr result (λ e. TellsPart (first_says text.now) e) }
     ensures shorter { IfOk result (λ x. length x.1.now < length text.now) }
@@ -160,7 +175,7 @@ pub(crate) fn first_says(alloc: Global, text: &str) -> Result<(ZoneRecord, &str)
     let Some((line, behind)) = cut_at(text, '\n') else {
         return Err(PartFault::Wrong(LinePart::End));
     };
-    match line_says(alloc, line) {
+    match line_says(alloc, drafts, line) {
         Ok(item) => Ok((item, behind)),
         Err(fault) => Err(fault),
     }

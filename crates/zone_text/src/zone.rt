@@ -5,6 +5,7 @@ ghost use Rattle.zone_text.specs.Saying.{TellsFault, TellsPart, first_says, text
 ghost use Rattle.zone_text.specs.Zones.{HasFlaw, IsZoneIn, first_serial, is_at, own_soa_says, serial_after, serial_of, serial_said, soa_says};
 
 use crate::fault::{LinePart, PartFault, TextFault, WrongLine};
+use crate::numbers::Drafts;
 use crate::reading::first_says;
 use dns_base::{Name, ParsedName, Serial, ToName, is_same_name};
 use std::alloc::Global;
@@ -87,6 +88,7 @@ fn serial_after(apex: &Name, found: Option<u32>, item: &ZoneRecord) -> Result<Op
 #[tactic(auto, using(crate::proofs::Zones::first_fault, crate::proofs::Zones::first_no_soa))]
 fn first_in<'a>(
     alloc: Global,
+    drafts: &mut Drafts,
     apex: &Name,
     found: Option<u32>,
     text: &'a str,
@@ -96,7 +98,7 @@ fn first_in<'a>(
     ensures wrong { IfErr result (TellsPart (first_serial apex.now found text.now)) }
     ensures shorter { IfOk result (λ x. length x.2.now < length text.now) }
 {
-    let (item, behind) = match first_says(alloc, text) {
+    let (item, behind) = match first_says(alloc, drafts, text) {
         Ok(first) => first,
         Err(fault) => return Err(fault),
     };
@@ -118,11 +120,12 @@ fn lines_of(
     ensures wrong { IfErr result (TellsFault (serial_said apex.now text.now)) }
 {
     let mut records = Vec::new(alloc);
+    let mut drafts = Drafts::new(alloc);
     let mut found = None;
     let mut rest = text;
     let mut line = 1;
     while !rest.is_empty() {
-        match first_in(alloc, apex, found, rest) {
+        match first_in(alloc, &mut drafts, apex, found, rest) {
             Ok((item, serial, behind)) => {
                 if records.push(item).is_err() {
                     return Err(TextFault::NoMemory);
