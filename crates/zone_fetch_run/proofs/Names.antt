@@ -1,10 +1,13 @@
 -- Numbers and names that are added to a text.
-use Rattle.std.proofs.Common.{◌≡◌, ◌<◌, ◌≤◌, ◌/◌, ◌%◌, ◌+◌, ◌^◌, ℕ, List, [], ◌∷◌, ◌++◌, refl, sym, ap, ◌∙◌, arith, append_assoc}
+use Rattle.std.proofs.Common.{◌≡◌, ◌<◌, ◌≤◌, ◌/◌, ◌%◌, ◌+◌, ◌^◌, ℕ, List, [], ◌∷◌, ◌++◌, take, drop, refl, sym, ap, ◌∙◌, arith, append_assoc}
 use Rattle.std.proofs.lemmas.Fmt.{decimal_digit, decimal_step}
 use Rattle.std.specs.Fmt.{decimal}
-use Rattle.std.specs.List.{flat_map}
+use Rattle.std.proofs.lemmas.List.{take-append-drop}
+use Rattle.std.specs.List.{AllByRecursion, flat_map}
 use Rattle.dns_names.specs.Name.{Labels}
-use Rattle.dns_names.specs.Text.{label_text, name_text}
+use Rattle.dns_names.specs.Text.{label_text, name_text, octet_text}
+use Rattle.zone_text.specs.Taking.{IsPlain}
+use Rattle.zone_text.proofs.Taken.{plain_text}
 use Rattle.zone_fetch_run.proofs.Writing.{nil_right}
 
 -- ---- numbers
@@ -36,3 +39,18 @@ name_on labels rest label now dot next all e d n so_far =
 
 pub name_ended : (labels : Labels) (now all : List ℕ) → labels ≡ [] → now ++ dotted labels ≡ all → now ≡ all
 name_ended labels now all e so_far = sym (nil_right now) ∙ (ap (λ (ls : Labels). now ++ dotted ls) (sym e) ∙ so_far)
+
+-- ---- labels whose first octets are printed as they are
+
+both_texts : (a b : List ℕ) → label_text a ++ label_text b ≡ label_text (a ++ b)
+both_texts [] b = refl
+both_texts (c ∷ a) b = append_assoc (octet_text c) (label_text a) (label_text b) ∙ ap (λ (xs : List ℕ). octet_text c ++ xs) (both_texts a b)
+
+pub plain_front : (old mid new label plain rest : List ℕ) (count : ℕ) → plain ≡ take count label → rest ≡ drop count label → AllByRecursion IsPlain (take count label) → mid ≡ old ++ plain
+    → new ≡ mid ++ label_text rest → new ≡ old ++ label_text label
+plain_front old mid new label plain rest count front back are before after =
+    let shown : plain ++ label_text rest ≡ label_text label =
+    ap (λ (xs : List ℕ). plain ++ label_text xs) back
+    ∙ (ap (λ (xs : List ℕ). xs ++ label_text (drop count label)) (front ∙ sym (plain_text (take count label) are))
+    ∙ (both_texts (take count label) (drop count label) ∙ ap label_text (take-append-drop count label))) in
+    after ∙ (ap (λ (xs : List ℕ). xs ++ label_text rest) before ∙ (append_assoc old plain (label_text rest) ∙ ap (λ (xs : List ℕ). old ++ xs) shown))

@@ -14,10 +14,12 @@ ghost use Rattle.zone_text.specs.Numbers.{head_of, hex_word, numbers_text, octet
 use dns_base::{NoMemory, ParsedName, Sink, SinkFault, write_all};
 use std::alloc::Global;
 use zone_records::ZoneRecord;
-use zone_text::write_text;
+use zone_text::{plain_count, write_text};
 
 /// So many records are written at once.
 const WRITTEN: usize = 1024;
+/// So many octets most of such a text has room for from its beginning.
+const ROOM: usize = 65536;
 
 /// The lower-case hexadecimal digit of a number below 16.
 fn hex_digit(number: u8) -> u8
@@ -32,9 +34,10 @@ fn hex_digit(number: u8) -> u8
 fn push_digits(text: &mut Vec<u8>, octets: &[u8]) -> Result<(), NoMemory>
     ensures { OnOk result (text.new.items ≡ text.old.items ++ flat_map octet_digits octets.now) }
 {
+    text.reserve(2 * octets.len())?;
     for octet in octets {
-        text.push(hex_digit(*octet / 16))?;
-        text.push(hex_digit(*octet % 16))?;
+        text.push_reserved(hex_digit(*octet / 16));
+        text.push_reserved(hex_digit(*octet % 16));
     }
     Ok(())
 }
@@ -81,13 +84,24 @@ fn push_octet(text: &mut Vec<u8>, octet: u8) -> Result<(), NoMemory>
     Ok(())
 }
 
-fn push_label(text: &mut Vec<u8>, label: &[u8]) -> Result<(), NoMemory>
-    ensures { OnOk result (text.new.items ≡ text.old.items ++ label_text label.now) }
+/// Adds octets of a label, one by one.
+fn push_octets(text: &mut Vec<u8>, octets: &[u8]) -> Result<(), NoMemory>
+    ensures { OnOk result (text.new.items ≡ text.old.items ++ label_text octets.now) }
 {
-    for octet in label {
+    for octet in octets {
         push_octet(text, *octet)?;
     }
     Ok(())
+}
+
+/// Adds a label: the octets before the first that is not printed as it is at once.
+#[tactic(auto, using(crate::proofs::Names::plain_front))]
+fn push_label(text: &mut Vec<u8>, label: &[u8]) -> Result<(), NoMemory>
+    ensures { OnOk result (text.new.items ≡ text.old.items ++ label_text label.now) }
+{
+    let (plain, rest) = label.split_at(plain_count(label));
+    text.extend_from_slice(plain)?;
+    push_octets(text, rest)
 }
 
 /// Adds a name: labels with dots between, and a dot for the root.
@@ -145,7 +159,7 @@ fn push_line(text: &mut Vec<u8>, item: &ZoneRecord) -> Result<(), NoMemory>
 fn numbers_text(alloc: Global, records: &[ZoneRecord]) -> Result<Vec<u8>, NoMemory>
     ensures { IfOk result (λ v. v.items ≡ numbers_text records.now) }
 {
-    let mut text = Vec::new(alloc);
+    let mut text = Vec::with_capacity(alloc, ROOM)?;
     for item in records {
         push_line(&mut text, item)?;
     }

@@ -1,7 +1,10 @@
 -- Octets that digits write.
 use Rattle.std.proofs.Common.{◌≡◌, ◌≢◌, ◌<◌, ℕ, ◌+◌, ◌*◌, List, [], ◌∷◌, ◌++◌, length, refl, ap, sym, ◌∙◌, arith, append_assoc, Option, None, Some}
+use Rattle.std.specs.Prelude.{IfSome}
+use denote.Ref.{Bor}
 use Rattle.dns_presentation.specs.Octets.{hex_value, octets_of_hex, with_front}
 use Rattle.zone_text.specs.Saying.{octet_says, two_say}
+use Rattle.zone_text.specs.Taking.{TakesOctets}
 
 -- octets before others, if there are any
 abbrev pub put_before : List ℕ → Option (List ℕ) → Option (List ℕ)
@@ -58,3 +61,30 @@ unfolding octets_of_hex
 one_digit octets [] whole few some so_far = absurd (some refl)
 one_digit octets (c ∷ []) whole few some so_far = so_far
 one_digit octets (c ∷ d ∷ rest) whole few some so_far = absurd (omega arith)
+
+-- ---- digits before others
+
+pub record DigitsSoFar (text rest octets : List ℕ) : Type 0 where
+  pub done : List ℕ
+  pub text_is : text ≡ done ++ rest
+  pub says : (more : List ℕ) → octets_of_hex (done ++ more) ≡ put_before octets (octets_of_hex more)
+
+pub digits_begun : (text rest octets : List ℕ) → rest ≡ text → octets ≡ [] → DigitsSoFar text rest octets
+digits_begun text rest octets same empty = record { done = []; text_is = sym same; says = λ (more : List ℕ). nothing_before octets (octets_of_hex more) empty }
+
+pub digits_more : (text rest behind octets after : List ℕ) (high low octet : ℕ) → rest ≡ high ∷ low ∷ behind → octet_says high low ≡ Some octet → after ≡ octets ++ octet ∷ [] → DigitsSoFar text rest octets
+    → DigitsSoFar text behind after
+digits_more text rest behind octets after high low octet is says more h = record {
+  done = h.done ++ high ∷ low ∷ [];
+  text_is = h.text_is ∙ (ap (λ (xs : List ℕ). h.done ++ xs) is ∙ sym (append_assoc h.done (high ∷ low ∷ []) behind));
+  says = λ (others : List ℕ). ap octets_of_hex (append_assoc h.done (high ∷ low ∷ []) others) ∙ two_digits octets after (high ∷ low ∷ others) others (octets_of_hex (h.done ++ high ∷ low ∷ others)) high low octet refl says more (h.says (high ∷ low ∷ others));
+}
+
+pub digits_taken : (text rest octets : List ℕ) (found : Option (Bor (List ℕ))) → IfSome found (λ behind. rest ≡ 10 ∷ behind.now) → DigitsSoFar text rest octets
+    → IfSome found (λ behind. TakesOctets text behind.now octets)
+digits_taken text rest octets None is h = tt
+digits_taken text rest octets (Some behind) is h = record {
+  digits = h.done;
+  text_is = h.text_is ∙ ap (λ (xs : List ℕ). h.done ++ xs) is;
+  says = ap octets_of_hex (sym (nil_right h.done)) ∙ whole_read octets [] (octets_of_hex (h.done ++ [])) refl (h.says []);
+}

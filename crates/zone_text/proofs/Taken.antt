@@ -1,10 +1,10 @@
 -- What is taken of the head of a line, and that it is what the line says.
-use Rattle.std.proofs.Common.{◌≡◌, ◌≢◌, ◌<◌, ◌≤◌, ◌^◌, ℕ, ◌+◌, List, [], ◌∷◌, ◌++◌, length, length-append, take, drop, Bool, true, false, refl, ap, sym, subst, ◌∙◌, arith, append_assoc, append-nil, Option, None, Some, Ok}
+use Rattle.std.proofs.Common.{◌≡◌, ◌≢◌, ◌<◌, ◌≤◌, ◌^◌, ℕ, ◌+◌, List, [], ◌∷◌, ◌++◌, length, length-append, take, drop, Bool, true, false, refl, ap, sym, subst, ◌∙◌, arith, append_assoc, append-nil, ◌-◌, Option, None, Some, Result, Ok}
 use Rattle.std.specs.Prelude.{◌==◌, ◌||◌, ◌&&◌, map, nat_le, nat_lt}
 use Rattle.std.specs.Char.{to_ascii_lowercase}
 use Rattle.std.specs.List.{AllByRecursion, flat_map}
 use Rattle.std.specs.Str.{all_ascii_digits}
-use Rattle.std.proofs.Math.Seq.{take-append_seam}
+use Rattle.std.proofs.Math.Seq.{drop-append_seam, take-append_seam}
 use Rattle.std.proofs.lemmas.Bool.{eqb-true, leb-true, le-leb, ltb-true}
 use Rattle.std.proofs.lemmas.List.{take-append-drop}
 use Rattle.dns_names.specs.Name.{AreOctets, IsLabel, IsLegal, Labels, octet_count, spelling}
@@ -14,14 +14,16 @@ use Rattle.dns_names.proofs.Shown.{name_read}
 use Rattle.dns_values.specs.Decimal.{decimal_number}
 use Rattle.dns_presentation.specs.Octets.{hex_value, octets_of_hex, with_front}
 use Rattle.zone_records.specs.declared.record.ZoneRecord.{ZoneRecord}
-use Rattle.zone_text.specs.Saying.{class_says, data_says, line_says, owner_says, record_says, ttl_says, type_says}
-use Rattle.zone_text.specs.Taking.{IsPlain, TakesLabel, TakesNumber, TakesNumbers, TakesOwner, ender, is_plain}
+use Rattle.zone_text.specs.Saying.{◌>>=◌, beside, class_says, data_says, first_says, line_says, or_wrong, owner_says, record_says, ttl_says, type_says}
+use Rattle.zone_text.specs.Taking.{IsPlain, TakesLabel, TakesLine, TakesNumber, TakesNumbers, TakesOctets, TakesOwner, ender, is_plain}
 use Rattle.zone_text.specs.Words.{behind_last}
+use Rattle.zone_text.specs.declared.fault.LinePart.{LinePart}
+use Rattle.zone_text.specs.declared.fault.LinePart.TheVariants.{End}
 use Rattle.zone_text.proofs.Above.{above_lacks, below_octet}
-use Rattle.zone_text.proofs.Lacking.{Lacks, digits_lack, lacks_more, not_octet}
+use Rattle.zone_text.proofs.Lacking.{Lacks, digits_lack, lacks_append, lacks_more, not_octet}
 use Rattle.zone_text.proofs.NumbersBack.{name_above}
 use Rattle.zone_text.proofs.OnlyDigits.{digits_no_class, digits_no_type}
-use Rattle.zone_text.proofs.ReadBack.{five_words, none_last}
+use Rattle.zone_text.proofs.ReadBack.{cut_first, five_words, none_last}
 
 -- ---- plain octets
 
@@ -52,7 +54,7 @@ facts c h = go (nat_le 33 c && nat_le c 45) (nat_le 47 c && nat_le c 91) (nat_le
 plain_octet : (c : ℕ) → IsPlain c → octet_text c ≡ c ∷ []
 plain_octet c h = let f = facts c h in rw (f.no_dot, f.no_backslash, le-leb 33 c f.low, le-leb c 126 f.high) refl
 
-plain_text : (label : List ℕ) → AllByRecursion IsPlain label → label_text label ≡ label
+pub plain_text : (label : List ℕ) → AllByRecursion IsPlain label → label_text label ≡ label
 plain_text [] h = refl
 plain_text (c ∷ label) h = rw (plain_octet c h.0, plain_text label h.1) refl
 
@@ -236,37 +238,41 @@ are_digits greatest n word h = go (nat_lt 0 (length word)) (all_ascii_digits wor
     go true false e f = let none : decimal_number greatest word ≡ None = rw (e, f) refl in absurd cc
     go false b e f = let none : decimal_number greatest word ≡ None = rw e refl in absurd cc
 
-number_lacks : (greatest n : ℕ) (word : List ℕ) → decimal_number greatest word ≡ Some n → Lacks 32 word
-number_lacks greatest n word h = digits_lack 32 word (omega arith) (are_digits greatest n word h).all
+number_lacks : (o greatest n : ℕ) (word : List ℕ) → o < 48 → decimal_number greatest word ≡ Some n → Lacks o word
+number_lacks o greatest n word low h = digits_lack o word low (are_digits greatest n word h).all
 
-hex_high : (c n : ℕ) → hex_value c ≡ Some n → (c == 59) ≡ false
-hex_high c n h = go (c == 59) refl
+hex_other : (o c n : ℕ) → hex_value o ≡ None → hex_value c ≡ Some n → (c == o) ≡ false
+hex_other o c n none h = go (c == o) refl
   where
-    go : (b : Bool) → (c == 59) ≡ b → (c == 59) ≡ false
-    go true e = let is : c ≡ 59 = eqb-true c 59 e in let none : hex_value c ≡ None = ap hex_value is in absurd cc
+    go : (b : Bool) → (c == o) ≡ b → (c == o) ≡ false
+    go true e = let is : c ≡ o = eqb-true c o e in let same : hex_value c ≡ hex_value o = ap hex_value is in absurd cc
     go false e = e
 
-hex_lacks : (digits octets : List ℕ) → octets_of_hex digits ≡ Some octets → Lacks 59 digits
+hex_lacks : (o : ℕ) (digits octets : List ℕ) → hex_value o ≡ None → octets_of_hex digits ≡ Some octets → Lacks o digits
 unfolding octets_of_hex
-hex_lacks [] octets h = refl
-hex_lacks (c ∷ []) octets h = absurd cc
-hex_lacks (c ∷ d ∷ digits) octets h = go (hex_value c) (hex_value d) (octets_of_hex digits) refl refl refl
+hex_lacks o [] octets other h = refl
+hex_lacks o (c ∷ []) octets other h = absurd cc
+hex_lacks o (c ∷ d ∷ digits) octets other h = go (hex_value c) (hex_value d) (octets_of_hex digits) refl refl refl
   where
-    go : (a b : Option ℕ) (m : Option (List ℕ)) → hex_value c ≡ a → hex_value d ≡ b → octets_of_hex digits ≡ m → Lacks 59 (c ∷ d ∷ digits)
-    go (Some a) (Some b) (Some m) e f g = rw (hex_high c a e, hex_high d b f) (hex_lacks digits m g)
+    go : (a b : Option ℕ) (m : Option (List ℕ)) → hex_value c ≡ a → hex_value d ≡ b → octets_of_hex digits ≡ m → Lacks o (c ∷ d ∷ digits)
+    go (Some a) (Some b) (Some m) e f g = rw (hex_other o c a other e, hex_other o d b other f) (hex_lacks o digits m other g)
     go None b m e f g = let none : octets_of_hex (c ∷ d ∷ digits) ≡ None = rw e refl in absurd cc
     go (Some a) None m e f g = let none : octets_of_hex (c ∷ d ∷ digits) ≡ None = rw (e, f) refl in absurd cc
     go (Some a) (Some b) None e f g = let none : octets_of_hex (c ∷ d ∷ digits) ≡ None = rw (e, f, g) refl in absurd cc
+
+no_octets : (octets : List ℕ) → octets_of_hex [] ≡ Some octets → length octets ≡ 0
+unfolding octets_of_hex
+no_octets octets h = let none : [] ≡ octets = cc in ap length (sym none)
 
 one_digit : (c : ℕ) (octets : List ℕ) → octets_of_hex (c ∷ []) ≡ Some octets → ⊥
 unfolding octets_of_hex
 one_digit c octets h = absurd cc
 
-data_read : (digits octets : List ℕ) → length digits ≢ 0 → octets_of_hex digits ≡ Some octets → data_says digits ≡ Ok octets
-data_read [] octets some h = absurd (some refl)
+data_read : (digits octets : List ℕ) → length octets ≢ 0 → octets_of_hex digits ≡ Some octets → data_says digits ≡ Ok octets
+data_read [] octets some h = absurd (some (no_octets octets h))
 data_read (c ∷ []) octets some h = absurd (one_digit c octets h)
 data_read (c ∷ d ∷ digits) octets some h =
-    let none : behind_last 59 (c ∷ d ∷ digits) ≡ None = none_last 59 (c ∷ d ∷ digits) (hex_lacks (c ∷ d ∷ digits) octets h) in
+    let none : behind_last 59 (c ∷ d ∷ digits) ≡ None = none_last 59 (c ∷ d ∷ digits) (hex_lacks 59 (c ∷ d ∷ digits) octets refl h) in
     rw (none, h) refl
 
 owner_read : (labels : Labels) (octets : List ℕ) → IsLegal labels → AreOctets labels → octets ≡ map to_ascii_lowercase (spelling labels) → owner_says (name_text labels) ≡ Ok octets
@@ -281,17 +287,98 @@ type_read n word h = let d = are_digits 65535 n word h in rw (digits_no_type wor
 ttl_read : (n : ℕ) (word : List ℕ) → decimal_number 4294967295 word ≡ Some n → ttl_says word ≡ Ok n
 ttl_read n word h = rw h refl
 
-pub line_read : (line behind digits owner content : List ℕ) (ttl class rtype : ℕ) (item : ZoneRecord) → TakesOwner line behind owner → TakesNumbers behind ttl class rtype digits → length digits ≢ 0
-    → octets_of_hex digits ≡ Some content
-    → item ≡ record { owner = owner; rtype = record { 0 = rtype }; class = record { 0 = class }; ttl = record { 0 = ttl }; rdata = content } → line_says line ≡ Ok item
-line_read line behind digits owner content ttl class rtype item o n some h is =
+-- ---- the line without its line feed
+
+-- its words
+record Words : Type 0 where
+  labels : Labels
+  ttl : List ℕ
+  class : List ℕ
+  rtype : List ℕ
+  digits : List ℕ
+
+abbrev line_of : Words → List ℕ
+line_of w = name_text w.labels ++ 32 ∷ (w.ttl ++ 32 ∷ (w.class ++ 32 ∷ (w.rtype ++ 32 ∷ w.digits)))
+
+-- and what they say
+record Says (w : Words) (item : ZoneRecord) : Type 0 where
+  legal : IsLegal w.labels
+  are_octets : AreOctets w.labels
+  owner_is : item.owner ≡ map to_ascii_lowercase (spelling w.labels)
+  ttl_is : decimal_number 4294967295 w.ttl ≡ Some item.ttl.0
+  class_is : decimal_number 65535 w.class ≡ Some item.class.0
+  rtype_is : decimal_number 65535 w.rtype ≡ Some item.rtype.0
+  some : length item.rdata ≢ 0
+  rdata_is : octets_of_hex w.digits ≡ Some item.rdata
+
+line_read : (w : Words) (item : ZoneRecord) → Says w item → line_says (line_of w) ≡ Ok item
+line_read w item s =
+    let parts : record_says (name_text w.labels) w.ttl w.class w.rtype w.digits ≡ Ok item =
+    rw (owner_read w.labels item.owner s.legal s.are_octets s.owner_is, ttl_read item.ttl.0 w.ttl s.ttl_is, class_read item.class.0 w.class s.class_is, type_read item.rtype.0 w.rtype s.rtype_is, data_read w.digits item.rdata s.some s.rdata_is) refl in
+    five_words (name_text w.labels) w.ttl w.class w.rtype w.digits (above_lacks 32 (name_text w.labels) (omega arith) (name_above w.labels s.are_octets)) (number_lacks 32 4294967295 item.ttl.0 w.ttl (omega arith) s.ttl_is)
+    (number_lacks 32 65535 item.class.0 w.class (omega arith) s.class_is) (number_lacks 32 65535 item.rtype.0 w.rtype (omega arith) s.rtype_is) ∙ parts
+
+blank_lacks : (word more : List ℕ) → Lacks 10 word → Lacks 10 more → Lacks 10 (word ++ 32 ∷ more)
+blank_lacks word more f g = lacks_append 10 word (32 ∷ more) f (lacks_more 10 32 more (omega arith) g)
+
+no_feed : (w : Words) (item : ZoneRecord) → Says w item → Lacks 10 (line_of w)
+no_feed w item s =
+    blank_lacks (name_text w.labels) (w.ttl ++ 32 ∷ (w.class ++ 32 ∷ (w.rtype ++ 32 ∷ w.digits))) (above_lacks 10 (name_text w.labels) (omega arith) (name_above w.labels s.are_octets))
+    (blank_lacks w.ttl (w.class ++ 32 ∷ (w.rtype ++ 32 ∷ w.digits)) (number_lacks 10 4294967295 item.ttl.0 w.ttl (omega arith) s.ttl_is)
+    (blank_lacks w.class (w.rtype ++ 32 ∷ w.digits) (number_lacks 10 65535 item.class.0 w.class (omega arith) s.class_is)
+    (blank_lacks w.rtype w.digits (number_lacks 10 65535 item.rtype.0 w.rtype (omega arith) s.rtype_is) (hex_lacks 10 w.digits item.rdata refl s.rdata_is))))
+
+-- ---- the line that begins a text
+
+abbrev read : ZoneRecord → List ℕ → Result (ZoneRecord × List ℕ) LinePart
+read item rest = Ok (item, rest)
+
+first_line : (line rest : List ℕ) (item : ZoneRecord) → Lacks 10 line → line_says line ≡ Ok item → first_says (line ++ 10 ∷ rest) ≡ read item rest
+first_line line rest item lacks said =
+    ap (λ (cut : Option (List ℕ × List ℕ)). or_wrong End cut >>= λ x. beside x.1 (line_says x.0)) (cut_first 10 line rest lacks) ∙ ap (beside rest) said
+
+regroup : (n t c r d rest : List ℕ) → n ++ 32 ∷ (t ++ 32 ∷ (c ++ 32 ∷ (r ++ 32 ∷ (d ++ 10 ∷ rest)))) ≡ (n ++ 32 ∷ (t ++ 32 ∷ (c ++ 32 ∷ (r ++ 32 ∷ d)))) ++ 10 ∷ rest
+regroup n t c r d rest =
+    sym (append_assoc n (32 ∷ (t ++ 32 ∷ (c ++ 32 ∷ (r ++ 32 ∷ d)))) (10 ∷ rest)
+    ∙ ap (λ (xs : List ℕ). n ++ 32 ∷ xs) (append_assoc t (32 ∷ (c ++ 32 ∷ (r ++ 32 ∷ d))) (10 ∷ rest)
+    ∙ ap (λ (xs : List ℕ). t ++ 32 ∷ xs) (append_assoc c (32 ∷ (r ++ 32 ∷ d)) (10 ∷ rest) ∙ ap (λ (xs : List ℕ). c ++ 32 ∷ xs) (append_assoc r (32 ∷ d) (10 ∷ rest)))))
+
+drop_front : (text line rest : List ℕ) (count : ℕ) → text ≡ line ++ 10 ∷ rest → count ≡ length text - length rest → drop count text ≡ rest
+drop_front text line rest count is n =
+    let whole : text ≡ (line ++ 10 ∷ []) ++ rest = is ∙ sym (append_assoc line (10 ∷ []) rest) in
+    let long : length text ≡ length (line ++ 10 ∷ []) + length rest = ap length whole ∙ length-append (line ++ 10 ∷ []) rest in
+    let same : count ≡ length (line ++ 10 ∷ []) = omega (arith, long, n) in
+    ap (λ (k : ℕ). drop k text) same ∙ (ap (drop (length (line ++ 10 ∷ []))) whole ∙ drop-append_seam (line ++ 10 ∷ []) rest)
+
+takes_line : (text line rest : List ℕ) (item : ZoneRecord) (count : ℕ) → text ≡ line ++ 10 ∷ rest → count ≡ length text - length rest → Lacks 10 line → line_says line ≡ Ok item → TakesLine text item count
+takes_line text line rest item count is n lacks said =
+    let behind : drop count text ≡ rest = drop_front text line rest count is n in
+    let long : length text ≡ length line + length (10 ∷ rest) = ap length is ∙ length-append line (10 ∷ rest) in
+    let short : length (drop count text) ≡ length rest = ap length behind in
+    record {
+      says = ap first_says is ∙ (first_line line rest item lacks said ∙ ap (read item) (sym behind));
+      shorter = omega (arith, long, short);
+    }
+
+pub first_read : (text behind digits rest owner content : List ℕ) (ttl class rtype count : ℕ) (item : ZoneRecord) → TakesOwner text behind owner → TakesNumbers behind ttl class rtype digits
+    → TakesOctets digits rest content → length content ≢ 0 → item ≡ record { owner = owner; rtype = record { 0 = rtype }; class = record { 0 = class }; ttl = record { 0 = ttl }; rdata = content }
+    → count ≡ length text - length rest → TakesLine text item count
+first_read text behind digits rest owner content ttl class rtype count item o n d some is counted =
     let t = n.ttl_taken in
     let c = n.class_taken in
     let r = n.rtype_taken in
-    let numbers : behind ≡ t.word ++ 32 ∷ (c.word ++ 32 ∷ (r.word ++ 32 ∷ digits)) = t.text_is ∙ ap (λ (xs : List ℕ). t.word ++ 32 ∷ xs) (c.text_is ∙ ap (λ (xs : List ℕ). c.word ++ 32 ∷ xs) r.text_is) in
-    let words : line ≡ name_text o.labels ++ 32 ∷ (t.word ++ 32 ∷ (c.word ++ 32 ∷ (r.word ++ 32 ∷ digits))) = o.text_is ∙ ap (λ (xs : List ℕ). name_text o.labels ++ 32 ∷ xs) numbers in
-    let parts : record_says (name_text o.labels) t.word c.word r.word digits ≡ Ok (record { owner = owner; rtype = record { 0 = rtype }; class = record { 0 = class }; ttl = record { 0 = ttl }; rdata = content }) =
-    rw (owner_read o.labels owner o.legal o.are_octets o.octets_are, ttl_read ttl t.word t.says, class_read class c.word c.says, type_read rtype r.word r.says, data_read digits content some h) refl in
-    ap line_says words
-    ∙ (five_words (name_text o.labels) t.word c.word r.word digits (above_lacks 32 (name_text o.labels) (omega arith) (name_above o.labels o.are_octets)) (number_lacks 4294967295 ttl t.word t.says)
-    (number_lacks 65535 class c.word c.says) (number_lacks 65535 rtype r.word r.says) ∙ (parts ∙ ap Ok (sym is)))
+    let w : Words = record { labels = o.labels; ttl = t.word; class = c.word; rtype = r.word; digits = d.digits } in
+    let numbers : behind ≡ t.word ++ 32 ∷ (c.word ++ 32 ∷ (r.word ++ 32 ∷ (d.digits ++ 10 ∷ rest))) =
+    t.text_is ∙ ap (λ (xs : List ℕ). t.word ++ 32 ∷ xs) (c.text_is ∙ ap (λ (xs : List ℕ). c.word ++ 32 ∷ xs) (r.text_is ∙ ap (λ (xs : List ℕ). r.word ++ 32 ∷ xs) d.text_is)) in
+    let whole : text ≡ line_of w ++ 10 ∷ rest = o.text_is ∙ (ap (λ (xs : List ℕ). name_text o.labels ++ 32 ∷ xs) numbers ∙ regroup (name_text o.labels) t.word c.word r.word d.digits rest) in
+    let made : ZoneRecord = record { owner = owner; rtype = record { 0 = rtype }; class = record { 0 = class }; ttl = record { 0 = ttl }; rdata = content } in
+    let said : Says w made = record { legal = o.legal; are_octets = o.are_octets; owner_is = o.octets_are; ttl_is = t.says; class_is = c.says; rtype_is = r.says; some = some; rdata_is = d.says } in
+    subst (λ (x : ZoneRecord). TakesLine text x count) (sym is) (takes_line text (line_of w) rest made count whole counted (no_feed w made said) (line_read w made said))
+
+-- ---- and what is read of it
+
+pub line_taken : (text behind : List ℕ) (item : ZoneRecord) (count : ℕ) → TakesLine text item count → behind ≡ drop count text → first_says text ≡ Ok (item, behind)
+line_taken text behind item count t is = t.says ∙ ap (read item) (sym is)
+
+pub line_left : (text behind : List ℕ) (item : ZoneRecord) (count : ℕ) → TakesLine text item count → behind ≡ drop count text → length behind < length text
+line_left text behind item count t is = subst (λ (xs : List ℕ). length xs < length text) (sym is) t.shorter

@@ -1,5 +1,5 @@
 -- What a text says of a zone. Of a line the owner, the TTL, the class, the type and the comment count; the data before that is skipped.
-use Rattle.std.specs.Prelude.{◌≡◌, ℕ, ◌+◌, ◌*◌, ◌==◌, Bool, true, false, if◌then◌else◌, List, [], ◌∷◌, map, Option, None, Some, option_map, Result, Ok, Err}
+use Rattle.std.specs.Prelude.{◌≡◌, ℕ, ◌+◌, ◌*◌, ◌==◌, if◌then◌else◌, List, [], ◌∷◌, map, Option, None, Some, option_map, Result, Ok, Err}
 use Rattle.std.specs.Char.{to_ascii_lowercase}
 use Rattle.std.specs.Result.{result_ok}
 use Rattle.std.specs.declared.alloc.Global.{Global}
@@ -146,11 +146,6 @@ Tells said (Err faults.NoMemory) = Unit {0}
 abbrev pub TellsOctets : Option (List ℕ) → Option (Vec ℕ Global) → Type 0
 TellsOctets said None = said ≡ None
 TellsOctets said (Some octets) = said ≡ Some octets.items
-
--- or whether there are, and then these
-abbrev pub PutsOctets : Option (List ℕ) → Bool → List ℕ → Type 0
-PutsOctets said true octets = said ≡ Some octets
-PutsOctets said false octets = said ≡ None
 
 -- the same of a fault alone
 abbrev pub TellsPart : {A : Type 0} → Result A LinePart → PartFault → Type 0

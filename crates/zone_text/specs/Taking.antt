@@ -1,10 +1,13 @@
 -- What is taken of the head of a line.
-use Rattle.std.specs.Prelude.{◌≡◌, ◌<◌, ◌≤◌, ℕ, ◌&&◌, ◌||◌, nat_le, Bool, true, false, List, [], ◌∷◌, ◌++◌, length, map, Some}
+use Rattle.std.specs.Prelude.{◌≡◌, ◌<◌, ◌≤◌, ℕ, ◌&&◌, ◌||◌, nat_le, Bool, true, false, List, [], ◌∷◌, ◌++◌, length, drop, map, Some, Ok}
 use Rattle.std.specs.Char.{to_ascii_lowercase}
 use Rattle.std.specs.List.{AllByRecursion}
 use Rattle.dns_names.specs.Name.{AreOctets, IsLegal, Labels, spelling}
 use Rattle.dns_names.specs.Text.{name_text}
 use Rattle.dns_values.specs.Decimal.{decimal_number}
+use Rattle.dns_presentation.specs.Octets.{octets_of_hex}
+use Rattle.zone_records.specs.declared.record.ZoneRecord.{ZoneRecord}
+use Rattle.zone_text.specs.Saying.{first_says}
 
 -- a printable octet, but for the dot and the backslash
 abbrev pub is_plain : ℕ → Bool
@@ -48,3 +51,14 @@ pub record TakesNumbers (text : List ℕ) (ttl class rtype : ℕ) (rest : List �
   pub ttl_taken : TakesNumber 4294967295 text ttl behind_ttl
   pub class_taken : TakesNumber 65535 behind_ttl class behind_class
   pub rtype_taken : TakesNumber 65535 behind_class rtype rest
+
+-- Digits stand first, and a line feed behind them. They write these octets.
+pub record TakesOctets (text rest octets : List ℕ) : Type 0 where
+  pub digits : List ℕ
+  pub text_is : text ≡ digits ++ 10 ∷ rest
+  pub says : octets_of_hex digits ≡ Some octets
+
+-- The first line says a record, and has so many octets with its line feed.
+pub record TakesLine (text : List ℕ) (item : ZoneRecord) (count : ℕ) : Type 0 where
+  pub says : first_says text ≡ Ok (item, drop count text)
+  pub shorter : length (drop count text) < length text

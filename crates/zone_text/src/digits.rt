@@ -2,7 +2,8 @@
 
 ghost use Rattle.std.specs.Prelude.{◌≡◌, ◌++◌, ◌∷◌, ◌<◌, length, None, Some, IfOk, IfSome, MatchOption, OnOk};
 ghost use Rattle.dns_presentation.specs.Octets.{hex_digit, hex_text, hex_value, octets_of_hex};
-ghost use Rattle.zone_text.specs.Saying.{PutsOctets, TellsOctets, octet_says};
+ghost use Rattle.zone_text.specs.Saying.{TellsOctets, octet_says};
+ghost use Rattle.zone_text.specs.Taking.{TakesOctets};
 
 use dns_base::NoMemory;
 use std::alloc::Global;
@@ -62,32 +63,52 @@ fn first_two(text: &[u8]) -> Option<(u8, u8, &[u8])>
     }
 }
 
-/// Puts the octets that digits write, two for each, in place of others. Tells whether the digits write octets.
-#[tactic(auto, using(crate::proofs::Spelled::nothing_before, crate::proofs::Spelled::whole_read, crate::proofs::Spelled::one_digit))]
-pub(crate) fn put_octets(octets: &mut Vec<u8>, digits: &[u8]) -> Result<bool, NoMemory>
-    ensures { IfOk result (λ is_read. PutsOctets (octets_of_hex digits.now) is_read octets.new.items) }
+/// What stands behind a line feed that stands first.
+fn behind_feed(text: &[u8]) -> Option<&[u8]>
+    ensures { IfSome result (λ rest. text.now ≡ 10 ∷ rest.now) }
+{
+    match text {
+        [b'\n', rest @ ..] => Some(rest),
+        _ => None,
+    }
+}
+
+/// Puts the octets that the digits before the first line feed write, two for each, in place of others. Tells what stands behind the line
+/// feed, if digits alone stand before it.
+#[tactic(auto, using(crate::proofs::Spelled::digits_begun))]
+pub(crate) fn take_octets<'a>(
+    text: &'a [u8],
+    octets: &mut Vec<u8>,
+) -> Result<Option<&'a [u8]>, NoMemory>
+    ensures { IfOk result (λ taken. IfSome taken (λ rest. TakesOctets text.now rest.now octets.new.items)) }
 {
     octets.clear();
+    let mut rest = text;
+    while let Some((high, low, behind)) = first_two(rest) {
+        let Some(octet) = octet_of(high, low) else {
+            return Ok(behind_feed(rest));
+        };
+        octets.push(octet)?;
+        rest = behind;
+    }
+    Ok(behind_feed(rest))
+}
+
+/// The octets that digits write, two for each.
+#[tactic(auto, using(crate::proofs::Spelled::nothing_before, crate::proofs::Spelled::whole_read, crate::proofs::Spelled::one_digit))]
+pub(crate) fn octets_of(alloc: Global, digits: &[u8]) -> Result<Option<Vec<u8>>, NoMemory>
+    ensures { IfOk result (TellsOctets (octets_of_hex digits.now)) }
+{
+    let mut octets = Vec::with_capacity(alloc, digits.len() / 2)?;
     let mut rest = digits;
     while let Some((high, low, behind)) = first_two(rest) {
         let Some(octet) = octet_of(high, low) else {
-            return Ok(false);
+            return Ok(None);
         };
         octets.push(octet)?;
         rest = behind;
     }
     if rest.is_empty() {
-        return Ok(true);
-    }
-    Ok(false)
-}
-
-/// The octets that digits write, two for each.
-pub(crate) fn octets_of(alloc: Global, digits: &[u8]) -> Result<Option<Vec<u8>>, NoMemory>
-    ensures { IfOk result (TellsOctets (octets_of_hex digits.now)) }
-{
-    let mut octets = Vec::with_capacity(alloc, digits.len() / 2)?;
-    if put_octets(&mut octets, digits)? {
         Ok(Some(octets))
     } else {
         Ok(None)

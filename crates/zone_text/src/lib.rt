@@ -40,4 +40,5 @@ mod zone;
 pub use fault::{LinePart, WrongLine};
 pub use laws::{flaw_law, held_back_law, numbers_back_law, read_back_law};
 pub use lines::write_text;
+pub use numbers::plain_count;
 pub use zone::{Flaw, Unread, zone_of};

@@ -1,12 +1,11 @@
 //! A line in numbers and hexadecimal digits, read in one walk. Of an owner with a backslash, and of names for numbers, nothing is told
 //! here.
 
-ghost use Rattle.std.specs.Prelude.{◌≡◌, ◌≤◌, ◌++◌, ◌∷◌, length, take, Ok, IfOk, IfSome};
+ghost use Rattle.std.specs.Prelude.{◌≡◌, ◌≤◌, ◌++◌, ◌∷◌, length, take, IfOk, IfSome};
 ghost use Rattle.std.specs.List.{AllByRecursion};
-ghost use Rattle.zone_text.specs.Saying.{line_says};
-ghost use Rattle.zone_text.specs.Taking.{IsPlain, TakesLabel, TakesNumber, TakesNumbers, TakesOwner, ender, is_plain};
+ghost use Rattle.zone_text.specs.Taking.{IsPlain, TakesLabel, TakesLine, TakesNumber, TakesNumbers, TakesOwner, ender, is_plain};
 
-use crate::digits::put_octets;
+use crate::digits::take_octets;
 use dns_base::{Class, NoMemory, Rtype, Ttl};
 use dns_values::decimal_number;
 use std::alloc::Global;
@@ -37,7 +36,7 @@ fn is_plain(octet: u8) -> bool
 
 /// How many octets stand first that a name prints as they are.
 #[tactic(auto, using(crate::proofs::Taken::plain_none, crate::proofs::Taken::plain_first))]
-fn plain_count(text: &[u8]) -> usize
+pub fn plain_count(text: &[u8]) -> usize
     ensures within { result ≤ length text.now }
     ensures plain { AllByRecursion IsPlain (take result text.now) }
 {
@@ -188,28 +187,28 @@ impl Drafts {
         })
     }
 
-    /// The record of a line, if it is one in numbers.
-    #[tactic(auto, using(crate::proofs::Taken::line_read))]
+    /// The record of the line that begins a text, if it is one in numbers, and how many octets the line has with its line feed.
+    #[tactic(auto, using(crate::proofs::Taken::first_read))]
     pub(crate) fn numbers_say(
         &mut self,
         alloc: Global,
-        line: &[u8],
-    ) -> Result<Option<ZoneRecord>, NoMemory>
-        ensures { IfOk result (λ said. IfSome said (λ item. line_says line.now ≡ Ok item)) }
+        text: &[u8],
+    ) -> Result<Option<(ZoneRecord, usize)>, NoMemory>
+        ensures { IfOk result (λ said. IfSome said (λ x. TakesLine text.now x.0 x.1)) }
     {
-        let Some(behind) = take_owner(line, &mut self.owner)? else {
+        let Some(behind) = take_owner(text, &mut self.owner)? else {
             return Ok(None);
         };
         let Some(numbers) = take_numbers(behind) else {
             return Ok(None);
         };
-        if numbers.digits.is_empty() {
+        let Some(rest) = take_octets(numbers.digits, &mut self.content)? else {
             return Ok(None);
-        }
-        if !put_octets(&mut self.content, numbers.digits)? {
+        };
+        if self.content.is_empty() {
             return Ok(None);
         }
         let item = self.record_of(alloc, &numbers)?;
-        Ok(Some(item))
+        Ok(Some((item, text.len().saturating_sub(rest.len()))))
     }
 }

@@ -140,8 +140,8 @@ fn record_says(
     })
 }
 
-/// The record of a line without its line feed, whose words may be names.
-fn words_say(alloc: Global, line: &str) -> Result<ZoneRecord, PartFault>
+/// The record of a line without its line feed.
+fn line_says(alloc: Global, line: &str) -> Result<ZoneRecord, PartFault>
     ensures { Tells (line_says line.now) result }
 {
     let (owner, behind_owner) = cut_word(line)?;
@@ -151,18 +151,24 @@ fn words_say(alloc: Global, line: &str) -> Result<ZoneRecord, PartFault>
     record_says(alloc, owner, ttl, class, rtype, content)
 }
 
-/// The record of a line without its line feed.
-fn line_says(alloc: Global, drafts: &mut Drafts, line: &str) -> Result<ZoneRecord, PartFault>
-    ensures { Tells (line_says line.now) result }
+/// The record of the line that begins a text, whose words may be names, and what stands behind the line.
+#[tactic(auto, using(crate::proofs::Cuts::cut_shorter))]
+fn words_first(alloc: Global, text: &str) -> Result<(ZoneRecord, &str), PartFault>
+    ensures read { IfOk result (λ x. first_says text.now ≡ Ok (x.0, x.1.now)) }
+    ensures wrong { IfErr result (λ e. TellsPart (first_says text.now) e) }
+    ensures shorter { IfOk result (λ x. length x.1.now < length text.now) }
 {
-    match drafts.numbers_say(alloc, line.as_bytes())? {
-        Some(item) => Ok(item),
-        None => words_say(alloc, line),
+    let Some((line, behind)) = cut_at(text, '\n') else {
+        return Err(PartFault::Wrong(LinePart::End));
+    };
+    match line_says(alloc, line) {
+        Ok(item) => Ok((item, behind)),
+        Err(fault) => Err(fault),
     }
 }
 
 /// The record of the line that begins a text, and what stands behind the line.
-#[tactic(auto, using(crate::proofs::Cuts::cut_shorter))]
+#[tactic(auto, using(crate::proofs::Taken::line_taken, crate::proofs::Taken::line_left))]
 pub(crate) fn first_says<'a>(
     alloc: Global,
     drafts: &mut Drafts,
@@ -172,11 +178,11 @@ pub(crate) fn first_says<'a>(
     ensures wrong { IfErr result (λ e. TellsPart (first_says text.now) e) }
     ensures shorter { IfOk result (λ x. length x.1.now < length text.now) }
 {
-    let Some((line, behind)) = cut_at(text, '\n') else {
-        return Err(PartFault::Wrong(LinePart::End));
+    let Some((item, count)) = drafts.numbers_say(alloc, text.as_bytes())? else {
+        return words_first(alloc, text);
     };
-    match line_says(alloc, drafts, line) {
-        Ok(item) => Ok((item, behind)),
-        Err(fault) => Err(fault),
+    match text.split_at_checked(count) {
+        Some((_, behind)) => Ok((item, behind)),
+        None => words_first(alloc, text),
     }
 }

@@ -2,7 +2,7 @@
 use Rattle.std.proofs.Common.{◌≡◌, length}
 use Rattle.dns_presentation.specs.Octets.{octets_of_hex}
 use Rattle.zone_text.proofs.Spelled.{put_before}
-use Rattle.zone_text.proofs.digits.put_octets.Given as goal
+use Rattle.zone_text.proofs.digits.octets_of.Given as goal
 
 abbrev pub invariant-loop-high : goal.invariant-loop-high
 invariant-loop-high l = octets_of_hex l.fn.digits ≡ put_before l.octets.items (octets_of_hex l.rest)

@@ -1,7 +1,7 @@
 use Rattle.std.proofs.Common.{◌≡◌, ◌∷◌}
 use Rattle.dns_presentation.specs.Octets.{octets_of_hex}
 use Rattle.zone_text.proofs.Spelled.{not_two, two_digits}
-use Rattle.zone_text.proofs.digits.put_octets.Goals as goal
+use Rattle.zone_text.proofs.digits.octets_of.Goals as goal
 
 pub returns-in_default-octet_of : goal.returns-in_default-octet_of
 returns-in_default-octet_of c =
