@@ -16,6 +16,7 @@ are_values zero = true
 are_values (suc c) = is_value (hex_value c) (get_or VALUES c 0) && are_values c
 
 below : (n c : ℕ) → T (are_values n) → c < n → T (is_value (hex_value c) (get_or VALUES c 0))
+unfolding are_values is_value
 below zero c t h = absurd (omega arith)
 below (suc n) c t h =
     elim (eq-zero-or-pos (n - c)) [
@@ -24,13 +25,16 @@ below (suc n) c t h =
     ]
 
 stands : (c : ℕ) → c < 256 → T (is_value (hex_value c) (get_or VALUES c 0))
+unfolding are_values is_value
 stands c h = below 256 c tt h
 
 some_value : (o : Option ℕ) (value : ℕ) → T (is_value o value) → value < 16 → o ≡ Some value
+unfolding is_value
 some_value None value t h = let is : value ≡ 255 = eqb→eq value 255 t in absurd (omega arith)
 some_value (Some n) value t h = ap Some (sym (eqb→eq value n (and_l (eqb value n) (nat_lt n 16) t)))
 
 none_value : (o : Option ℕ) (value : ℕ) → T (is_value o value) → 16 ≤ value → o ≡ None
+unfolding is_value
 none_value None value t h = refl
 none_value (Some n) value t h =
     let is : value ≡ n = eqb→eq value n (and_l (eqb value n) (nat_lt n 16) t) in

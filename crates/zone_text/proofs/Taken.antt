@@ -91,7 +91,7 @@ plain_first text rest count h =
 
 -- ---- labels
 
-dotted : Labels → List ℕ
+abbrev pub dotted : Labels → List ℕ
 dotted [] = []
 dotted (label ∷ labels) = label_text label ++ 46 ∷ dotted labels
 
@@ -113,7 +113,7 @@ dotted_more [] last = refl
 dotted_more (label ∷ labels) last =
     ap (λ (xs : List ℕ). label_text label ++ 46 ∷ xs) (dotted_more labels last) ∙ sym (append_assoc (label_text label) (46 ∷ dotted labels) (label_text last ++ 46 ∷ []))
 
-counted : Labels → List ℕ
+abbrev pub counted : Labels → List ℕ
 counted [] = []
 counted (label ∷ labels) = length label ∷ label ++ counted labels
 
@@ -136,7 +136,7 @@ octets_more (label ∷ labels) last h i = (h.0, octets_more labels last h.1 i)
 
 -- ---- an owner
 
-abbrev IsHead : (is_last : Bool) → List ℕ → Labels → List ℕ → Type 0
+abbrev pub IsHead : (is_last : Bool) → List ℕ → Labels → List ℕ → Type 0
 IsHead false text labels rest = text ≡ dotted labels ++ rest
 IsHead true text labels rest = text ≡ name_text labels ++ 32 ∷ rest
 
@@ -252,13 +252,13 @@ hex_lacks : (o : ℕ) (digits octets : List ℕ) → hex_value o ≡ None → oc
 unfolding octets_of_hex
 hex_lacks o [] octets other h = refl
 hex_lacks o (c ∷ []) octets other h = absurd cc
-hex_lacks o (c ∷ d ∷ digits) octets other h = go (hex_value c) (hex_value d) (octets_of_hex digits) refl refl refl
+hex_lacks o (c ∷ d ∷ digits) octets other h = go (hex_value c) (hex_value d) (octets_of_hex digits) refl refl refl (λ (m : List ℕ) (g : octets_of_hex digits ≡ Some m). hex_lacks o digits m other g)
   where
-    go : (a b : Option ℕ) (m : Option (List ℕ)) → hex_value c ≡ a → hex_value d ≡ b → octets_of_hex digits ≡ m → Lacks o (c ∷ d ∷ digits)
-    go (Some a) (Some b) (Some m) e f g = rw (hex_other o c a other e, hex_other o d b other f) (hex_lacks o digits m other g)
-    go None b m e f g = let none : octets_of_hex (c ∷ d ∷ digits) ≡ None = rw e refl in absurd cc
-    go (Some a) None m e f g = let none : octets_of_hex (c ∷ d ∷ digits) ≡ None = rw (e, f) refl in absurd cc
-    go (Some a) (Some b) None e f g = let none : octets_of_hex (c ∷ d ∷ digits) ≡ None = rw (e, f, g) refl in absurd cc
+    go : (a b : Option ℕ) (m : Option (List ℕ)) → hex_value c ≡ a → hex_value d ≡ b → octets_of_hex digits ≡ m → ((m : List ℕ) → octets_of_hex digits ≡ Some m → Lacks o digits) → Lacks o (c ∷ d ∷ digits)
+    go (Some a) (Some b) (Some m) e f g more = rw (hex_other o c a other e, hex_other o d b other f) (more m g)
+    go None b m e f g more = let none : octets_of_hex (c ∷ d ∷ digits) ≡ None = rw e refl in absurd cc
+    go (Some a) None m e f g more = let none : octets_of_hex (c ∷ d ∷ digits) ≡ None = rw (e, f) refl in absurd cc
+    go (Some a) (Some b) None e f g more = let none : octets_of_hex (c ∷ d ∷ digits) ≡ None = rw (e, f, g) refl in absurd cc
 
 no_octets : (octets : List ℕ) → octets_of_hex [] ≡ Some octets → length octets ≡ 0
 unfolding octets_of_hex

@@ -104,7 +104,7 @@ fn take_owner<'a>(text: &'a [u8], octets: &mut Vec<u8>) -> Result<Option<&'a [u8
         rest = behind;
     }
     octets.push(0)?;
-    if octets.len() > 255 {
+    if octets.as_slice().len() > 255 {
         return Ok(None);
     }
     octets.make_ascii_lowercase();
@@ -205,7 +205,7 @@ impl Drafts {
         let Some(rest) = take_octets(numbers.digits, &mut self.content)? else {
             return Ok(None);
         };
-        if self.content.is_empty() {
+        if self.content.as_slice().is_empty() {
             return Ok(None);
         }
         let item = self.record_of(alloc, &numbers)?;

@@ -12,4 +12,4 @@ loop-high-preserved c =
     c.in_ok-push.ensures.items c.loop-high.invariant
 
 pub returns : goal.returns
-returns c = digits_taken c.args.text.now c.loop-high.rest.now c.loop-high.octets.items c.behind_feed.result c.behind_feed.ensures c.loop-high.invariant
+returns c = digits_taken c.args.text.now c.loop-high.rest.now c.loop-high.octets.items c.behind_feed-2.result c.behind_feed-2.ensures c.loop-high.invariant
