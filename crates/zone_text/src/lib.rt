@@ -15,6 +15,7 @@
 //!   that is wrong, and how: it is no record, or an SOA of another zone, a second one, or one without a serial.
 //! - `read_back_law`, `numbers_back_law`, `flaw_law`: what either form prints is read back as those records; no text of
 //!   which a flaw is told has a zone.
+//! - `plain_count`: so many octets stand first that a name prints as they are.
 //! - `held_back_law`: where a zone has no record but those that it may hold, what is read back of its text has no other.
 //!
 //! # Why it is so
