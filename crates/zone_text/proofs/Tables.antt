@@ -1,10 +1,12 @@
--- The table of the numbers that digits write.
+-- The tables of the numbers that digits write, and of the octets that a name prints as they are.
 use Rattle.std.proofs.Common.{◌≡◌, ◌<◌, ◌≤◌, ◌-◌, ℕ, zero, suc, Bool, true, false, ◌&&◌, T, eqb, get_or, refl, ap, sym, inl, inr, arith, eq-zero-or-pos, eqb→eq, Option, None, Some}
-use Rattle.std.specs.Prelude.{nat_lt}
+use Rattle.std.specs.Prelude.{◌==◌, nat_lt}
 use Rattle.std.proofs.lemmas.Bool.{ltb-true}
 use lib.Ieee.Fits.{and_l, and_r}
 use Rattle.dns_presentation.specs.Octets.{hex_value}
+use Rattle.zone_text.specs.Taking.{is_plain}
 use Rattle.zone_text.specs.declared.digits.TheConstants.{VALUES}
+use Rattle.zone_text.specs.declared.numbers.TheConstants.{PLAIN}
 
 -- a number below 16, or none, and then 255
 is_value : Option ℕ → ℕ → Bool
@@ -53,3 +55,34 @@ is_digit c value h is low = some_value (hex_value c) value (rw is (stands c h)) 
 
 pub no_digit : (c value : ℕ) → c < 256 → value ≡ get_or VALUES c 0 → 16 ≤ value → hex_value c ≡ None
 no_digit c value h is high = none_value (hex_value c) value (rw is (stands c h)) high
+
+-- ---- octets that a name prints as they are
+
+tells : Bool → ℕ → Bool
+tells true told = eqb told 1
+tells false told = eqb told 0
+
+all_told : ℕ → Bool
+all_told zero = true
+all_told (suc c) = tells (is_plain c) (get_or PLAIN c 0) && all_told c
+
+told_below : (n c : ℕ) → T (all_told n) → c < n → T (tells (is_plain c) (get_or PLAIN c 0))
+unfolding all_told tells
+told_below zero c t h = absurd (omega arith)
+told_below (suc n) c t h =
+    elim (eq-zero-or-pos (n - c)) [
+      | inl z ↦ let e : c ≡ n = omega arith in rw e (and_l _ (all_told n) t)
+      | inr g ↦ told_below n c (and_r _ (all_told n) t) (omega arith)
+    ]
+
+told_at : (c : ℕ) → c < 256 → T (tells (is_plain c) (get_or PLAIN c 0))
+unfolding all_told tells
+told_at c h = told_below 256 c tt h
+
+told_is : (b : Bool) (told : ℕ) → T (tells b told) → (told == 1) ≡ b
+unfolding tells
+told_is true told t = ap (λ (n : ℕ). n == 1) (eqb→eq told 1 t)
+told_is false told t = ap (λ (n : ℕ). n == 1) (eqb→eq told 0 t)
+
+pub is_told : (c told : ℕ) → c < 256 → told ≡ get_or PLAIN c 0 → (told == 1) ≡ is_plain c
+is_told c told h is = told_is (is_plain c) told (rw is (told_at c h))
