@@ -1,7 +1,8 @@
 //! A line in numbers and hexadecimal digits, read in one walk. Of an owner with a backslash, and of names for numbers, nothing is told
 //! here.
 
-ghost use Rattle.std.specs.Prelude.{◌≡◌, ◌≤◌, ◌++◌, ◌∷◌, length, take, IfOk, IfSome};
+ghost use Rattle.std.specs.Prelude.{◌≡◌, ◌≤◌, ◌++◌, ◌∷◌, length, map, take, IfOk, IfSome};
+ghost use Rattle.std.specs.Char.{to_ascii_lowercase};
 ghost use Rattle.std.specs.List.{AllByRecursion};
 ghost use Rattle.zone_text.specs.Taking.{IsPlain, TakesLabel, TakesLine, TakesNumber, TakesNumbers, TakesOwner, ender, is_plain};
 
@@ -101,9 +102,16 @@ fn take_label<'a>(
     Ok(Some((is_last, rest)))
 }
 
+/// Puts letters in lower case.
+fn lower(octets: &mut Vec<u8>)
+    ensures { octets.new.items ≡ map to_ascii_lowercase octets.old.items }
+{
+    octets.make_ascii_lowercase();
+}
+
 /// Puts the owner that stands first, without compression and in lower case, in place of other octets, if it is a plain one. Tells
 /// what stands behind the blank that follows.
-#[tactic(auto, using(crate::proofs::Taken::owner_begun, crate::proofs::Taken::label_more, crate::proofs::Taken::label_shorter, crate::proofs::Taken::owner_taken))]
+#[tactic(auto, using(crate::proofs::Taken::owner_begun, crate::proofs::Taken::label_more, crate::proofs::Taken::label_shorter))]
 fn take_owner<'a>(text: &'a [u8], octets: &mut Vec<u8>) -> Result<Option<&'a [u8]>, NoMemory>
     ensures { IfOk result (λ taken. IfSome taken (λ rest. TakesOwner text.now rest.now octets.new.items)) }
 {
@@ -121,7 +129,7 @@ fn take_owner<'a>(text: &'a [u8], octets: &mut Vec<u8>) -> Result<Option<&'a [u8
     if octets.as_slice().len() > 255 {
         return Ok(None);
     }
-    octets.make_ascii_lowercase();
+    lower(octets);
     Ok(Some(rest))
 }
 
