@@ -95,13 +95,13 @@ fn push_octets(text: &mut Vec<u8>, octets: &[u8]) -> Result<(), NoMemory>
 }
 
 /// Adds a label: the octets before the first that is not printed as it is at once.
-#[tactic(auto, using(crate::proofs::Names::plain_front))]
 fn push_label(text: &mut Vec<u8>, label: &[u8]) -> Result<(), NoMemory>
     ensures { OnOk result (text.new.items ≡ text.old.items ++ label_text label.now) }
 {
     let (plain, rest) = label.split_at(plain_count(label));
     text.extend_from_slice(plain)?;
-    push_octets(text, rest)
+    push_octets(text, rest)?;
+    Ok(())
 }
 
 /// Adds a name: labels with dots between, and a dot for the root.
