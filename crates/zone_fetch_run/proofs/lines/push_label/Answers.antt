@@ -1,4 +1,3 @@
-use Rattle.std.proofs.Common.{arith, rules}
 use Rattle.zone_fetch_run.proofs.Names.{plain_front}
 use Rattle.zone_fetch_run.proofs.lines.push_label.Goals as goal
 
