@@ -42,16 +42,16 @@ now_put_all (o ∷ outs) h = now_put_all outs (Put o ∷ h)
 pub now_after : (row : Row) (h : History) → now (after row h) ≡ max row.event.moment.0 (now h)
 now_after row h = now_put_all row.outs (Came row.event ∷ h)
 
-among_left : (o : Out) (a b : List Out) → Among o a → Among o (a ++ b)
+pub among_left : (o : Out) (a b : List Out) → Among o a → Among o (a ++ b)
 among_left o [] b is = absurd is
 among_left o (x ∷ a) b (inl is) = inl is
 among_left o (x ∷ a) b (inr is) = inr (among_left o a b is)
 
-among_right : (o : Out) (a b : List Out) → Among o b → Among o (a ++ b)
+pub among_right : (o : Out) (a b : List Out) → Among o b → Among o (a ++ b)
 among_right o [] b is = is
 among_right o (x ∷ a) b is = inr (among_right o a b is)
 
-outs_append : (a b : List Row) → outs_of (a ++ b) ≡ outs_of a ++ outs_of b
+pub outs_append : (a b : List Row) → outs_of (a ++ b) ≡ outs_of a ++ outs_of b
 outs_append [] b = refl
 outs_append (row ∷ a) b = ap (λ (os : List Out). row.outs ++ os) (outs_append a b) ∙ sym (assoc row.outs (outs_of a) (outs_of b))
   where

@@ -18,5 +18,9 @@ pub mod NoServer
 pub mod Forging
 pub mod Reading
 pub mod Worked
+pub mod Settling
+pub mod Settled
+pub mod Own
 pub mod Sizes
+pub mod WorkedOwn
 pub mod Bounds

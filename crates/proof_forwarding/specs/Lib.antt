@@ -1,6 +1,7 @@
 pub mod Heard
 pub mod Owing
 pub mod Serving
+pub mod Settled
 pub mod Forwarding
 pub mod Forging
 pub mod Worked
@@ -8,4 +9,5 @@ pub mod Sizes
 pub mod Bounds
 pub mod Age
 pub mod Isolation
+pub mod Own
 pub mod NoServer

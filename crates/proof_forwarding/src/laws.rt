@@ -3,9 +3,11 @@
 ghost use Rattle.proof_forwarding.specs.Age.{EveryReplyIsAged, OldRepliesAreRefused};
 ghost use Rattle.proof_forwarding.specs.Bounds.{StreamsAreFew};
 ghost use Rattle.proof_forwarding.specs.Forging.{ForgedAnswersAreFew};
-ghost use Rattle.proof_forwarding.specs.Forwarding.{EveryQueryIsServed, NoAnswerIsOlder};
+ghost use Rattle.proof_forwarding.specs.Forwarding.{EveryQueryIsServed, EveryQueryIsSettled, NoAnswerIsOlder};
 ghost use Rattle.proof_forwarding.specs.Isolation.{EqualQueriesAskTheSame, PeersAreApart};
 ghost use Rattle.proof_forwarding.specs.NoServer.{WorkedForwardings};
+ghost use Rattle.proof_forwarding.specs.Own.{AlikeRepliesAnswerSo, EachGetsItsOwn, WorkedOwn};
+ghost use Rattle.proof_forwarding.specs.Settled.{ServedAreSettled};
 ghost use Rattle.proof_forwarding.specs.Sizes.{DatagramAnswersAreShort};
 ghost use Rattle.proof_forwarding.specs.Worked.{WorkedServing, WrongAnswersAreRefused};
 
@@ -17,6 +19,21 @@ use proof_front::every_forwarded_trace_is_right;
 #[tactic(auto, using(crate::proofs::Forwarded::every_query_served))]
 pub fn every_query_is_served()
     ensures { EveryQueryIsServed }
+{
+    every_forwarded_trace_is_right();
+}
+
+/// Of rows that serve, what became of each query that came: it was paid by one answer, lost, or waits yet.
+pub fn served_are_settled()
+    ensures { ServedAreSettled }
+{}
+
+/// Each query that came has one answer, and each answer is that of one query: it goes out in the row in which the query came, or in a
+/// later one before which no moment is as much as the timeout behind its own. Only one whose stream is gone has none, or whose time
+/// has not come. It does nothing.
+#[tactic(auto, using(crate::proofs::Settled::every_query_settled))]
+pub fn every_query_is_settled()
+    ensures { EveryQueryIsSettled }
 {
     every_forwarded_trace_is_right();
 }
@@ -82,4 +99,21 @@ pub fn equal_queries_ask_the_same()
 /// histories that are made from the beginning on, whose events are alike.
 pub fn worked_forwardings()
     ensures { WorkedForwardings }
+{}
+
+/// Replies that say the same, whatever their ids, the spelling of their questions and the compression of their names, answer a query
+/// by the same octets.
+pub fn alike_replies_answer_so()
+    ensures { AlikeRepliesAnswerSo }
+{}
+
+/// Of two histories, whatever else others ask in them, a query of one peer gets the same octets, where the replies to it say the same
+/// and it is turned away in neither.
+pub fn each_gets_its_own()
+    ensures { EachGetsItsOwn }
+{}
+
+/// A peer asks alone, or behind another that asks the same by another id and spelling: it gets the same.
+pub fn worked_own()
+    ensures { WorkedOwn }
 {}
