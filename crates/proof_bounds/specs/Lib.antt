@@ -2,4 +2,5 @@ pub mod Counts
 pub mod Bounds
 pub mod Cuts
 pub mod Posts
+pub mod Senders
 pub mod Worked

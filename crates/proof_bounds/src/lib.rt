@@ -14,6 +14,6 @@
 mod laws;
 
 pub use laws::{
-    answers_in_a_row_are_few, entries_are_few, every_answer_is_earned, every_event_may_be_cut,
-    listeners_answer_senders, octets_are_cut, streams_keep_little, worked_bounds,
+    answers_in_a_row_are_few, each_goes_to_its_sender, entries_are_few, every_answer_is_earned,
+    every_event_may_be_cut, listeners_answer_senders, octets_are_cut, streams_keep_little, worked_bounds,
 };

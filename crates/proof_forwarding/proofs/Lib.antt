@@ -17,6 +17,7 @@ pub mod Keyed
 pub mod NoServer
 pub mod Forging
 pub mod Reading
+pub mod Ids
 pub mod Worked
 pub mod Settling
 pub mod Settled

@@ -1,6 +1,6 @@
 -- What rows that serve tell of each query that came, in one row.
 use Rattle.std.proofs.Common.{◌≡◌, ℕ, suc, ◌+◌, ◌<◌, List, [], ◌∷◌, ◌++◌, Option, None, Bool, true, false, cond, refl, sym, subst, ap, ◌∙◌, inl, inr}
-use Rattle.std.specs.Prelude.{◌⊎◌, map, ◌==◌, ◌||◌, not, is_some, Result, IsPermutation, if◌after◌else◌}
+use Rattle.std.specs.Prelude.{◌⊎◌, map, ◌==◌, ◌||◌, not, is_some, Result, IsPermutation, if◌then◌else◌}
 use Rattle.std.specs.List.{AllByRecursion, filter}
 use Rattle.std.proofs.lemmas.List.Sorted.{IsPermutation-refl, IsPermutation-middle, IsPermutation-trans, IsPermutation-append_left, IsPermutation-append_right, IsPermutation-append_comm}
 use Rattle.client_request.specs.declared.error.Error.{Error}

@@ -1,6 +1,6 @@
 -- A worked history, and rows that are refused.
 use Rattle.std.proofs.Common.{◌≡◌, ◌≢◌, ℕ, ◌+◌, ◌<◌, ◌≤◌, Bool, true, false, List, [], ◌∷◌, refl, sym, subst, ap, ◌∙◌, arith, inl, inr}
-use Rattle.std.specs.Prelude.{◌==◌, ◌||◌, not, is_some, max, length, None, Result, if◌then◌else◌}
+use Rattle.std.specs.Prelude.{◌==◌, ◌||◌, not, is_some, max, length, take, None, Result, if◌then◌else◌}
 use Rattle.std.specs.List.{AllByRecursion}
 use Rattle.client_request.specs.declared.error.Error.{Error}
 use Rattle.client_request.specs.declared.event.Out.TheVariants.{Reply}
@@ -24,7 +24,8 @@ use Rattle.proof_forwarding.specs.Heard.{Heard, after_row, nothing_heard, told_b
 use Rattle.proof_forwarding.specs.Owing as owing
 use Rattle.proof_forwarding.specs.Owing.{Answers, AreMany, AreYoung, IsAnswered, OfItself, Owed, Replies, Takes, due, is_reached}
 use Rattle.proof_forwarding.specs.Serving.{IsReplied, IsReply, RowServes, ServesAll, Turn, begins, goes_on}
-use Rattle.proof_forwarding.specs.Worked.{Never, Others, ToAnother, TooSoon, Twice, WhenGone, WorkedServing, WrongAnswersAreRefused, at, one_owed, worked_rows, worked_trace}
+use Rattle.proof_forwarding.specs.Worked.{Never, OtherId, OtherKey, Others, ToAnother, TooSoon, Twice, WhenGone, WorkedServing, WrongAnswersAreRefused, at, one_owed, worked_rows, worked_trace}
+use Rattle.proof_forwarding.proofs.Ids.{answers_under}
 use Rattle.proof_forwarding.proofs.Keeping.{is_same}
 use Rattle.proof_forwarding.proofs.Histories.{said_in, turn}
 use Rattle.proof_forwarding.proofs.Paying.{Says, pays_more, pays_one}
@@ -203,6 +204,13 @@ module _ (timeout : ℕ) (turns : List Turn) (heard : Heard) (q : Query) (left :
   pub others : Others timeout turns heard q left
   others octets other row = by_answers octets other (one_put 100 (Answer 1 octets ∷ []) row 1 octets (inl refl)).1
 
+  pub other_id : OtherId timeout turns heard q left
+  other_id octets a b c d head high low other row =
+      others octets (λ reply said is. other (ap (take 2) is ∙ (answers_under q reply a b c d head high low).datagram)) row
+
+  pub other_key : OtherKey timeout turns heard q left
+  other_key octets none row = others octets (λ reply said is. none reply said) row
+
   -- the query that comes
   abbrev IsTheItem : Item → Type 0
   IsTheItem (Asks a) = a ≡ asker 1 false q
@@ -238,5 +246,7 @@ refused_rows timeout turns heard q left = record {
   never = never timeout turns heard q left;
   gone = when_gone timeout turns heard q left true;
   others = others timeout turns heard q left;
+  other_id = other_id timeout turns heard q left;
+  other_key = other_key timeout turns heard q left;
   soon = soon timeout turns heard q left;
 }

@@ -6,6 +6,7 @@ pub mod Forwarding
 pub mod Forging
 pub mod Worked
 pub mod Sizes
+pub mod Ids
 pub mod Bounds
 pub mod Age
 pub mod Isolation

@@ -17,6 +17,7 @@ use Rattle.front_queries.specs.Requests.{request_of}
 use Rattle.front_queries.specs.declared.sorting.Sorted.TheVariants.{Taken}
 use Rattle.proof_forwarding.specs.Forwarding.{by_itself}
 use Rattle.proof_forwarding.specs.Heard.{Heard}
+use Rattle.proof_forwarding.specs.Ids.{IsUnder}
 use Rattle.proof_forwarding.specs.Owing.{Owed}
 use Rattle.proof_forwarding.specs.Serving.{IsReplied, RowServes, ServesAll, Turn}
 
@@ -63,6 +64,16 @@ module _ (timeout : ℕ) (turns : List Turn) (heard : Heard) (q : Query) (left :
   Others = (octets : List ℕ) → ((reply : Result (List ℕ) Error) → IsReplied turns q reply → octets ≢ answer_to q false reply)
       → RowServes timeout by_itself (at 100 (Core Tick) (Answer 1 octets ∷ [])) turns heard (one_owed 1 false q) left → ⊥
 
+  -- octets that begin with another id than its own, as with that of another query
+  abbrev pub OtherId : Type 0
+  OtherId = (octets : List ℕ) (a b c d : ℕ) → q.header ≡ a ∷ b ∷ c ∷ d ∷ [] → a < 256 → b < 256 → (IsUnder a b octets → ⊥)
+      → RowServes timeout by_itself (at 100 (Core Tick) (Answer 1 octets ∷ [])) turns heard (one_owed 1 false q) left → ⊥
+
+  -- any octets where no client replied to a query with its key
+  abbrev pub OtherKey : Type 0
+  OtherKey = (octets : List ℕ) → ((reply : Result (List ℕ) Error) → IsReplied turns q reply → ⊥)
+      → RowServes timeout by_itself (at 100 (Core Tick) (Answer 1 octets ∷ [])) turns heard (one_owed 1 false q) left → ⊥
+
   -- it is turned away as it comes, while none waits
   abbrev pub TooSoon : Type 0
   TooSoon = (octets : List ℕ) → sorted octets ≡ Taken q → ((reply : Result (List ℕ) Error) → IsReplied turns q reply → turned_away q ≢ answer_to q false reply)
@@ -74,6 +85,8 @@ module _ (timeout : ℕ) (turns : List Turn) (heard : Heard) (q : Query) (left :
     pub never : Never
     pub gone : WhenGone true
     pub others : Others
+    pub other_id : OtherId
+    pub other_key : OtherKey
     pub soon : TooSoon
 
 abbrev pub WrongAnswersAreRefused : Type 0

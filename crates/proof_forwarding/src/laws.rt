@@ -4,6 +4,7 @@ ghost use Rattle.proof_forwarding.specs.Age.{EveryReplyIsAged, OldRepliesAreRefu
 ghost use Rattle.proof_forwarding.specs.Bounds.{StreamsAreFew};
 ghost use Rattle.proof_forwarding.specs.Forging.{ForgedAnswersAreFew};
 ghost use Rattle.proof_forwarding.specs.Forwarding.{EveryQueryIsServed, EveryQueryIsSettled, NoAnswerIsOlder};
+ghost use Rattle.proof_forwarding.specs.Ids.{AnswersHaveTheirIds};
 ghost use Rattle.proof_forwarding.specs.Isolation.{EqualQueriesAskTheSame, PeersAreApart};
 ghost use Rattle.proof_forwarding.specs.NoServer.{WorkedForwardings};
 ghost use Rattle.proof_forwarding.specs.Own.{AlikeRepliesAnswerSo, EachGetsItsOwn, WorkedOwn};
@@ -63,8 +64,9 @@ pub fn worked_serving()
     ensures { WorkedServing }
 {}
 
-/// Answers to another peer, a second time, never, once the stream is gone, and of other octets, as those for another query or those
-/// that turn one away which waits, are refused; and so is to turn one away as it comes while none waits.
+/// Answers to another peer, a second time, never, once the stream is gone, under another id, of a reply to another key, and of other
+/// octets, as those for another query or those that turn one away which waits, are refused; and so is to turn one away as it comes
+/// while none waits.
 pub fn wrong_answers_are_refused()
     ensures { WrongAnswersAreRefused }
 {}
@@ -77,6 +79,11 @@ pub fn streams_are_few()
 /// An answer by a datagram has at most 1232 octets, or those of a header, the query's question and an OPT record.
 pub fn datagram_answers_are_short()
     ensures { DatagramAnswersAreShort }
+{}
+
+/// Each answer to a query, and what turns it away, begins with the query's id.
+pub fn answers_have_their_ids()
+    ensures { AnswersHaveTheirIds }
 {}
 
 /// Datagrams that were made up before an id was drawn answer under at most as many ids as they are (RFC 5452, 9.2).

@@ -29,7 +29,7 @@
 mod laws;
 
 pub use laws::{
-    alike_replies_answer_so, datagram_answers_are_short, each_gets_its_own,
+    alike_replies_answer_so, answers_have_their_ids, datagram_answers_are_short, each_gets_its_own,
     equal_queries_ask_the_same, every_query_is_served, every_query_is_settled,
     every_reply_is_aged, forged_answers_are_few, no_answer_is_older, old_replies_are_refused,
     peers_are_apart, served_are_settled, streams_are_few, worked_forwardings, worked_own, worked_serving,
