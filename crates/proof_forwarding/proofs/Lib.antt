@@ -14,13 +14,14 @@ pub mod Alike
 pub mod Apart
 pub mod Isolated
 pub mod Keyed
-pub mod NoServer
 pub mod Forging
 pub mod Reading
 pub mod Ids
 pub mod Worked
+pub mod NoServer
 pub mod Settling
 pub mod Settled
+pub mod Unsettled
 pub mod Own
 pub mod Sizes
 pub mod WorkedOwn

@@ -12,3 +12,4 @@ pub mod Age
 pub mod Isolation
 pub mod Own
 pub mod NoServer
+pub mod Unsettled
