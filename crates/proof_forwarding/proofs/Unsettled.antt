@@ -1,7 +1,7 @@
 -- Rows that are not settled.
-use Rattle.std.proofs.Common.{◌≡◌, ℕ, suc, ◌+◌, ◌<◌, ◌≤◌, List, [], ◌∷◌, ◌++◌, length, Bool, true, false, refl, sym, subst, ap, ◌∙◌, arith}
+use Rattle.std.proofs.Common.{◌≡◌, ℕ, suc, ◌+◌, ◌<◌, ◌≤◌, List, [], ◌∷◌, ◌++◌, length, slice_index_or, Bool, true, false, refl, sym, subst, ap, ◌∙◌, arith}
 use Rattle.std.specs.Prelude.{zero, map, max, not, is_some, ◌||◌, Result, IsPermutation}
-use Rattle.std.specs.List.{AllByRecursion, Contains, filter, slice_index_or}
+use Rattle.std.specs.List.{AllByRecursion, Contains, filter}
 use Rattle.std.proofs.lemmas.List.Sorted.{IsPermutation-sym, Contains-permutation, length_permutation}
 use Rattle.client_request.specs.declared.error.Error.{Error}
 use Rattle.client_request.specs.declared.event.What.TheVariants.{Tick}
