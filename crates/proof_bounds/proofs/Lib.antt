@@ -6,7 +6,6 @@ pub mod Earning
 pub mod Little
 pub mod Rows
 pub mod Posts
-pub mod Senders
 pub mod Worked
 pub mod Stepping
 pub mod Entries

@@ -14,10 +14,10 @@ is_same a b is = grind (arith, nat_tests)
 pub is_other : (a b : ℕ) → a ≢ b → (a == b) ≡ false
 is_other a b ne = grind (arith, nat_tests)
 
-pub equal_keys : (j k : ℕ) → nat_cmp j k ≡ Equal → j ≡ k
+equal_keys : (j k : ℕ) → nat_cmp j k ≡ Equal → j ≡ k
 equal_keys j k is = grind (arith, nat_tests)
 
-pub is_equal : (r : Ordering) → is_eq r ≡ true → r ≡ Equal
+is_equal : (r : Ordering) → is_eq r ≡ true → r ≡ Equal
 is_equal Less is = absurd (cc)
 is_equal Equal is = refl
 is_equal Greater is = absurd (cc)

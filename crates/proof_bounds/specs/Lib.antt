@@ -2,5 +2,4 @@ pub mod Counts
 pub mod Bounds
 pub mod Cuts
 pub mod Posts
-pub mod Senders
 pub mod Worked

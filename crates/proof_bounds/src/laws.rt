@@ -3,7 +3,6 @@
 ghost use Rattle.proof_bounds.specs.Bounds.{AnswersInARowAreFew, EntriesAreFew, EveryAnswerIsEarned, StreamsKeepLittle};
 ghost use Rattle.proof_bounds.specs.Cuts.{EveryEventMayBeCut, OctetsAreCut};
 ghost use Rattle.proof_bounds.specs.Posts.{ListenersAnswerSenders};
-ghost use Rattle.proof_bounds.specs.Senders.{EachGoesToItsSender};
 ghost use Rattle.proof_bounds.specs.Worked.{WorkedBounds};
 
 /// Each peer has at most one answer for each of its datagrams, and by a stream one for each 14 octets.
@@ -40,12 +39,6 @@ pub fn every_event_may_be_cut()
 /// To any addresses a listener sends no more datagrams than came from them there, and at most 20,000 senders are kept.
 pub fn listeners_answer_senders()
     ensures { ListenersAnswerSenders }
-{}
-
-/// An answer to the number of a datagram goes, if anything is sent, to the address from which a datagram came that was told under that
-/// number, by the listener at which it came.
-pub fn each_goes_to_its_sender()
-    ensures { EachGoesToItsSender }
 {}
 
 /// Worked rows, octets and posts that are so, and some that are refused.

@@ -5,17 +5,15 @@
 //! and things come of its event; of a stream at most 65,536 octets are kept; the client keeps at most as many results as
 //! its cache may have. The messages of a stream are a function of its octets, wherever these are cut, and two events at one
 //! moment come to what one does. Of the books of listeners: to any addresses a listener sends no more datagrams than came
-//! from them there, and each answer to the number of a datagram goes to the address from which one came that was told under
-//! that number, by the listener at which it came; and at most 20,000 senders are kept. Not said: how many queries wait beyond 10,000, since one is asked
+//! from them there, and at most 20,000 senders are kept. Not said: how many queries wait beyond 10,000, since one is asked
 //! there where the cache serves it, and no law says that its reply comes in the same row. By `every_answer_is_earned`,
 //! `answers_in_a_row_are_few`, `streams_keep_little`, `entries_are_few`, `octets_are_cut`, `every_event_may_be_cut`,
-//! `listeners_answer_senders`, `each_goes_to_its_sender`, `worked_bounds`.
+//! `listeners_answer_senders`, `worked_bounds`.
 #![tactic(auto)]
 
 mod laws;
 
 pub use laws::{
-    answers_in_a_row_are_few, each_goes_to_its_sender, entries_are_few, every_answer_is_earned,
-    every_event_may_be_cut, listeners_answer_senders, octets_are_cut, streams_keep_little,
-    worked_bounds,
+    answers_in_a_row_are_few, entries_are_few, every_answer_is_earned, every_event_may_be_cut,
+    listeners_answer_senders, octets_are_cut, streams_keep_little, worked_bounds,
 };

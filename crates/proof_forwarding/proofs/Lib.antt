@@ -19,9 +19,6 @@ pub mod Reading
 pub mod Ids
 pub mod Worked
 pub mod NoServer
-pub mod Settling
-pub mod Settled
-pub mod Unsettled
 pub mod Own
 pub mod Sizes
 pub mod WorkedOwn

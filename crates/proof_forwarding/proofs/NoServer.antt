@@ -1,6 +1,6 @@
 -- A query of which a forwarder makes a row, where no server is configured.
 use Rattle.std.proofs.Common.{◌≡◌, ℕ, zero, suc, ◌<◌, List, [], ◌∷◌, Option, Some, None, Bool, true, false, refl, sym, subst, ap, ◌∙◌, arith}
-use Rattle.std.specs.Prelude.{Result, Err, nat_lt, option_and_then, option_map, slice_index, ◌&&◌}
+use Rattle.std.specs.Prelude.{Err, nat_lt, option_and_then, option_map, slice_index, ◌&&◌}
 use Rattle.std.proofs.lemmas.Bool.Decides.{nat_tests}
 use Rattle.dns_names.specs.Name.{name_at, walk, head_at}
 use Rattle.dns_base.specs.Compression.{counted, with_counted_data, with_data, with_fields, with_label, with_name, with_numbers, with_octets, with_question, with_record}
@@ -12,7 +12,6 @@ use Rattle.dns_base.specs.OptRecord.{opt_of, opt_record}
 use Rattle.dns_base.specs.Sections.{counts_spelling}
 use Rattle.client_request.specs.Carries.{IsOfOctets}
 use Rattle.client_request.specs.Composed.{appended, composed}
-use Rattle.client_request.specs.declared.error.Error.{Error}
 use Rattle.client_request.specs.declared.error.Error.TheVariants.{NoTransportAvailable}
 use Rattle.client_request.specs.declared.event.Out.{Out}
 use Rattle.client_request.specs.declared.event.Out.TheVariants.{Reply}
@@ -41,8 +40,7 @@ use Rattle.front_steps.specs.Steps.{DidItem, DidRow, Doing, Forwarding, Runs, Sc
 use Rattle.front_steps.specs.Waits.{asks_anew, none_waits, puts_all}
 use Rattle.front_steps.specs.declared.putting.Desk.{Desk}
 use Rattle.proof_forwarding.specs.Isolation.{AreOfPeer}
-use Rattle.proof_forwarding.specs.NoServer.{IsMade, OtherSpellingIsRefused, WorkedForwardings, answered, asked, asking, asking_sized, came, failing, failing_sized, failing_spelled, first, query, query_sized, replied}
-use Rattle.proof_forwarding.proofs.Worked.{others}
+use Rattle.proof_forwarding.specs.NoServer.{IsMade, WorkedForwardings, answered, asked, asking, asking_sized, came, failing, failing_sized, first, query, query_sized, replied}
 
 is_taken : sorted asking ≡ Taken query
 unfolding name_at walk head_at question_at record_at list_at items_at questions_of answer_of authority_of additional_of answer_items authority_items additional_items first_question sole_question reads opt_of opt_record
@@ -187,13 +185,3 @@ worked_forwardings words = record {
   sized = is_made asking_sized failing_sized query_sized sized_is_taken refl sized_answer words;
   alike = (AreOfPeer asking asking_sized query query_sized refl refl refl is_taken sized_is_taken (record { request = refl; key = refl }), tt);
 }
-
--- ---- another spelling
-
-not_spelled : failing_spelled ≡ failing → ⊥
-not_spelled is = let e : 65 ≡ 97 = ap (λ (l : List ℕ). slice_index l 13) is in omega arith
-
-pub other_spelling : OtherSpellingIsRefused
-other_spelling timeout turns heard left all row =
-    others timeout turns heard query left failing_spelled
-    (λ reply said is. not_spelled (is ∙ ap (λ (x : Result (List ℕ) Error). answer_to query false x) (all reply said) ∙ plain_answer)) row

@@ -11,8 +11,7 @@ use Rattle.front_queries.specs.Query.{Query}
 use Rattle.front_steps.specs.Steps.{Forwarding, beginning}
 use Rattle.proof_client.specs.Above.{AreWords}
 use Rattle.proof_forwarding.specs.Age.{AreAged}
-use Rattle.proof_forwarding.specs.Serving.{IsReplied, ServesAll}
-use Rattle.proof_forwarding.specs.Settled.{Settled}
+use Rattle.proof_forwarding.specs.Serving.{ServesAll}
 use Rattle.resolv_conf.specs.declared.conf.ResolvConf.{ResolvConf}
 use Rattle.right_settings.specs.Given.{AreGiven}
 use Rattle.right_trace.specs.Trace as trace
@@ -26,12 +25,6 @@ abbrev pub EveryQueryIsServed : Type 0
 EveryQueryIsServed = (t : trace.Transports) (given : Transports) (redundant : RedundantSettings) (cache : CacheSettings) (conf : ResolvConf) (words : ℕ → ℕ) (rows : List FrontRow) (made : List Row) (last : Forwarding Whole) (left : ℕ → ℕ)
     → AreGiven (conf_with t conf) given → Forwards (beginning (started_with given redundant cache conf)) words rows made last left → cache.max_validity ≤ seconds 6048000 → AreWords words
     → ServesAll conf.options.timeout by_itself rows (made ∷ [])
-
--- So each query that came has one answer, in the row in which it came or a later one up to the first that is as much as the timeout behind it; or its stream is gone; or that row is still to come. And nothing else is sent.
-abbrev pub EveryQueryIsSettled : Type 0
-EveryQueryIsSettled = (t : trace.Transports) (given : Transports) (redundant : RedundantSettings) (cache : CacheSettings) (conf : ResolvConf) (words : ℕ → ℕ) (rows : List FrontRow) (made : List Row) (last : Forwarding Whole) (left : ℕ → ℕ)
-    → AreGiven (conf_with t conf) given → Forwards (beginning (started_with given redundant cache conf)) words rows made last left → cache.max_validity ≤ seconds 6048000 → AreWords words
-    → Settled conf.options.timeout (IsReplied (record { before = []; made = made } ∷ [])) by_itself rows
 
 -- The client within a forwarder gives no reply that is older.
 abbrev pub NoAnswerIsOlder : Type 0

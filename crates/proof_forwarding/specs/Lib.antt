@@ -12,4 +12,3 @@ pub mod Age
 pub mod Isolation
 pub mod Own
 pub mod NoServer
-pub mod Unsettled

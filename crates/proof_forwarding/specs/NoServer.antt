@@ -1,27 +1,21 @@
 -- A history of a forwarder for which no server is configured.
-use Rattle.std.specs.Prelude.{◌≡◌, ℕ, false, List, [], ◌∷◌, Some, None, Result, Err}
-use Rattle.client_request.specs.declared.error.Error.{Error}
+use Rattle.std.specs.Prelude.{ℕ, false, List, [], ◌∷◌, Some, None, Err}
 use Rattle.client_request.specs.declared.error.Error.TheVariants.{NoTransportAvailable}
 use Rattle.client_request.specs.declared.event.Event.{Event}
 use Rattle.client_request.specs.declared.event.Out.TheVariants.{Reply}
 use Rattle.client_request.specs.declared.event.Row.{Row}
-use Rattle.client_request.specs.declared.event.What.TheVariants.{Ask, Tick}
+use Rattle.client_request.specs.declared.event.What.TheVariants.{Ask}
 use Rattle.client_settings.specs.Settings.{default_cache, default_redundant}
 use Rattle.client_steps.specs.Whole.{Whole, started}
 use Rattle.front_core.specs.Forwarded.{Forwards}
 use Rattle.front_peers.specs.declared.event.FrontEvent.{FrontEvent}
 use Rattle.front_peers.specs.declared.event.FrontOut.TheVariants.{Answer}
 use Rattle.front_peers.specs.declared.event.FrontRow.{FrontRow}
-use Rattle.front_peers.specs.declared.event.FrontWhat.TheVariants.{Core, Datagram}
+use Rattle.front_peers.specs.declared.event.FrontWhat.TheVariants.{Datagram}
 use Rattle.front_queries.specs.Query.{Query}
 use Rattle.front_queries.specs.Requests.{request_of}
 use Rattle.front_steps.specs.Steps.{Forwarding, beginning}
-use Rattle.proof_forwarding.specs.Forwarding.{by_itself}
-use Rattle.proof_forwarding.specs.Heard.{Heard}
 use Rattle.proof_forwarding.specs.Isolation.{AreEventsAlike}
-use Rattle.proof_forwarding.specs.Owing.{Owed}
-use Rattle.proof_forwarding.specs.Serving.{IsReplied, RowServes, Turn}
-use Rattle.proof_forwarding.specs.Worked.{at, one_owed}
 use Rattle.resolv_conf.specs.Conf.{default_options}
 use Rattle.resolv_conf.specs.declared.conf.ResolvConf.{ResolvConf}
 
@@ -35,10 +29,6 @@ query = record { header = 18 ∷ 52 ∷ 1 ∷ 0 ∷ []; asked = record { name = 
 -- the same with SERVFAIL
 abbrev pub failing : List ℕ
 failing = 18 ∷ 52 ∷ 129 ∷ 2 ∷ 0 ∷ 1 ∷ 0 ∷ 0 ∷ 0 ∷ 0 ∷ 0 ∷ 0 ∷ 1 ∷ 97 ∷ 0 ∷ 0 ∷ 1 ∷ 0 ∷ 1 ∷ []
-
--- the same with the spelling of another query, "A"
-abbrev pub failing_spelled : List ℕ
-failing_spelled = 18 ∷ 52 ∷ 129 ∷ 2 ∷ 0 ∷ 1 ∷ 0 ∷ 0 ∷ 0 ∷ 0 ∷ 0 ∷ 0 ∷ 1 ∷ 65 ∷ 0 ∷ 0 ∷ 1 ∷ 0 ∷ 1 ∷ []
 
 -- the same query with an OPT record of size 1232, and its answer
 abbrev pub asking_sized : List ℕ
@@ -83,8 +73,3 @@ pub record WorkedForwarding (words : ℕ → ℕ) : Type 0 where
 
 abbrev pub WorkedForwardings : Type 0
 WorkedForwardings = (words : ℕ → ℕ) → WorkedForwarding words
-
--- Where the client replied so, no row serves in which the query gets the spelling of another that asks the same.
-abbrev pub OtherSpellingIsRefused : Type 0
-OtherSpellingIsRefused = (timeout : ℕ) (turns : List Turn) (heard : Heard) (left : List Owed) → ((reply : Result (List ℕ) Error) → IsReplied turns query reply → reply ≡ Err NoTransportAvailable)
-    → RowServes timeout by_itself (at 100 (Core Tick) (Answer 1 failing_spelled ∷ [])) turns heard (one_owed 1 false query) left → ⊥

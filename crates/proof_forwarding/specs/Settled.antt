@@ -2,7 +2,6 @@
 use Rattle.std.specs.Prelude.{◌≡◌, ℕ, suc, ◌+◌, ◌<◌, ◌⊎◌, Bool, true, false, List, [], ◌∷◌, ◌++◌, map, Option, Result, IsPermutation, if◌then◌else◌}
 use Rattle.std.specs.List.{AllByRecursion, filter}
 use Rattle.client_request.specs.declared.error.Error.{Error}
-use Rattle.client_request.specs.declared.event.Row.{Row}
 use Rattle.front_peers.specs.Items.{is_stream, of_datagram}
 use Rattle.front_peers.specs.declared.event.FrontOut.{FrontOut}
 use Rattle.front_peers.specs.declared.event.FrontOut.TheVariants as out
@@ -17,7 +16,6 @@ use Rattle.front_queries.specs.Query.{Query}
 use Rattle.front_queries.specs.Refusals.{sorted}
 use Rattle.proof_forwarding.specs.Heard.{Heard, after_row, brought, nothing_heard}
 use Rattle.proof_forwarding.specs.Owing.{Answers, as_sent, is_reached}
-use Rattle.proof_forwarding.specs.Serving.{IsReplied, ServesAll, Turn}
 
 -- A row's number, from 0, and what is told of peers before it and behind it.
 pub record Spot : Type 0 where
@@ -97,10 +95,6 @@ abbrev pub all_sent : (row : ℕ) → Heard → List FrontRow → List Sent
 all_sent row h [] = []
 all_sent row h (r ∷ rows) = sent_at (spot row h r) r.outs ++ all_sent (suc row) (after_row r h) rows
 
--- the rows of a client as those of one turn
-abbrev pub at_once : List Row → Turn
-at_once rows = record { before = []; made = rows }
-
 -- It is one of these.
 abbrev pub IsSpotOf : Spot → List Spot → Type 0
 IsSpotOf at [] = ⊥
@@ -144,7 +138,3 @@ module _ (timeout : ℕ) (replied : Query → Result (List ℕ) Error → Type 0
     pub pays : AllByRecursion IsPaid paid
     pub loses : AllByRecursion (IsLost (spots 0 nothing_heard rows)) lost
     pub waits : AllByRecursion (IsYet timeout (heard_behind nothing_heard rows).now) waiting
-
--- Rows that serve are such.
-abbrev pub ServedAreSettled : Type 0
-ServedAreSettled = (timeout : ℕ) (own : Query → Option (List ℕ)) (rows : List FrontRow) (traces : List (List Row)) → ServesAll timeout own rows traces → Settled timeout (IsReplied (map at_once traces)) own rows

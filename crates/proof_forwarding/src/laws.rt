@@ -3,14 +3,12 @@
 ghost use Rattle.proof_forwarding.specs.Age.{EveryReplyIsAged, OldRepliesAreRefused};
 ghost use Rattle.proof_forwarding.specs.Bounds.{StreamsAreFew};
 ghost use Rattle.proof_forwarding.specs.Forging.{ForgedAnswersAreFew};
-ghost use Rattle.proof_forwarding.specs.Forwarding.{EveryQueryIsServed, EveryQueryIsSettled, NoAnswerIsOlder};
+ghost use Rattle.proof_forwarding.specs.Forwarding.{EveryQueryIsServed, NoAnswerIsOlder};
 ghost use Rattle.proof_forwarding.specs.Ids.{AnswersHaveTheirIds};
 ghost use Rattle.proof_forwarding.specs.Isolation.{EqualQueriesAskTheSame, PeersAreApart};
-ghost use Rattle.proof_forwarding.specs.NoServer.{OtherSpellingIsRefused, WorkedForwardings};
+ghost use Rattle.proof_forwarding.specs.NoServer.{WorkedForwardings};
 ghost use Rattle.proof_forwarding.specs.Own.{AlikeRepliesAnswerSo, EachGetsItsOwn, WorkedOwn};
-ghost use Rattle.proof_forwarding.specs.Settled.{ServedAreSettled};
 ghost use Rattle.proof_forwarding.specs.Sizes.{DatagramAnswersAreShort};
-ghost use Rattle.proof_forwarding.specs.Unsettled.{UnsettledRowsAreRefused};
 ghost use Rattle.proof_forwarding.specs.Worked.{WorkedServing, WrongAnswersAreRefused};
 
 use proof_front::every_forwarded_trace_is_right;
@@ -21,26 +19,6 @@ use proof_front::every_forwarded_trace_is_right;
 #[tactic(auto, using(crate::proofs::Forwarded::every_query_served))]
 pub fn every_query_is_served()
     ensures { EveryQueryIsServed }
-{
-    every_forwarded_trace_is_right();
-}
-
-/// Of rows that serve, what became of each query that came: it was paid by one answer, lost, or waits yet.
-pub fn served_are_settled()
-    ensures { ServedAreSettled }
-{}
-
-/// Rows in which one query comes and two answers go out, or none by its timeout, are not such.
-pub fn unsettled_rows_are_refused()
-    ensures { UnsettledRowsAreRefused }
-{}
-
-/// Each query that came has one answer, and each answer is that of one query: it goes out in the row in which the query came, or in a
-/// later one before which no moment is as much as the timeout behind its own. Only one whose stream is gone has none, or whose time
-/// has not come. It does nothing.
-#[tactic(auto, using(crate::proofs::Settled::every_query_settled))]
-pub fn every_query_is_settled()
-    ensures { EveryQueryIsSettled }
 {
     every_forwarded_trace_is_right();
 }
@@ -75,11 +53,6 @@ pub fn worked_serving()
 /// while none waits.
 pub fn wrong_answers_are_refused()
     ensures { WrongAnswersAreRefused }
-{}
-
-/// A row in which a query gets the spelling of another that asks the same is refused.
-pub fn other_spelling_is_refused()
-    ensures { OtherSpellingIsRefused }
 {}
 
 /// Behind each event at most 100 streams of DNS clients are open.
