@@ -25,8 +25,9 @@
 //!   client's alone, by no table of the forwarder, that each answer goes for one query of that very peer and is its own,
 //!   that one is turned away only as it comes, while as many wait as may, and that none waits for as long as the timeout
 //!   (`ServesAll`). `each_gets_its_own` says that replies which say the same answer a query of one peer by the same octets in
-//!   any two settled histories (`SaySame`). `no_answer_is_older` says how long ago servers said what the client replied (`AreAged`), and `peers_are_apart` that nothing of a peer's query but id, question, RD,
-//!   AD, CD and DO changes what others get (`AreEventsAlike`, `AreAllOutsAlike`).
+//!   any two settled histories (`SaySame`). `no_answer_is_older` says how long ago servers said what the client replied
+//!   (`AreAged`), and `peers_are_apart` that nothing of a peer's query but id, question, RD, AD, CD and DO changes what
+//!   others get (`AreEventsAlike`, `AreAllOutsAlike`).
 #![tactic(auto)]
 
 mod laws;
