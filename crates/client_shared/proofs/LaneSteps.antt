@@ -111,7 +111,7 @@ begun_of o old new events (Ok receipts) e = lane_begun old new events receipts.i
 begun_of o old new events (Err error) e = e.begun
 
 no_lane : (o : Opening) (receipts : Vec Receipt Global) → receipts.items ≡ [] → LanesEnd o [] [] [] (Ok receipts)
-no_lane o receipts none = record { whole = none; begun = tt; ends = tt; failed = λ is. absurd (cc is); numbers = λ is. absurd (cc is) }
+no_lane o receipts none = record { whole = none; begun = tt; ends = tt; failed = λ is. absurd (cc is); numbers = λ is. absurd (cc is); answered = tt }
 
 pub lanes_none : (o : Opening) (ps qs : List Passed) (lanes : List (List Event)) (receipts : Vec Receipt Global) → ps ≡ [] → qs ≡ [] → lanes ≡ [] → receipts.items ≡ [] → LanesEnd o ps qs lanes (Ok receipts)
 lanes_none o ps qs lanes receipts p q l none = subst (λ (z : List Passed × List Passed × List (List Event)). LanesEnd o z.0 z.1 z.2 (Ok receipts)) (λ i. (sym p i, sym q i, sym l i)) (no_lane o receipts none)
@@ -130,6 +130,7 @@ module _ (o : Opening) (p q : Passed) (ps qs : List Passed) (events : List Event
     ends = tt;
     failed = λ is. absurd (cc is);
     numbers = λ is. absurd (cc is);
+    answered = (first, rest, l, ls.answered, j);
   }
   lanes_more first rest (Err error) l ls j = record {
     whole = tt;
@@ -145,6 +146,7 @@ module _ (o : Opening) (p q : Passed) (ps qs : List Passed) (events : List Event
         ⊎_elim (λ (n : error ≡ NoMemory). absurd (cc (same, n)))
         (λ t. ⊎_elim (λ (f : IsErrOf first error). inl (l.numbers (f ∙ ap Err same))) (λ (r : IsErrOf rest error). inr (ls.numbers (r ∙ ap Err same))) t)
         j.error;
+    answered = (first, rest, l, ls.answered, j);
   }
     where
       ended : (r : Result (Vec Receipt Global) Error) (e : Error) → IfErr r IsLaneEnd → IsErrOf r e → IsLaneEnd e

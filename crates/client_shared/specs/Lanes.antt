@@ -79,14 +79,6 @@ pub record LaneEnds (o : Opening) (old new : Passed) (events : List Event) (resu
   pub failed : IsErrOf result Failed → EndsLost new.seen
   pub numbers : IsErrOf result NumbersUsed → IsStoppedLane o old new events
 
--- What lanes come to.
-pub record LanesEnd (o : Opening) (old new : List Passed) (lanes : List (List Event)) (result : Result (Vec Receipt Global) Error) : Type 0 where
-  pub whole : IfOk result (λ receipts. AreLanes old new lanes receipts.items)
-  pub begun : AreBegunLanes old new lanes
-  pub ends : IfErr result IsLaneEnd
-  pub failed : IsErrOf result Failed → IsSomeLost new
-  pub numbers : IsErrOf result NumbersUsed → IsSomeStopped o old new lanes
-
 -- these receipts are those of both, one behind the other
 abbrev pub AreJoined : (first rest : Result (Vec Receipt Global) Error) → List Receipt → Type 0
 AreJoined (Ok first) (Ok rest) receipts = receipts ≡ first.items ++ rest.items
@@ -98,3 +90,20 @@ pub record IsJoined (first rest result : Result (Vec Receipt Global) Error) : Ty
   pub error : IfErr result (λ e. (e ≡ NoMemory) ⊎ (IsErrOf first e ⊎ IsErrOf rest e))
   pub first_counts : IfErr first (λ e. e ≢ Failed → IsErrOf result e)
   pub rest_counts : IfErr rest (λ e. IfErr first (λ d. d ≡ Failed → IsErrOf result e))
+
+-- Each lane comes to a result. The answer is the first error of theirs, by lane, that is not `Failed`, or else `Failed`, or all their receipts.
+abbrev pub IsAnswerOf : Opening → (old new : List Passed) → List (List Event) → Result (Vec Receipt Global) Error → Type 0
+IsAnswerOf o [] [] [] result = IfErr result (λ _. ⊥)
+IsAnswerOf o (p ∷ ps) (q ∷ qs) (events ∷ lanes) result =
+    (mine : Result (Vec Receipt Global) Error) × (others : Result (Vec Receipt Global) Error)
+    × LaneEnds o p q events mine × IsAnswerOf o ps qs lanes others × IsJoined mine others result
+IsAnswerOf o ps qs lanes result = ⊥
+
+-- What lanes come to.
+pub record LanesEnd (o : Opening) (old new : List Passed) (lanes : List (List Event)) (result : Result (Vec Receipt Global) Error) : Type 0 where
+  pub whole : IfOk result (λ receipts. AreLanes old new lanes receipts.items)
+  pub begun : AreBegunLanes old new lanes
+  pub ends : IfErr result IsLaneEnd
+  pub failed : IsErrOf result Failed → IsSomeLost new
+  pub numbers : IsErrOf result NumbersUsed → IsSomeStopped o old new lanes
+  pub answered : IsAnswerOf o old new lanes result

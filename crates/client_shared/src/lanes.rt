@@ -3,7 +3,7 @@
 ghost use Rattle.std.specs.Prelude.{◌≡◌, ◌≢◌, ◌+◌, ◌^◌, ◌<◌, length, IfOk, IfErr, IsErrOf};
 ghost use Rattle.std.specs.Thread.{IsSync, IsSend};
 ghost use Rattle.client_request.specs.Timers.{IsWant};
-ghost use Rattle.client_shared.specs.Lanes.{AreLanes, AreBegunLanes, IsSomeStopped, IsSomeLost, IsLaneEnd, LaneEnds, LanesEnd, IsJoined, lanes_from};
+ghost use Rattle.client_shared.specs.Lanes.{AreLanes, AreBegunLanes, IsSomeStopped, IsSomeLost, IsLaneEnd, LaneEnds, LanesEnd, IsAnswerOf, IsJoined, lanes_from};
 
 use crate::entry::Receipt;
 use crate::key::ClientKey;
@@ -193,6 +193,7 @@ pub fn run_lanes<
     ensures ends { IfErr result IsLaneEnd }
     ensures failed { IsErrOf result Error.Failed → IsSomeLost passes.new }
     ensures numbers { IsErrOf result Error.NumbersUsed → IsSomeStopped L.opening passes.old passes.new lanes.now }
+    ensures answered { IsAnswerOf L.opening passes.old passes.new lanes.now result }
 {
     let shared_lanes = SharedLanes {
         rt,

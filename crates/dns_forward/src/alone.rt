@@ -4,12 +4,26 @@ use client_edge::{FileOpener, RandWords, RealClock};
 use client_request::Words;
 use dns_values::{IpAddr, Seq, StdSink, StdSource};
 use forward_conf::end_without_memory;
-use forward_record::serve_recorded;
+use forward_record::{EndTold, serve_recorded};
 use forward_run::{StatusLine, serve_as};
 use forward_words::Options;
 use front_edge::SocketFront;
 use rand::rngs::StdRng;
 use record_file::RecordFile;
+use std::io::Stderr;
+
+/// A line on standard error, as often as the options say.
+fn status_line(
+    rt: HostRuntime,
+    options: &Options,
+) -> StatusLine<FileOpener<HostRuntime>, StdSink<Stderr>> {
+    StatusLine::new(
+        rt.alloc(),
+        FileOpener::new(rt),
+        StdSink::new(rt.stderr()),
+        options.status,
+    )
+}
 
 /// Serves as the options and the words behind them say, over the system's sockets, by its clock and under its random words, of which
 /// the first is that by which the cache is hashed. The types are the real ones, so that nothing in memory stands for one of them.
@@ -33,12 +47,7 @@ pub fn serve(
         &mut SocketFront::new(rt, alloc, listened),
         &mut RealClock::new(rt),
         &mut random,
-        &mut StatusLine::new(
-            alloc,
-            FileOpener::new(rt),
-            StdSink::new(rt.stderr()),
-            options.status,
-        ),
+        &mut status_line(rt, options),
     );
     status.0
 }
@@ -68,12 +77,7 @@ pub fn serve_to(
         &mut SocketFront::new(rt, alloc, listened),
         &mut RealClock::new(rt),
         &mut random,
-        &mut StatusLine::new(
-            alloc,
-            FileOpener::new(rt),
-            StdSink::new(rt.stderr()),
-            options.status,
-        ),
+        &mut EndTold::new(alloc, status_line(rt, options), StdSink::new(rt.stderr())),
         RecordFile::new(rt, file),
     );
     served.status.0

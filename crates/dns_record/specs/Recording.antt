@@ -161,6 +161,11 @@ abbrev pub Takes : Option Ended → (written left : List ℕ) → (words rest : 
 Takes None written left words rest event old row new = (plain_step (listed written) event old ≡ Some (row, client_with (listed left) new)) × (rest ≡ words)
 Takes (Some why) written left words rest event old row new = (plain_step words event old ≡ Some (row, client_with rest new)) × (left ≡ written)
 
+-- It makes no row of it: a number would pass 64 bits.
+abbrev pub StopsTaking : Option Ended → (written : List ℕ) → (words : ℕ → ℕ) → Event → (old : Whole) → Type 0
+StopsTaking None written words event old = plain_step (listed written) event old ≡ None
+StopsTaking (Some why) written words event old = plain_step words event old ≡ None
+
 -- These rows are recorded behind those that were: of a sink that held so much, with this recording, and of this client.
 abbrev pub Keeps : List Row → (held : Option (List ℕ)) → Recording → Whole → (after : Option (List ℕ)) → Recording → Whole → Type 0
 Keeps more held r client after s moved = (o : Opening) (rows : List Row) → Recorded o rows held r client → Recorded o (rows ++ more) after s moved

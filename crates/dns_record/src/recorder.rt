@@ -9,7 +9,7 @@ ghost use Rattle.client_request.specs.declared.event.Row.{Row};
 ghost use Rattle.client_settings.specs.Client.{default_transports};
 ghost use Rattle.client_settings.specs.Settings.{RedundantSettings};
 ghost use Rattle.client_steps.specs.Whole.{Whole, client_with, plain_step, started, started_with, with_one_more};
-ghost use Rattle.dns_record.specs.Recording.{EndsFor, EndsIf, IsRefused, IsToldStart, Keeps, KeepsTaken, NotedSo, Opening, Recorded, Takes, are_asked_alike, drawn, lost_after, opening, rest_behind, with_end};
+ghost use Rattle.dns_record.specs.Recording.{EndsFor, EndsIf, IsRefused, IsToldStart, Keeps, KeepsTaken, NotedSo, Opening, Recorded, StopsTaking, Takes, are_asked_alike, drawn, lost_after, opening, rest_behind, with_end};
 ghost use Rattle.dns_script.specs.Lines.{event_line};
 ghost use Rattle.dns_script.specs.Told.{tells_well};
 ghost use Rattle.dns_values.specs.Sink.{with_octets};
@@ -352,6 +352,7 @@ impl Recorder {
         ensures few { OnOk result (self.new.few ≡ self.old.few) }
         ensures timeout { OnOk result (client.new.timeout ≡ client.old.timeout) }
         ensures lasts { OnOk result (client.new.failed ≡ false) }
+        ensures numbers { IsErrOf result Error.NumbersUsed → StopsTaking self.old.ended self.old.words (W.stream words.old) event client.old }
         ensures unwritten { OnErr result (K.held sink.new ≡ K.held sink.old) }
         ensures refused { IfErr result IsRefusal }
         ensures failed_only { IsErrOf result Error.Failed → client.old.failed ≡ true }

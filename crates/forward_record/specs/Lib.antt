@@ -1,5 +1,3 @@
 pub mod Core
 pub mod Sentences
 pub mod Serving
-pub mod Telling
-pub mod Turns

@@ -28,8 +28,8 @@
 mod recorded_core;
 mod serving;
 mod telling;
-mod turns;
+mod to_record;
 
 pub use recorded_core::{RecordedCore, RecordedForwarder};
 pub use serving::{Served, serve_recorded};
-pub use turns::turn;
+pub use telling::EndTold;

@@ -1,12 +1,12 @@
 //! The client within a forwarder, recorded.
 
-ghost use Rattle.std.specs.Prelude.{◌≡◌, length};
-ghost use Rattle.client_core.specs.Waiting.{wait_of};
-ghost use Rattle.forward_record.specs.Core.{IsRecordedStep, serves};
+ghost use Rattle.std.specs.Prelude.{◌≡◌};
+ghost use Rattle.forward_record.specs.Core.{IsRecordedStep, IsRecordedStop, recorded_due, recorded_kept, serves};
 ghost use Rattle.right_trace.specs.Timely.{IsAskedInOctets};
 
 use client_core::{Client, Event, Row, What, in_octets};
 use client_request::{Error, Moment, RequestMessage, Words};
+use dns_base::NoMemory;
 use dns_record::{Ended, Recorder};
 use dns_values::Sink;
 use front_steps::{Forwarder, Within};
@@ -53,20 +53,6 @@ impl<K: Sink + Drop> RecordedCore<K> {
         }
     }
 
-    /// How long whoever holds the client may wait for something to happen, in microseconds from the moment of its last event on.
-    pub fn may_wait(&self) -> u128
-        ensures { result ≡ wait_of self.now.client }
-    {
-        self.client.may_wait()
-    }
-
-    /// How many results are kept.
-    pub fn entry_count(&self) -> usize
-        ensures { result ≡ length self.now.client.layer.kept.table.entries }
-    {
-        self.client.layers().entry_count()
-    }
-
     /// Why the record ended; none while it goes on.
     pub fn ended(&self) -> Option<Ended>
         ensures { result ≡ self.now.recorder.ended }
@@ -83,11 +69,17 @@ impl<K: Sink + Drop> RecordedCore<K> {
 }
 
 impl<K: Sink + Drop> Within for RecordedCore<K> {
-    ghost steps = { IsRecordedStep K.held };
+    ghost steps = { IsRecordedStep K.held K.faults };
 
     ghost serves = { serves };
 
+    ghost stops = { IsRecordedStop };
+
     ghost has_failed = { λ c. c.client.failed };
+
+    ghost due_in = { recorded_due };
+
+    ghost kept = { recorded_kept };
 
     fn step<W: Words>(&mut self, words: &mut W, event: Event) -> Result<Row, Error> {
         asked_in_octets(&event);
@@ -96,10 +88,15 @@ impl<K: Sink + Drop> Within for RecordedCore<K> {
             .step(&mut self.client, words, &mut self.sink, event)
     }
 
-    fn would_serve(&self, moment: Moment, request: &RequestMessage) -> Result<bool, Error> {
-        match self.client.would_serve(moment, request) {
-            Ok(served) => Ok(served),
-            Err(_) => Err(Error::NoMemory),
-        }
+    fn would_serve(&self, moment: Moment, request: &RequestMessage) -> Result<bool, NoMemory> {
+        self.client.would_serve(moment, request)
+    }
+
+    fn may_wait(&self) -> u128 {
+        self.client.may_wait()
+    }
+
+    fn entry_count(&self) -> usize {
+        self.client.layers().entry_count()
     }
 }

@@ -3,14 +3,16 @@
 ghost use Rattle.std.specs.Prelude.{◌≡◌, ◌⊎◌, IfOk};
 ghost use Rattle.std.specs.String.{string_bytes};
 ghost use Rattle.command_parts.specs.Ends.{IsSaid};
-ghost use Rattle.forward_record.specs.Sentences.{ended_line, unrecorded_line, unrecorded_sentence};
-ghost use Rattle.forward_record.specs.Telling.{HasTold};
+ghost use Rattle.forward_record.specs.Sentences.{HasTold, ended_line, unrecorded_line, unrecorded_sentence};
 
+use crate::recorded_core::RecordedCore;
 use command_parts::{deliver, end_by, say};
 use dns_base::{NoMemory, Status};
 use dns_record::{Ended, Refused};
 use dns_values::Sink;
 use forward_conf::end_without_memory;
+use forward_run::Watch;
+use front_peers::FrontRow;
 use record_file::NOT_RECORDED;
 use std::alloc::Global;
 
@@ -58,23 +60,58 @@ fn ended_text(alloc: Global, ended: Ended) -> Result<String, NoMemory>
     Ok(format!(in alloc; "dns_forward: the record ended: {ended}\n")?)
 }
 
-/// Tells why a record ended, if it did now, as far as the sink takes it.
-#[tactic(auto, using(crate::proofs::Told::told_nothing, crate::proofs::Told::told_some))]
-pub(crate) fn tell_ended<L: Sink>(
-    alloc: Global,
-    was: Option<Ended>,
-    ended: Option<Ended>,
-    errors: &mut L,
-)
-    ensures { HasTold (L.held errors.old) (L.held errors.new) (L.faults errors.old) (L.faults errors.new) }
+/// Tells why a record ended, as far as the sink takes it.
+#[tactic(auto, using(crate::proofs::Told::told_nothing))]
+fn tell_ended<L: Sink>(alloc: Global, ended: Ended, errors: &mut L)
+    ensures { HasTold ended (L.held errors.old) (L.held errors.new) }
 {
-    if was.is_some() {
-        return;
-    }
-    let Some(ended) = ended else {
-        return;
-    };
     if let Ok(line) = ended_text(alloc, ended) {
         deliver(errors, line.as_bytes());
+    }
+}
+
+/// Who is told of each turn of a forwarder that is recorded, and once of why its record ended, by a line to a sink.
+#[derive(Drop)]
+pub struct EndTold<V: Drop, L: Sink + Drop> {
+    alloc: Global,
+    watch: V,
+    errors: L,
+    told: bool,
+}
+
+impl<V: Drop, L: Sink + Drop> EndTold<V, L> {
+    /// This watch, which is told of each turn, and a sink to which the end is told.
+    pub fn new(alloc: Global, watch: V, errors: L) -> EndTold<V, L> {
+        EndTold {
+            alloc,
+            watch,
+            errors,
+            told: false,
+        }
+    }
+
+    /// The sink to which the end is told, as it was left.
+    pub fn into_errors(self) -> L {
+        let EndTold {
+            alloc: _,
+            watch: _,
+            errors,
+            told: _,
+        } = self;
+        errors
+    }
+}
+
+impl<K: Sink + Drop, V: Watch<RecordedCore<K>> + Drop, L: Sink + Drop> Watch<RecordedCore<K>>
+    for EndTold<V, L> {
+    fn turned(&mut self, within: &RecordedCore<K>, waiting: u64, row: &FrontRow) {
+        self.watch.turned(within, waiting, row);
+        if self.told {
+            return;
+        }
+        if let Some(ended) = within.ended() {
+            self.told = true;
+            tell_ended(self.alloc, ended, &mut self.errors);
+        }
     }
 }

@@ -2,3 +2,4 @@ pub mod Ends
 pub mod Served
 pub mod Turning
 pub mod Written
+pub mod Unserving

@@ -1,5 +1,5 @@
 -- What the program does, and how it ends.
-use Rattle.std.specs.Prelude.{◌≡◌, ℕ, false, List, ◌∷◌, ◌++◌, map, Option, IfSome, codes}
+use Rattle.std.specs.Prelude.{◌≡◌, ℕ, false, List, ◌++◌, Option, IfSome, codes}
 use Rattle.std.specs.Fmt.{decimal}
 use Rattle.client_steps.specs.Whole.{Whole, started_with}
 use Rattle.command_parts.specs.Ends.{IsBegun}
@@ -7,11 +7,12 @@ use Rattle.dns_values.specs.Sink.{with_octets}
 use Rattle.forward_conf.specs.Itself.{asks_itself}
 use Rattle.forward_conf.specs.Reading.{IsConfAsked}
 use Rattle.forward_conf.specs.Settings.{cache_of, choice_of, transports_of}
+use Rattle.forward_run.specs.Deeds.{begun_deeds}
 use Rattle.forward_run.specs.Ends.{IfAsked}
 use Rattle.forward_run.specs.Front.{after_deeds}
+use Rattle.forward_run.specs.Makers.{IsHaltedOver, IsPlain}
 use Rattle.forward_run.specs.Turns.{Turned, World, within}
-use Rattle.forward_run.specs.declared.front.FrontDeed.{FrontDeed}
-use Rattle.forward_run.specs.declared.front.FrontDeed.TheVariants.{Learned, Listens}
+use Rattle.front_core.specs.Core.{IsCoreStep, IsCoreStop, core_serves}
 use Rattle.forward_words.specs.Options.{finished, nothing_said}
 use Rattle.forward_words.specs.declared.options.Options.{Options}
 use Rattle.forward_words.specs.declared.options.Policy.TheVariants.{Plain}
@@ -19,10 +20,6 @@ use Rattle.forward_words.specs.declared.words.Asked.{Asked}
 use Rattle.front_steps.specs.Steps.{Forwarding, beginning}
 use Rattle.proof_front.specs.Forwarding.{IsRightTrace}
 use Rattle.resolv_conf.specs.declared.conf.ResolvConf.{ResolvConf}
-
--- it is listened on a port, and then the servers are learned in order
-abbrev pub begun_deeds : (port : ℕ) → ResolvConf → List FrontDeed
-begun_deeds port conf = Listens port ∷ map (λ server. Learned server) conf.servers
 
 -- the forwarder that is made of a configuration as the options say
 abbrev pub first_of : Options → ResolvConf → Forwarding Whole
@@ -33,7 +30,7 @@ first_of options conf = beginning (started_with (transports_of options conf) (ch
 pub record IsServed (options : Options) (asked : Asked) (conf : ResolvConf) (answered : ℕ) (old new : World) : Type 0 where
   pub last : Forwarding Whole
   pub turned :
-      Turned asked.turns answered
+      Turned IsCoreStep core_serves asked.turns answered
       (within (first_of options conf) (record old { deeds = after_deeds (begun_deeds asked.port conf) old.deeds }))
       (within last new)
   pub asks_others : asks_itself options.listened asked.port conf ≡ false
@@ -77,3 +74,10 @@ IsCutBy held options asked told before after old new = IfAsked asked told (λ a 
 -- what is said where there is no option, and servers are asked as the configuration says
 abbrev pub no_options : Options
 no_options = finished (nothing_said Plain)
+
+-- The text is a configuration that was begun to be served, and the turns found no number: the client within, or what waits, or their answers would pass 64 bits.
+abbrev pub IsHalted : (options : Options) (asked : Asked) (text : List ℕ) (old new : World) → Type 0
+IsHalted options asked text old new = IsHaltedOver IsCoreStep core_serves IsCoreStop IsPlain options asked text old new
+
+abbrev pub IsHaltedBy : Options → Option Asked → Option (List ℕ) → (old new : World) → Type 0
+IsHaltedBy options asked told old new = IfAsked asked told (λ a text. IsHalted options a text old new)

@@ -1,202 +1,46 @@
 //! What the program does.
 
-ghost use Rattle.std.specs.Prelude.{◌≡◌, ◌<◌, ◌⊎◌, ◌≢◌, false, map, None, Ok, OnOk, IfOk, IfErr, IfSome};
+ghost use Rattle.std.specs.Prelude.{◌≡◌, ◌<◌, ◌⊎◌, ◌≢◌, None, Some, IfErr, IfSome};
 ghost use Rattle.dns_values.specs.Sink.{IsFlushed};
 ghost use Rattle.dns_values.specs.Source.{Rose};
 ghost use Rattle.command_parts.specs.Ends.{IsSaid};
-ghost use Rattle.forward_conf.specs.Causes.{IsDeafCause, IsServeCause, IsSilent, IsStop};
-ghost use Rattle.forward_conf.specs.Itself.{asks_itself};
-ghost use Rattle.forward_conf.specs.Reading.{AnyNotes, IsNoted, IsTold, NotesIn};
-ghost use Rattle.forward_conf.specs.Sentences.{numbers_line, output_sentence, status_of};
+ghost use Rattle.forward_conf.specs.Causes.{IsSilent};
+ghost use Rattle.forward_conf.specs.Reading.{IsNoted, IsTold, NotesIn};
+ghost use Rattle.forward_conf.specs.Sentences.{numbers_line, output_sentence};
 ghost use Rattle.forward_words.specs.Sentences.{unasked_sentence};
 ghost use Rattle.forward_words.specs.Words.{asked_by, asked_in, command_of};
 ghost use Rattle.forward_run.specs.Ends.{EndsBecause, IfAsked, IsEndCause, IsNotListenedBy, IsWhy, RefusalIsSaid};
-ghost use Rattle.forward_run.specs.Front.{after_deed, after_deeds};
-ghost use Rattle.forward_run.specs.Serving as spec;
-ghost use Rattle.forward_run.specs.Serving.{IsAnsweredIf, IsCutBy, IsDoneBy, IsServed, begun_deeds, first_of, no_options};
+ghost use Rattle.forward_run.specs.Makers.{plain_cause};
+ghost use Rattle.forward_run.specs.Serving.{IsCutBy, IsDoneBy, IsHaltedBy, no_options};
 ghost use Rattle.forward_run.specs.Turns.{around};
-ghost use Rattle.forward_run.specs.declared.front.FrontDeed.{FrontDeed};
 
 use crate::front::Front;
-use crate::turns::turn_all;
+use crate::maker::{Plain, Unserved};
+use crate::stack::{serve_source, write_answered};
 use crate::watch::{Unwatched, Watch};
 use client_core::Clock;
-use client_request::{Error, Words};
-use command_parts::deliver;
+use client_request::Words;
 use command_parts::statuses::{NO_MEMORY, USAGE};
-use dns_base::{IpAddr, NoMemory, Status};
+use dns_base::{NoMemory, Status};
 use dns_values::{Sink, Source};
-use forward_conf::{
-    Cause, Unheard, asked_itself, conf_asked, end_because, end_delivered, settings_of, tell_unasked,
-};
+use forward_conf::{Cause, Unheard, end_because, end_delivered, tell_unasked};
 use forward_words::{Asked, Options, asked_by, command_of};
-use front_core::Forwarder;
+use front_core::Core;
 use proof_front::every_forwarded_trace_is_right;
-use resolv_conf::{ResolvConf, ServerConf};
-use std::alloc::{AllocError, Global};
+use std::alloc::Global;
 
-/// Lets a front learn these servers, in order.
-fn learn_all<F: Front>(front: &mut F, servers: &[ServerConf]) -> Result<(), NoMemory>
-    ensures deeds { OnOk result (F.deeds front.new ≡ after_deeds (map (λ server. FrontDeed.Learned server) servers.now) (F.deeds front.old)) }
-    ensures polls { F.polls front.new ≡ F.polls front.old }
+/// Why a plain forwarder is not served: a client within that is not made is want of memory.
+pub fn plain_cause(unserved: Unserved<NoMemory>) -> Cause
+    ensures { result ≡ plain_cause unserved }
 {
-    for server in servers {
-        front.learn_server(server)?;
+    match unserved {
+        Unserved::Ends(cause) => cause,
+        Unserved::Refused(_) => Cause::NoMemory,
     }
-    Ok(())
-}
-
-/// Why the program ends where the forwarder stops.
-pub fn stopped_by(error: Error) -> Cause
-    ensures { IsStop result }
-{
-    match error {
-        Error::NumbersUsed => Cause::NumbersUsed,
-        _ => Cause::NoMemory,
-    }
-}
-
-/// Listens, unless the forwarder would ask itself.
-fn listen<F: Front>(
-    listened: &[IpAddr],
-    port: u16,
-    conf: &ResolvConf,
-    front: &mut F,
-) -> Result<(), Cause>
-    ensures deeds { OnOk result (F.deeds front.new ≡ after_deed (FrontDeed.Listens port) (F.deeds front.old)) }
-    ensures polls { F.polls front.new ≡ F.polls front.old }
-    ensures cause { IfErr result (IsDeafCause (F.gave front.new) (F.is_deaf_at front.new) (F.faults front.old) (F.faults front.new) listened.now port conf.now) }
-    ensures asks_others { OnOk result (asks_itself listened.now port conf.now ≡ false) }
-{
-    if let Some(server) = asked_itself(listened, port, conf) {
-        return Err(Cause::Itself(server));
-    }
-    match front.listen(port) {
-        Ok(()) => Ok(()),
-        Err(fault) => Err(Cause::Deaf {
-            at: front.deaf_at(),
-            fault,
-        }),
-    }
-}
-
-/// Listens, unless the forwarder would ask itself, and tells the front the servers of a configuration.
-pub fn begin_front<F: Front>(
-    listened: &[IpAddr],
-    port: u16,
-    conf: &ResolvConf,
-    front: &mut F,
-) -> Result<(), Cause>
-    ensures deeds { OnOk result (F.deeds front.new ≡ after_deeds (begun_deeds port conf.now) (F.deeds front.old)) }
-    ensures polls { F.polls front.new ≡ F.polls front.old }
-    ensures cause { IfErr result (IsServeCause (F.gave front.new) (F.is_deaf_at front.new) (F.faults front.old) (F.faults front.new) listened.now port conf.now) }
-    ensures asks_others { OnOk result (asks_itself listened.now port conf.now ≡ false) }
-{
-    listen(listened, port, conf, front)?;
-    learn_all(front, conf.servers.as_slice())?;
-    Ok(())
-}
-
-/// A forwarder that asks the servers of a configuration.
-fn forwarder_of(
-    alloc: Global,
-    options: &Options,
-    seed: u64,
-    conf: &ResolvConf,
-) -> Result<Forwarder, NoMemory>
-    ensures { IfOk result (λ forwarder. forwarder ≡ first_of options.now conf.now) }
-{
-    match Forwarder::with_settings(alloc, conf, settings_of(options, conf), seed) {
-        Ok(forwarder) => Ok(forwarder),
-        Err(_) => Err(NoMemory),
-    }
-}
-
-/// Listens, tells the front the servers of a configuration, and makes a forwarder that asks them.
-pub fn begin<F: Front>(
-    alloc: Global,
-    options: &Options,
-    seed: u64,
-    port: u16,
-    conf: &ResolvConf,
-    front: &mut F,
-) -> Result<Forwarder, Cause>
-    ensures made { IfOk result (λ forwarder. forwarder ≡ first_of options.now conf.now) }
-    ensures deeds { OnOk result (F.deeds front.new ≡ after_deeds (begun_deeds port conf.now) (F.deeds front.old)) }
-    ensures polls { F.polls front.new ≡ F.polls front.old }
-    ensures cause { IfErr result (IsServeCause (F.gave front.new) (F.is_deaf_at front.new) (F.faults front.old) (F.faults front.new) options.now.listened port conf.now) }
-    ensures asks_others { OnOk result (asks_itself options.now.listened port conf.now ≡ false) }
-{
-    begin_front(options.listened.as_slice(), port, conf, front)?;
-    let forwarder = forwarder_of(alloc, options, seed, conf)?;
-    Ok(forwarder)
-}
-
-/// Listens, and makes the turns. How many answers they put out.
-fn serve_conf<F: Front, C: Clock, W: Words, V: Watch>(
-    alloc: Global,
-    options: &Options,
-    seed: u64,
-    asked: Asked,
-    conf: &ResolvConf,
-    front: &mut F,
-    clock: &mut C,
-    rng: &mut W,
-    watch: &mut V,
-) -> Result<u64, Cause>
-    ensures served { IfOk result (λ answered. around F.deeds F.polls C.given W.stream (front.old, clock.old, rng.old) (front.new, clock.new, rng.new) (IsServed options.now asked conf.now answered)) }
-    ensures cause { IfErr result (IsServeCause (F.gave front.new) (F.is_deaf_at front.new) (F.faults front.old) (F.faults front.new) options.now.listened asked.port conf.now) }
-{
-    let mut forwarder = begin(alloc, options, seed, asked.port, conf, front)?;
-    match turn_all(&mut forwarder, front, clock, rng, watch, asked.turns) {
-        Ok(answered) => {
-            every_forwarded_trace_is_right();
-            Ok(answered)
-        }
-        Err(error) => Err(stopped_by(error)),
-    }
-}
-
-/// The line that says how many answers there were.
-pub fn answered_line(alloc: Global, answered: u64) -> Result<Vec<u8>, AllocError>
-    ensures { IfOk result (λ v. v.items ≡ spec.answered_line answered) }
-{
-    let text = format!(in alloc; "answered {answered}\n")?;
-    Vec::from_slice(alloc, text.as_bytes())
-}
-
-/// The line that is written at the end.
-fn serve_source<S: Source, L: Sink, F: Front, C: Clock, W: Words, V: Watch>(
-    alloc: Global,
-    options: &Options,
-    seed: u64,
-    asked: Asked,
-    source: &mut S,
-    errors: &mut L,
-    front: &mut F,
-    clock: &mut C,
-    rng: &mut W,
-    watch: &mut V,
-) -> Result<Vec<u8>, Cause>
-    ensures done { IfOk result (λ line. around F.deeds F.polls C.given W.stream (front.old, clock.old, rng.old) (front.new, clock.new, rng.new) (IsAnsweredIf options.now asked (S.left source.old) line.items)) }
-    ensures noted { OnOk result (IsNoted (NotesIn options.now.policy (S.left source.old)) (L.held errors.old) (L.held errors.new) (L.faults errors.old) (L.faults errors.new)) }
-    ensures told { IfErr result (λ cause. status_of cause ≢ 6 → IsNoted AnyNotes (L.held errors.old) (L.held errors.new) (L.faults errors.old) (L.faults errors.new)) }
-    ensures cause { IfErr result (IsEndCause options.now asked.port (S.left source.old) (W.stream rng.old) (F.gave front.new) (F.is_deaf_at front.new) (F.faults front.old) (F.faults front.new) (S.faults source.old) (S.faults source.new)) }
-{
-    let conf = match conf_asked(alloc, options, source, errors, rng) {
-        Ok(conf) => conf,
-        Err(cause) => return Err(cause),
-    };
-    let answered = match serve_conf(alloc, options, seed, asked, &conf, front, clock, rng, watch) {
-        Ok(answered) => answered,
-        Err(cause) => return Err(cause),
-    };
-    let line = answered_line(alloc, answered)?;
-    Ok(line)
 }
 
 /// Serves as it is asked, and writes how many answers were put out.
-fn serve_asked<S: Source, K: Sink, L: Sink, F: Front, C: Clock, W: Words, V: Watch>(
+fn serve_asked<S: Source, K: Sink, L: Sink, F: Front, C: Clock, W: Words, V: Watch<Core>>(
     alloc: Global,
     options: &Options,
     seed: u64,
@@ -221,20 +65,25 @@ fn serve_asked<S: Source, K: Sink, L: Sink, F: Front, C: Clock, W: Words, V: Wat
     ensures deaf { result.0 ≡ 5 → IsNotListenedBy options.now (Some asked) (S.left source.old) (W.stream rng.old) (F.faults front.old) (F.faults front.new) }
     ensures silent { IsSilent result.0 → K.held sink.new ≡ K.held sink.old }
     ensures numbers { result.0 ≡ 7 → IsSaid numbers_line (K.held sink.old) (K.held sink.new) (K.faults sink.old) (K.faults sink.new) }
+    ensures stops { result.0 ≡ 7 → around F.deeds F.polls C.given W.stream (front.old, clock.old, rng.old) (front.new, clock.new, rng.new) (IsHaltedBy options.now (Some asked) (S.left source.old)) }
     ensures why { EndsBecause result.0 → IsWhy (IsEndCause options.now asked.port (S.left source.old) (W.stream rng.old) (F.gave front.new) (F.is_deaf_at front.new) (F.faults front.old) (F.faults front.new) (S.faults source.old) (S.faults source.new)) options.now.listened asked.port result.0 (L.held errors.old) (L.held errors.new) (L.faults errors.old) (L.faults errors.new) }
     ensures status { result.0 < 8 }
 {
-    match serve_source(
-        alloc, options, seed, asked, source, errors, front, clock, rng, watch,
-    ) {
-        Ok(line) => end_delivered(errors, deliver(sink, &line)),
-        Err(cause) => end_because(
+    let served = serve_source(
+        alloc, options, seed, asked, Plain, source, errors, front, clock, rng, watch,
+    );
+    match served {
+        Ok((answered, _)) => {
+            every_forwarded_trace_is_right();
+            end_delivered(errors, write_answered(alloc, answered, sink))
+        }
+        Err(unserved) => end_because(
             alloc,
             options.listened.as_slice(),
             asked.port,
             sink,
             errors,
-            cause,
+            plain_cause(unserved),
         ),
     }
 }
@@ -249,7 +98,7 @@ fn serve_asked<S: Source, K: Sink, L: Sink, F: Front, C: Clock, W: Words, V: Wat
 /// of which none is taken; a line says which. 2: the words are others; nothing is written. 3: the source failed; nothing is written.
 /// 4: the sink failed. 5: it can't be listened, or a server of the configuration is this very forwarder, which would ask itself;
 /// nothing is written. 6: memory ran out. 7: numbers are used up.
-pub fn serve_as<S: Source, K: Sink, L: Sink, F: Front, C: Clock, W: Words, V: Watch>(
+pub fn serve_as<S: Source, K: Sink, L: Sink, F: Front, C: Clock, W: Words, V: Watch<Core>>(
     alloc: Global,
     options: &Options,
     seed: u64,
@@ -276,6 +125,7 @@ pub fn serve_as<S: Source, K: Sink, L: Sink, F: Front, C: Clock, W: Words, V: Wa
     ensures deaf { result.0 ≡ 5 → IsNotListenedBy options.now (asked_in words.now) (S.left source.old) (W.stream rng.old) (F.faults front.old) (F.faults front.new) }
     ensures silent { IsSilent result.0 → K.held sink.new ≡ K.held sink.old }
     ensures numbers { result.0 ≡ 7 → IsSaid numbers_line (K.held sink.old) (K.held sink.new) (K.faults sink.old) (K.faults sink.new) }
+    ensures stops { result.0 ≡ 7 → around F.deeds F.polls C.given W.stream (front.old, clock.old, rng.old) (front.new, clock.new, rng.new) (IsHaltedBy options.now (asked_in words.now) (S.left source.old)) }
     ensures why { EndsBecause result.0 → IfSome (asked_in words.now) (λ asked. IsWhy (IsEndCause options.now asked.port (S.left source.old) (W.stream rng.old) (F.gave front.new) (F.is_deaf_at front.new) (F.faults front.old) (F.faults front.new) (S.faults source.old) (S.faults source.new)) options.now.listened asked.port result.0 (L.held errors.old) (L.held errors.new) (L.faults errors.old) (L.faults errors.new)) }
     ensures status { result.0 < 8 }
 {
@@ -309,6 +159,7 @@ pub fn serve<S: Source, K: Sink, F: Front, C: Clock, W: Words>(
     ensures deaf { result.0 ≡ 5 → IsNotListenedBy no_options (asked_by words.now) (S.left source.old) (W.stream rng.old) (F.faults front.old) (F.faults front.new) }
     ensures silent { IsSilent result.0 → K.held sink.new ≡ K.held sink.old }
     ensures numbers { result.0 ≡ 7 → IsSaid numbers_line (K.held sink.old) (K.held sink.new) (K.faults sink.old) (K.faults sink.new) }
+    ensures stops { result.0 ≡ 7 → around F.deeds F.polls C.given W.stream (front.old, clock.old, rng.old) (front.new, clock.new, rng.new) (IsHaltedBy no_options (asked_by words.now) (S.left source.old)) }
     ensures status { result.0 < 8 }
 {
     let Some(asked) = asked_by(words) else {

@@ -5,6 +5,7 @@ use client_request::{FIRST_STREAM, Out};
 use command_parts::deliver;
 use dns_values::Sink;
 use front_peers::{FrontOut, FrontRow, FrontWhat};
+use front_steps::Within;
 use resolv_conf::OpenFile;
 use std::alloc::Global;
 
@@ -147,8 +148,8 @@ impl<O: OpenFile + Drop, K: Sink + Drop> StatusLine<O, K> {
     }
 }
 
-impl<O: OpenFile + Drop, K: Sink + Drop> Watch for StatusLine<O, K> {
-    fn turned(&mut self, waiting: u64, entries: usize, row: &FrontRow) {
+impl<C: Within, O: OpenFile + Drop, K: Sink + Drop> Watch<C> for StatusLine<O, K> {
+    fn turned(&mut self, within: &C, waiting: u64, row: &FrontRow) {
         let Some(every) = self.every else {
             return;
         };
@@ -158,6 +159,6 @@ impl<O: OpenFile + Drop, K: Sink + Drop> Watch for StatusLine<O, K> {
             return;
         }
         self.next = second.saturating_add(every);
-        self.write(waiting, entries);
+        self.write(waiting, within.entry_count());
     }
 }

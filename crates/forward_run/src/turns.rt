@@ -1,21 +1,21 @@
-//! The turns of a forwarder.
+//! The turns of a forwarder, whatever the client within is.
 
 ghost use Rattle.std.specs.Prelude.{◌≡◌, true, false, OnOk, IfOk, IfErr, IsErrOf};
 ghost use Rattle.dns_values.specs.Source.{one_more};
 ghost use Rattle.client_request.specs.Response.{IsRefusal};
 ghost use Rattle.client_request.specs.Timers.{IsWant};
 ghost use Rattle.client_request.specs.Words.{IsGivenOn};
-ghost use Rattle.front_core.specs.Forwarded.{Makes};
+ghost use Rattle.front_steps.specs.Forwards.{Makes};
 ghost use Rattle.forward_run.specs.Front.{acts_on, after_deeds, happened};
-ghost use Rattle.forward_run.specs.Turns.{IsTurn, TurnedBy, answers_in, around, is_answer};
+ghost use Rattle.forward_run.specs.Turns.{IsTurn, StopsAt, StopsWithin, TurnedBy, answers_in, around, is_answer};
 
 use crate::front::Front;
 use crate::watch::Watch;
 use client_core::{Clock, What};
 use client_request::{Error, Words};
 use dns_base::NoMemory;
-use front_core::Forwarder;
 use front_peers::{FrontEvent, FrontOut, FrontRow, FrontWhat};
+use front_steps::{Forwarder, Within};
 
 /// What happens in a turn in which the front gave this: that, or time alone where it gave nothing.
 pub fn happened(polled: Option<FrontWhat>) -> FrontWhat
@@ -41,23 +41,25 @@ pub fn act_all<F: Front>(front: &mut F, outs: &[FrontOut]) -> Result<(), NoMemor
 /// One turn: the front is told how long it may wait, and is polled; the forwarder takes what it gave at the clock's moment, or a
 /// `Tick` where it gave nothing; and the front acts on each out of the row, in order.
 ///
-/// `NoMemory`, or `NumbersUsed` where a number is used up, or `Failed` where an earlier step of the forwarder was refused. After an
-/// error the front may not have acted on what was put out: neither is to be used again.
-pub fn turn<F: Front, C: Clock, W: Words>(
-    forwarder: &mut Forwarder,
+/// `NoMemory`, or `NumbersUsed` where a number would pass 64 bits, or `Failed` where an earlier step of the forwarder was refused.
+/// After an error the front may not have acted on what was put out: neither is to be used again.
+pub fn turn<K: Within + Drop, F: Front, C: Clock, W: Words>(
+    forwarder: &mut Forwarder<K>,
     front: &mut F,
     clock: &mut C,
     words: &mut W,
 ) -> Result<FrontRow, Error>
     ensures turn { IfOk result (λ row. IsTurn row (F.deeds front.old) (F.deeds front.new)) }
-    ensures made { IfOk result (λ row. Makes row forwarder.old (W.stream words.old) forwarder.new (W.stream words.new)) }
+    ensures made { IfOk result (λ row. Makes K.steps K.serves row forwarder.old (W.stream words.old) forwarder.new (W.stream words.new)) }
     ensures moment { IfOk result (λ row. IsGivenOn (C.given clock.old) (C.given clock.new) row.event.moment.0) }
     ensures polls { OnOk result (F.polls front.new ≡ one_more (F.polls front.old)) }
     ensures lasts { OnOk result (forwarder.new.failed ≡ false) }
+    ensures numbers { IsErrOf result Error.NumbersUsed → StopsAt K.steps K.serves K.stops forwarder.old (W.stream words.old) (F.deeds front.old) (F.deeds front.new) (C.given clock.old) (C.given clock.new) }
+    ensures counted { IsErrOf result Error.NumbersUsed → F.polls front.new ≡ one_more (F.polls front.old) }
     ensures refused { IfErr result IsRefusal }
     ensures failed_only { IsErrOf result Error.Failed → forwarder.old.failed ≡ true }
 {
-    front.wait(forwarder.may_wait());
+    front.wait(forwarder.within().may_wait());
     let polled = front.poll()?;
     let event = FrontEvent {
         moment: clock.now(),
@@ -90,8 +92,8 @@ pub fn answers_in(row: &FrontRow) -> usize
 }
 
 /// Makes so many turns, of each of which `watch` is told. How many answers they put out.
-pub(crate) fn turn_all<F: Front, C: Clock, W: Words, V: Watch>(
-    forwarder: &mut Forwarder,
+pub(crate) fn turn_all<K: Within + Drop, F: Front, C: Clock, W: Words, V: Watch<K>>(
+    forwarder: &mut Forwarder<K>,
     front: &mut F,
     clock: &mut C,
     words: &mut W,
@@ -99,7 +101,8 @@ pub(crate) fn turn_all<F: Front, C: Clock, W: Words, V: Watch>(
     turns: u64,
 ) -> Result<u64, Error>
     requires { forwarder.old.failed ≡ false }
-    ensures turned { IfOk result (λ answered. around F.deeds F.polls C.given W.stream (front.old, clock.old, words.old) (front.new, clock.new, words.new) (TurnedBy turns answered forwarder.old forwarder.new)) }
+    ensures turned { IfOk result (λ answered. around F.deeds F.polls C.given W.stream (front.old, clock.old, words.old) (front.new, clock.new, words.new) (TurnedBy K.steps K.serves turns answered forwarder.old forwarder.new)) }
+    ensures numbers { IsErrOf result Error.NumbersUsed → around F.deeds F.polls C.given W.stream (front.old, clock.old, words.old) (front.new, clock.new, words.new) (StopsWithin K.steps K.serves K.stops turns forwarder.old) }
     ensures want { IfErr result IsWant }
 {
     let mut answered: u64 = 0;
@@ -109,7 +112,7 @@ pub(crate) fn turn_all<F: Front, C: Clock, W: Words, V: Watch>(
             Ok(row) => row,
             Err(error) => return Err(error),
         };
-        watch.turned(forwarder.waiting(), forwarder.entry_count(), &row);
+        watch.turned(forwarder.within(), forwarder.waiting(), &row);
         let Some(more) = answered.checked_add(answers_in(&row) as u64) else {
             return Err(Error::NumbersUsed);
         };

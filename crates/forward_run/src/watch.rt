@@ -1,17 +1,18 @@
 //! Who watches a forwarder at work.
 
 use front_peers::FrontRow;
+use front_steps::Within;
 
-/// What is told of each turn of a forwarder. It has no part in what becomes of it.
-pub trait Watch {
-    /// Told after a turn: how many queries wait then, how many results are kept, and the row that it made.
-    fn turned(&mut self, waiting: u64, entries: usize, row: &FrontRow);
+/// What is told of each turn of a forwarder, over a client within of this kind. It has no part in what becomes of it.
+pub trait Watch<K> {
+    /// Told after a turn: the client within as it stands then, how many queries wait, and the row that the turn made.
+    fn turned(&mut self, within: &K, waiting: u64, row: &FrontRow);
 }
 
 /// Who watches nothing.
 #[derive(Clone, Copy)]
 pub struct Unwatched;
 
-impl Watch for Unwatched {
-    fn turned(&mut self, _waiting: u64, _entries: usize, _row: &FrontRow) {}
+impl<K: Within> Watch<K> for Unwatched {
+    fn turned(&mut self, _within: &K, _waiting: u64, _row: &FrontRow) {}
 }

@@ -10,7 +10,8 @@ use Rattle.forward_conf.specs.Settings.{cache_of, choice_of, transports_of}
 use Rattle.forward_conf.proofs.Fits.{validity_fits}
 use Rattle.forward_run.specs.Front.{after_deeds}
 use Rattle.forward_run.specs.Ends.{IfAsked}
-use Rattle.forward_run.specs.Serving.{answered_line, begun_deeds, first_of}
+use Rattle.forward_run.specs.Deeds.{begun_deeds}
+use Rattle.forward_run.specs.Serving.{answered_line, first_of}
 use Rattle.forward_run.specs.declared.front.FrontDeed.{FrontDeed}
 use Rattle.forward_run.proofs.Written.{asked_with, told_with}
 use Rattle.forward_words.specs.Words.{asked_in, command_of}

@@ -7,7 +7,8 @@ use Rattle.forward_conf.specs.Reading.{IsConfAsked}
 use Rattle.forward_conf.specs.Settings.{cache_of, choice_of, transports_of}
 use Rattle.forward_run.specs.Front.{after_deeds}
 use Rattle.forward_run.specs.Ends.{IfAsked}
-use Rattle.forward_run.specs.Serving.{answered_line, begun_deeds, first_of}
+use Rattle.forward_run.specs.Deeds.{begun_deeds}
+use Rattle.forward_run.specs.Serving.{answered_line, first_of}
 use Rattle.forward_words.specs.declared.options.Options.{Options}
 use Rattle.forward_words.specs.declared.words.Asked.{Asked}
 use Rattle.proof_front.specs.Forwarding.{IsRightTrace}

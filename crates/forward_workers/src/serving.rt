@@ -22,7 +22,7 @@ use command_parts::deliver;
 use dns_base::Status;
 use dns_values::{Sink, Source};
 use forward_conf::{Cause, conf_asked, end_because, end_delivered, tell_unasked};
-use forward_run::{Front, answered_line, begin, stopped_by};
+use forward_run::{Front, Plain, answered_line, begin, plain_cause, stopped_by};
 use forward_words::{Asked, Options, command_of};
 use front_core::Forwarder;
 use front_shared::Opened;
@@ -81,7 +81,7 @@ fn serve_conf<
     seed: u64,
     asked: Asked,
     conf: &ResolvConf,
-    rng: W,
+    mut rng: W,
     crew: Crew<F, D, C>,
 ) -> (First<F, C>, Result<Came<D, C>, Cause>)
     requires count { length crew.workers.items + 1 < 2 ^ 32 }
@@ -90,11 +90,11 @@ fn serve_conf<
 {
     let Crew { first, workers } = crew;
     let First { mut front, clock } = first;
-    let begun = begin(alloc, options, seed, asked.port, conf, &mut front);
+    let begun = begin(alloc, options, seed, asked.port, conf, Plain, &mut front, &mut rng);
     let first = First { front, clock };
     let forwarder = match begun {
         Ok(forwarder) => forwarder,
-        Err(cause) => return (first, Err(cause)),
+        Err(unserved) => return (first, Err(plain_cause(unserved))),
     };
     words_are_short(&rng);
     let crew = Crew { first, workers };

@@ -2,10 +2,10 @@
 //! what is to be done at either.
 //!
 //! The same over the plain client of a configuration: each row of the client within is its step, and whether it serves a
-//! query at once is what its cache would give. By `Forwarder::new`, `with_seed`, `step`.
+//! query at once is what its cache would give. By `forwarder_of`, `forwarder_with`, `Forwarder::step`.
 //!
 //! ```text
-//! let mut forwarder = Forwarder::with_seed(alloc, &conf, redundant, cache, seed)?;
+//! let mut forwarder = forwarder_with(alloc, &conf, settings, seed)?;
 //! let row = forwarder.step(&mut words, FrontEvent { moment, what })?;
 //! ```
 //!
@@ -17,5 +17,5 @@
 mod forwarder;
 mod within;
 
-pub use forwarder::Forwarder;
+pub use forwarder::{Forwarder, forwarder_of, forwarder_with};
 pub use within::Core;

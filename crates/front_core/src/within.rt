@@ -1,13 +1,17 @@
 //! The project's client within a forwarder.
 
-ghost use Rattle.std.specs.Prelude.{◌≡◌, length};
+ghost use Rattle.std.specs.Prelude.{◌≡◌, IfOk};
 ghost use Rattle.client_core.specs.Waiting.{wait_of};
-ghost use Rattle.front_core.specs.Core.{IsCoreStep, core_serves};
+ghost use Rattle.front_core.specs.Core.{IsCoreStep, IsCoreStop, core_serves, kept_by};
+ghost use Rattle.client_steps.specs.Whole.{started_with};
 ghost use Rattle.right_trace.specs.Timely.{IsAskedInOctets};
 
-use client_core::{Client, Event, Row, What, in_octets};
+use client_core::{Client, Event, Row, Settings, What, in_octets};
 use client_request::{Error, Moment, RequestMessage, Words};
+use dns_base::NoMemory;
 use front_steps::Within;
+use resolv_conf::ResolvConf;
+use std::alloc::Global;
 use std::marker::Model;
 
 /// A client that is asked nothing but what a forwarder asks it.
@@ -35,25 +39,19 @@ fn asked_in_octets(event: &Event)
 }
 
 impl Core {
-    /// This client.
-    pub(crate) fn new(client: Client) -> Core
-        ensures { result ≡ client }
+    /// A client of the servers of a configuration, with these settings, whose cache is hashed from a seed.
+    pub fn with_settings(
+        alloc: Global,
+        conf: &ResolvConf,
+        settings: Settings,
+        seed: u64,
+    ) -> Result<Core, NoMemory>
+        ensures { IfOk result (λ core. core ≡ started_with settings.transports settings.redundant settings.cache conf.now) }
     {
-        Core { client }
-    }
-
-    /// How many results are kept.
-    pub(crate) fn entry_count(&self) -> usize
-        ensures { result ≡ length self.now.layer.kept.table.entries }
-    {
-        self.client.layers().entry_count()
-    }
-
-    /// How long whoever holds the client may wait for something to happen, in microseconds from the moment of its last event on.
-    pub(crate) fn may_wait(&self) -> u128
-        ensures { result ≡ wait_of self.now }
-    {
-        self.client.may_wait()
+        match Client::with_settings(alloc, conf, settings, seed) {
+            Ok(client) => Ok(Core { client }),
+            Err(_) => Err(NoMemory),
+        }
     }
 }
 
@@ -62,7 +60,13 @@ impl Within for Core {
 
     ghost serves = { core_serves };
 
+    ghost stops = { IsCoreStop };
+
     ghost has_failed = { λ c. c.failed };
+
+    ghost due_in = { wait_of };
+
+    ghost kept = { kept_by };
 
     #[tactic(auto, using(crate::proofs::Events::event_of_row))]
     fn step<W: Words>(&mut self, words: &mut W, event: Event) -> Result<Row, Error> {
@@ -71,10 +75,15 @@ impl Within for Core {
         self.client.step(words, event)
     }
 
-    fn would_serve(&self, moment: Moment, request: &RequestMessage) -> Result<bool, Error> {
-        match self.client.would_serve(moment, request) {
-            Ok(served) => Ok(served),
-            Err(_) => Err(Error::NoMemory),
-        }
+    fn would_serve(&self, moment: Moment, request: &RequestMessage) -> Result<bool, NoMemory> {
+        self.client.would_serve(moment, request)
+    }
+
+    fn may_wait(&self) -> u128 {
+        self.client.may_wait()
+    }
+
+    fn entry_count(&self) -> usize {
+        self.client.layers().entry_count()
     }
 }

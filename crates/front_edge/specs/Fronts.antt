@@ -2,6 +2,7 @@
 use Rattle.std.specs.Prelude.{◌≡◌, ℕ, ◌+◌, List, length, Option, None, Some}
 use Rattle.dns_values.specs.declared.address.IpAddr.{IpAddr}
 use Rattle.client_request.specs.declared.fault.Fault.{Fault}
+use Rattle.front_edge.specs.Opening.{Opened}
 use Rattle.front_edge.specs.declared.front.DeafAt.{DeafAt}
 use Rattle.front_peers.specs.declared.event.FrontOut.{FrontOut}
 use Rattle.front_peers.specs.declared.event.FrontOut.TheVariants as outs
@@ -15,13 +16,14 @@ use Rattle.listener_peers.specs.declared.server.Told.{Told}
 use Rattle.listener_peers.specs.declared.server.Told.TheVariants as tolds
 use Rattle.socket_places.specs.Books.{Acts}
 
--- what contracts see of it: where it is to listen, its books, how often it was polled, and how often it could not listen, with the last place
+-- what contracts see of it: where it is to listen, its books, how often it was polled, how often it could not listen, with the last place, and what was opened for it
 pub record Kept : Type 0 where
   pub addresses : List IpAddr
   pub books : Server
   pub polls : ℕ
   pub faults : ℕ
   pub deaf : Option DeafAt
+  pub opened : Option (List Opened)
 
 -- it could not listen, by this fault
 abbrev pub IsDeafBy : Option DeafAt → Fault → Type 0

@@ -4,6 +4,7 @@ ghost use Rattle.std.specs.Prelude.{◌≡◌, ◌+◌, ◌++◌, [], ◌∷◌,
 ghost use Rattle.dns_values.specs.Source.{Rose, one_more};
 ghost use Rattle.listener_peers.specs.Waits.{Polls};
 ghost use Rattle.front_edge.specs.Fronts.{IsActed, IsDeafAt, IsDeafBy, IsListening, PollGives, told_as};
+ghost use Rattle.front_edge.specs.Opening.{after_opened, both_at, opened_at};
 
 use crate::dgrams::SystemDgrams;
 use crate::listeners::{OpenListeners, SystemListeners};
@@ -75,7 +76,7 @@ impl<
 
     ghost Value = { Kept };
 
-    ghost view = { λ f. record { addresses = f.addresses; books = f.books; polls = f.polls; faults = f.faults; deaf = f.deaf } };
+    ghost view = { λ f. record { addresses = f.addresses; books = f.books; polls = f.polls; faults = f.faults; deaf = f.deaf; opened = O.opens f.opener } };
 }
 
 /// What the books tell, as what happens to a forwarder.
@@ -107,13 +108,15 @@ fn listen_by<N: Network + Drop, D: DgramListener + Drop, L: Listener + Drop>(
 }
 
 /// Listens at an address. What finds no memory is the fault `Other`.
+#[tactic(auto, using(crate::proofs::Listening::opened_both))]
 fn listen_at<
     N: Network + Drop,
     D: DgramListener + Drop,
     L: Listener + Drop,
     O: OpenListeners<D, L>,
 >(opener: &mut O, addr: SocketAddr, books: &mut ServerBooks<N, D, L>) -> Result<(), Fault>
-    ensures { OnOk result (IsListening 1 books.old books.new) }
+    ensures listens { OnOk result (IsListening 1 books.old books.new) }
+    ensures opened { OnOk result (O.opens opener.new ≡ after_opened (both_at addr) (O.opens opener.old)) }
 {
     let dgrams = opener.open_dgrams(addr)?;
     let streams = opener.open_streams(addr)?;
@@ -124,7 +127,7 @@ fn listen_at<
 }
 
 /// Listens at each of these addresses.
-#[tactic(auto, using(crate::proofs::Listening::listens_nowhere, crate::proofs::Listening::listens_more))]
+#[tactic(auto, using(crate::proofs::Listening::listens_nowhere, crate::proofs::Listening::listens_more, crate::proofs::Listening::opened_nowhere))]
 fn listen_all<
     N: Network + Drop,
     D: DgramListener + Drop,
@@ -136,7 +139,8 @@ fn listen_all<
     port: u16,
     books: &mut ServerBooks<N, D, L>,
 ) -> Result<(), DeafAt>
-    ensures { OnOk result (IsListening (length addresses.now) books.old books.new) }
+    ensures listens { OnOk result (IsListening (length addresses.now) books.old books.new) }
+    ensures opened { OnOk result (O.opens opener.new ≡ after_opened (opened_at port addresses.now) (O.opens opener.old)) }
 {
     for ip in addresses {
         match listen_at(opener, SocketAddr { ip: *ip, port }, books) {
@@ -223,6 +227,7 @@ impl<
 
     fn listen(&mut self, port: u16) -> Result<(), Fault>
         ensures listens { OnOk result (IsListening (length self.old.addresses) self.old.books self.new.books) }
+        ensures opened { OnOk result (self.new.opened ≡ after_opened (opened_at port self.old.addresses) self.old.opened) }
         ensures polls { self.new.polls ≡ self.old.polls }
         ensures faults { OnOk result (self.new.faults ≡ self.old.faults) }
         ensures refused { OnErr result (Rose self.old.faults self.new.faults) }

@@ -1,5 +1,8 @@
 //! What opens listeners.
 
+ghost use Rattle.std.specs.Prelude.{◌≡◌, [], ◌∷◌, List, None, Option, OnOk};
+ghost use Rattle.front_edge.specs.Opening.{Dgrams, Opened, Streams, after_opened};
+
 use crate::dgrams::SystemDgrams;
 use crate::streams::SystemStreams;
 use client_edge::{fault_of, system_address};
@@ -11,12 +14,18 @@ use std::io;
 use std::net::{Net, TcpListener, TcpStream, UdpSocket};
 
 /// Opens listeners at addresses of this host.
+///
+/// Where it knows what it opened, it tells that as one list.
 pub trait OpenListeners<D, L> {
+    ghost opens: { Self → Option (List Opened) };
+
     /// One for datagrams. The fault says why it could not be opened.
-    fn open_dgrams(&mut self, addr: SocketAddr) -> Result<D, Fault>;
+    fn open_dgrams(&mut self, addr: SocketAddr) -> Result<D, Fault>
+        ensures { OnOk result (opens self.new ≡ after_opened (Dgrams addr ∷ []) (opens self.old)) };
 
     /// One for streams. The fault says why it could not be opened.
-    fn open_streams(&mut self, addr: SocketAddr) -> Result<L, Fault>;
+    fn open_streams(&mut self, addr: SocketAddr) -> Result<L, Fault>
+        ensures { OnOk result (opens self.new ≡ after_opened (Streams addr ∷ []) (opens self.old)) };
 }
 
 /// Opens listeners of the system.
@@ -51,6 +60,8 @@ impl<R: Net<Listener = TcpListener, Stream = TcpStream> + Copy> OpenListeners<
     BatchDgrams<SystemDgrams>,
     SystemStreams,
 > for SystemListeners<R> {
+    ghost opens = { λ _. None };
+
     fn open_dgrams(&mut self, addr: SocketAddr) -> Result<BatchDgrams<SystemDgrams>, Fault> {
         match self.bound(addr) {
             Ok(socket) => Ok(BatchDgrams::new(self.alloc, SystemDgrams::new(socket))),

@@ -12,6 +12,7 @@ use crate::stepping::{end, step_and_tell};
 use client_request::{Error, Words};
 use front_core::Forwarder;
 use front_peers::{FrontEvent, FrontOuts};
+use front_steps::Within;
 use joint_history::{Joint, Seat};
 use std::alloc::Global;
 use std::marker::{Model, PhantomData};
@@ -152,7 +153,7 @@ impl<L: ForwarderKey, W: Words + Drop> Desk<L, W> {
 
     /// How long may be waited for something to happen.
     pub(crate) fn may_wait(&self) -> u128 {
-        self.forwarder.may_wait()
+        self.forwarder.within().may_wait()
     }
 
     /// The history is legal. It does nothing.

@@ -3,3 +3,4 @@ pub mod Doing
 pub mod Counting
 pub mod Removing
 pub mod Passing
+pub mod Stopping

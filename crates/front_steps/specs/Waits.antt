@@ -1,5 +1,5 @@
 -- The queries that wait, and what is put out for them.
-use Rattle.std.specs.Prelude.{ℕ, ◌+◌, ◌++◌, ◌&&◌, ◌||◌, not, nat_lt, Bool, true, false, List, [], ◌∷◌, length, Option, Some, None, option_and_then, option_map, Result}
+use Rattle.std.specs.Prelude.{ℕ, ◌+◌, ◌≤◌, ◌^◌, ◌⊎◌, ◌++◌, ◌&&◌, ◌||◌, not, nat_lt, Bool, true, false, List, [], ◌∷◌, length, Option, Some, None, option_and_then, option_map, Result}
 use Rattle.std.specs.BTreeMap.{insert_entry, is_at}
 use Rattle.std.specs.Cmp.Lexicographic.{slice_cmp}
 use Rattle.std.specs.List.Sorted.{IsStrictlySortedBy}
@@ -39,6 +39,10 @@ same_asked key w = option_and_then (if_it_waits w.requests) (lookup (is_key key)
 -- how many queries wait
 abbrev pub count_waiting : Waits → ℕ
 count_waiting w = length (askers_in w.requests)
+
+-- no request more can be numbered, or no query more be counted
+abbrev pub HasNoNumber : Waits → Type 0
+HasNoNumber w = (2 ^ 64 ≤ w.next + 1) ⊎ (2 ^ 64 ≤ count_waiting w + 1)
 
 -- there is room for one more query: at most 10,000 wait
 abbrev pub has_room : Waits → Bool

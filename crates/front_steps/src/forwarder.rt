@@ -6,7 +6,9 @@ ghost use Rattle.client_request.specs.Timers.{IsWant};
 ghost use Rattle.client_request.specs.declared.error.Error.TheVariants as errors;
 ghost use Rattle.front_queries.specs.Requests.{request_of};
 ghost use Rattle.front_peers.specs.declared.items.Item.TheVariants.{Asks};
-ghost use Rattle.front_steps.specs.Steps.{DidAsk, DidItem, DidQuery, DidRow, DidSo, DidSome, DidTick, Doing, Stepped, TookIn, beginning, scene};
+ghost use Rattle.front_steps.specs.Steps.{DidAsk, DidItem, DidQuery, DidRow, DidSo, DidSome, DidTick, Doing, TookIn, beginning, scene};
+ghost use Rattle.front_steps.specs.Forwards.{Makes};
+ghost use Rattle.front_steps.specs.Stopping.{StopsAmong, StopsAsk, StopsIn, StopsItem, StopsQuery, StopsTick};
 ghost use Rattle.front_steps.specs.Waits.{count_waiting, has_room, joins_if, may_join, turned};
 
 use crate::putting::{Desk, put_all, put_asked, turn_away};
@@ -63,6 +65,7 @@ fn step_within<C: Within, W: Words>(
     ensures did { OnOk result (DidSo (DidRow C.steps event desk.old within.old (W.stream words.old) outs.old (scene within.new (W.stream words.new) desk.new outs.new)) true) }
     ensures sound { OnOk result (C.has_failed within.new ≡ false) }
     ensures want { IfErr result IsWant }
+    ensures numbers { IsErrOf result errors.NumbersUsed → C.stops within.old (W.stream words.old) event }
 {
     let row = within.step(words, event)?;
     put_all(alloc, desk, row.outs, outs)?;
@@ -83,6 +86,7 @@ fn ask<C: Within, W: Words>(
     ensures did { OnOk result (DidSo (DidAsk C.steps moment asker (scene within.old (W.stream words.old) desk.old outs.old) (scene within.new (W.stream words.new) desk.new outs.new)) true) }
     ensures sound { OnOk result (C.has_failed within.new ≡ false) }
     ensures want { IfErr result IsWant }
+    ensures numbers { IsErrOf result errors.NumbersUsed → StopsAsk C.stops moment asker (scene within.old (W.stream words.old) desk.old outs.old) }
 {
     let request = request_of(alloc, &asker.query)?;
     let what = What::Ask { request };
@@ -128,15 +132,14 @@ fn may_ask<C: Within>(
     moment: Moment,
     asker: &Asker,
 ) -> Result<bool, Error>
-    requires { C.has_failed within.now ≡ false }
     ensures may { IfOk result (λ may. may ≡ has_room waits.now || C.serves within.now moment (request_of asker.now.query)) }
-    ensures want { IfErr result IsWant }
+    ensures memory { IfErr result (λ e. e ≡ errors.NoMemory) }
 {
     if waits.has_room() {
         return Ok(true);
     }
     let request = request_of(alloc, &asker.query)?;
-    within.would_serve(moment, &request)
+    Ok(within.would_serve(moment, &request)?)
 }
 
 /// A query that asks what none asks that waits is asked, or turned away. Whether it is asked.
@@ -153,6 +156,7 @@ fn ask_or_turn_away<C: Within, W: Words>(
     ensures did { IfOk result (λ asked. DidSo (DidQuery C.steps C.serves None moment asker (scene within.old (W.stream words.old) desk.old outs.old) (scene within.new (W.stream words.new) desk.new outs.new)) asked) }
     ensures sound { OnOk result (C.has_failed within.new ≡ false) }
     ensures want { IfErr result IsWant }
+    ensures numbers { IsErrOf result errors.NumbersUsed → StopsQuery C.serves C.stops None moment asker (scene within.old (W.stream words.old) desk.old outs.old) }
 {
     if !may_ask(alloc, within, &desk.waits, moment, &asker)? {
         put_away(alloc, &asker, outs)?;
@@ -176,6 +180,7 @@ fn take_query<C: Within, W: Words>(
     ensures did { IfOk result (λ asked. DidSo (DidItem C.steps C.serves moment (Asks asker) (scene within.old (W.stream words.old) desk.old outs.old) (scene within.new (W.stream words.new) desk.new outs.new)) asked) }
     ensures sound { OnOk result (C.has_failed within.new ≡ false) }
     ensures want { IfErr result IsWant }
+    ensures numbers { IsErrOf result errors.NumbersUsed → StopsItem C.serves C.stops moment (Asks asker) (scene within.old (W.stream words.old) desk.old outs.old) }
 {
     match desk.waits.same_asked(&asker.query)? {
         Some(number) => {
@@ -200,6 +205,7 @@ fn do_item<C: Within, W: Words>(
     ensures did { IfOk result (λ happened. DidSo (DidItem C.steps C.serves moment item (scene within.old (W.stream words.old) desk.old outs.old) (scene within.new (W.stream words.new) desk.new outs.new)) happened) }
     ensures sound { OnOk result (C.has_failed within.new ≡ false) }
     ensures want { IfErr result IsWant }
+    ensures numbers { IsErrOf result errors.NumbersUsed → StopsItem C.serves C.stops moment item (scene within.old (W.stream words.old) desk.old outs.old) }
 {
     match item {
         Item::Asks(asker) => take_query(alloc, within, words, desk, moment, asker, outs),
@@ -233,6 +239,7 @@ fn do_all<C: Within, W: Words>(
     ensures did { IfOk result (λ happened. DidSo (Doing C.steps C.serves moment items (scene within.old (W.stream words.old) desk.old outs.old) [] (scene within.new (W.stream words.new) desk.new outs.new)) happened) }
     ensures sound { OnOk result (C.has_failed within.new ≡ false) }
     ensures want { IfErr result IsWant }
+    ensures numbers { IsErrOf result errors.NumbersUsed → StopsAmong C.steps C.serves C.stops moment items (scene within.old (W.stream words.old) desk.old outs.old) }
 {
     let mut happened = false;
     let mut left = VecDeque::from(items.into_vec());
@@ -257,6 +264,7 @@ fn tick_unless<C: Within, W: Words>(
     ensures did { OnOk result (DidSome (DidTick C.steps happened moment (scene within.old (W.stream words.old) desk.old outs.old) (scene within.new (W.stream words.new) desk.new outs.new))) }
     ensures sound { OnOk result (C.has_failed within.new ≡ false) }
     ensures want { IfErr result IsWant }
+    ensures numbers { IsErrOf result errors.NumbersUsed → StopsTick C.stops happened moment (scene within.old (W.stream words.old) desk.old outs.old) }
 {
     if happened {
         return Ok(());
@@ -279,6 +287,7 @@ fn take_in<C: Within, W: Words>(
     ensures took { OnOk result (TookIn C.steps C.serves event.now within.old (W.stream words.old) desk.old (scene within.new (W.stream words.new) desk.new outs.new)) }
     ensures sound { OnOk result (C.has_failed within.new ≡ false) }
     ensures want { IfErr result IsWant }
+    ensures numbers { IsErrOf result errors.NumbersUsed → StopsIn C.steps C.serves C.stops event.now within.old (W.stream words.old) desk.old }
 {
     let mut items = Items::new(alloc);
     desk.streams.take(event, &mut items)?;
@@ -324,11 +333,12 @@ impl<C: Within + Drop> Forwarder<C> {
     /// beside the one that was asked. Each reply is answered to all that wait for it in its place, and all else that the client puts
     /// out is handed on.
     ///
-    /// `NoMemory`, `NumbersUsed` where a number is used up, and from then on `Failed`, which changes nothing.
+    /// `NoMemory`, `NumbersUsed` where a number would pass 64 bits, and from then on `Failed`, which changes nothing.
     pub fn step<W: Words>(&mut self, words: &mut W, event: FrontEvent) -> Result<FrontRow, Error>
-        ensures stepped { IfOk result (λ row. Stepped C.steps C.serves event self.old (W.stream words.old) self.new (W.stream words.new) row.outs) }
+        ensures made { IfOk result (λ row. Makes C.steps C.serves row self.old (W.stream words.old) self.new (W.stream words.new)) }
         ensures event { IfOk result (λ row. row.event ≡ event) }
         ensures lasts { OnOk result (self.new.failed ≡ false) }
+        ensures numbers { IsErrOf result errors.NumbersUsed → StopsIn C.steps C.serves C.stops event self.old.within (W.stream words.old) self.old.desk }
         ensures refused { IfErr result IsRefusal }
         ensures err { OnErr result (self.new.failed ≡ true) }
         ensures failed { self.old.failed ≡ true → (result ≡ Err errors.Failed) × (self.new ≡ self.old) }

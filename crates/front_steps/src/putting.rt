@@ -1,6 +1,6 @@
 //! What the client within puts out, in the eyes of the front.
 
-ghost use Rattle.std.specs.Prelude.{◌≡◌, ◌++◌, ◌∷◌, [], IfErr, IfOk, IfSome, OnOk};
+ghost use Rattle.std.specs.Prelude.{◌≡◌, ◌++◌, ◌∷◌, [], IfErr, IfOk, IfSome, IsErrOf, OnOk};
 ghost use Rattle.client_request.specs.Timers.{IsWant};
 ghost use Rattle.client_request.specs.declared.event.Out.TheVariants as out;
 ghost use Rattle.front_peers.specs.Items as items;
@@ -135,6 +135,7 @@ pub(crate) fn put_asked(
     ensures outs { OnOk result (outs.new ≡ outs.old ++ (spec.puts_asked asker from desk.old).0) }
     ensures desk { OnOk result (desk.new ≡ (spec.puts_asked asker from desk.old).1) }
     ensures want { IfErr result IsWant }
+    ensures numbers { IsErrOf result Error.NumbersUsed → spec.HasNoNumber desk.old.waits }
 {
     let number = desk.waits.next()?;
     let Some(reply) = sole_reply(&from, number) else {

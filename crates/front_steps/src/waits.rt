@@ -1,6 +1,6 @@
 //! The queries that wait.
 
-ghost use Rattle.std.specs.Prelude.{◌≡◌, ◌+◌, ◌-◌, ◌<◌, ◌^◌, true, length, IfOk, OnOk, IfErr, IfNone};
+ghost use Rattle.std.specs.Prelude.{◌≡◌, ◌+◌, ◌-◌, ◌<◌, ◌≤◌, ◌^◌, true, length, IfOk, OnOk, IfErr, IfNone, IsErrOf};
 ghost use Rattle.client_request.specs.Timers.{IsWant};
 ghost use Rattle.front_queries.specs.Query.{key_of};
 ghost use Rattle.number_table.specs.Entries.{entry_at, frees, puts};
@@ -207,8 +207,10 @@ impl Waits {
     pub(crate) fn ask_anew(&mut self, asker: Asker) -> Result<(), Error>
         ensures ok { OnOk result (self.new ≡ spec.asks_anew asker self.old) }
         ensures want { IfErr result IsWant }
+        ensures numbers { IsErrOf result Error.NumbersUsed → spec.HasNoNumber self.old }
     {
-        if self.next == u64::MAX || self.count == u64::MAX {
+        let number = self.next()?;
+        if self.count == u64::MAX {
             return Err(Error::NumbersUsed);
         }
         let key = AskedKey::new(asker.query.key(self.alloc)?);
@@ -218,7 +220,6 @@ impl Waits {
             first: asker,
             others: Others::new(self.alloc),
         };
-        let number = self.next;
         self.put(number, waiting)?;
         if self.numbers.insert(stored, number).is_err() {
             return Err(Error::NoMemory);
@@ -246,6 +247,7 @@ impl Waits {
         ensures next { IfOk result (λ number. number ≡ self.now.next) }
         ensures left { OnOk result (self.now.next < 2 ^ 64 - 1) }
         ensures want { IfErr result IsWant }
+        ensures numbers { IsErrOf result Error.NumbersUsed → 2 ^ 64 ≤ self.now.next + 1 }
     {
         if self.next == u64::MAX {
             return Err(Error::NumbersUsed);
@@ -257,6 +259,7 @@ impl Waits {
     pub(crate) fn pass(&mut self, asker: &Asker) -> Result<(), Error>
         ensures ok { OnOk result (self.new ≡ spec.passes asker.now self.old) }
         ensures want { IfErr result IsWant }
+        ensures numbers { IsErrOf result Error.NumbersUsed → spec.HasNoNumber self.old }
     {
         let number = self.next()?;
         self.forget(&asker.query)?;

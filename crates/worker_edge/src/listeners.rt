@@ -1,5 +1,7 @@
 //! What opens the sockets that workers share.
 
+ghost use Rattle.std.specs.Prelude.{None};
+
 use crate::common::{Common, SharedSocket};
 use crate::wakes::WakeDgrams;
 use client_edge::{fault_of, system_address};
@@ -64,6 +66,8 @@ impl<'a, T: Wait, R: Net<Listener = TcpListener, Stream = TcpStream> + Copy> Ope
     WakeDgrams,
     SystemStreams,
 > for SharedListeners<'a, T, R> {
+    ghost opens = { λ _. None };
+
     fn open_dgrams(&mut self, addr: SocketAddr) -> Result<WakeDgrams, Fault> {
         match self.opened(addr) {
             Ok((socket, woken)) => match self.common.put(socket) {

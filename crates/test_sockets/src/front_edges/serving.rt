@@ -4,7 +4,7 @@ use client_core::{cache, redundant};
 use client_edge::{RandWords, RealClock};
 use dns_values::{IpAddr, NoMemory, Seq};
 use forward_run::{Front, turn};
-use front_core::Forwarder;
+use front_core::forwarder_of;
 use front_edge::SocketFront;
 use front_peers::{FrontOut, FrontRow};
 use rand::rngs::StdRng;
@@ -57,7 +57,7 @@ pub fn serve(
     for server in conf.servers.as_slice() {
         front.learn_server(server)?;
     }
-    let made = Forwarder::new(alloc, &conf, redundant::Config::new(), cache::Config::new());
+    let made = forwarder_of(alloc, &conf, redundant::Config::new(), cache::Config::new());
     let Ok(mut forwarder) = made else {
         return Ok(false);
     };

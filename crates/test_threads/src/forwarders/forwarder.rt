@@ -3,7 +3,7 @@
 use crate::forwarders::messages::{ANSWER, answered, asked, with_id};
 use client_core::{Out, cache, redundant};
 use client_request::{ListWords, Moment, What, WordList};
-use front_core::Forwarder;
+use front_core::{Forwarder, forwarder_of};
 use front_peers::{FrontEvent, FrontOut, FrontRow, FrontWhat};
 use resolv_conf::ResolvConf;
 use std::alloc::Global;
@@ -14,7 +14,7 @@ fn forwarder(alloc: Global, word: u64) -> Option<(Forwarder, ListWords)> {
     conf.finalize(alloc).ok()?;
     let mut words = WordList::new(alloc);
     words.push(word).ok()?;
-    let made = Forwarder::new(alloc, &conf, redundant::Config::new(), cache::Config::new());
+    let made = forwarder_of(alloc, &conf, redundant::Config::new(), cache::Config::new());
     Some((made.ok()?, ListWords::new(words)))
 }
 

@@ -3,6 +3,7 @@
 ghost use Rattle.std.specs.Prelude.{◌≡◌, false};
 
 use client_request::{Error, Event, Moment, Outs, RequestMessage, Row, Words};
+use dns_base::NoMemory;
 use front_steps::Within;
 use std::alloc::Global;
 
@@ -49,14 +50,28 @@ impl Within for Given {
 
     ghost serves = { λ given moment request. given.serves };
 
+    ghost stops = { λ _ _ _. ⊥ };
+
     ghost has_failed = { λ _. false };
+
+    ghost due_in = { λ _. 0 };
+
+    ghost kept = { λ _. 0 };
 
     fn step<W: Words>(&mut self, _words: &mut W, event: Event) -> Result<Row, Error> {
         let outs = self.next();
         Ok(Row { event, outs })
     }
 
-    fn would_serve(&self, _moment: Moment, _request: &RequestMessage) -> Result<bool, Error> {
+    fn would_serve(&self, _moment: Moment, _request: &RequestMessage) -> Result<bool, NoMemory> {
         Ok(self.serves)
+    }
+
+    fn may_wait(&self) -> u128 {
+        0
+    }
+
+    fn entry_count(&self) -> usize {
+        0
     }
 }

@@ -9,3 +9,6 @@ returns-clause-begun g c = (all_lanes _ _ _ c.args.lanes.now c.run_from.result c
 
 pub returns-clause-numbers : goal.returns-clause-numbers
 returns-clause-numbers g c = (all_lanes _ _ _ c.args.lanes.now c.run_from.result c.run_from.ensures c.requires).numbers
+
+pub returns-clause-answered : goal.returns-clause-answered
+returns-clause-answered g c = (all_lanes _ _ _ c.args.lanes.now c.run_from.result c.run_from.ensures c.requires).answered
