@@ -1,7 +1,7 @@
 //! What is told to the sink of errors.
 
 ghost use Rattle.std.specs.Prelude.{◌≡◌, ◌≢◌, ◌⊎◌, OnOk};
-ghost use Rattle.command_parts.specs.Ends.{IsSaid};
+ghost use Rattle.command_parts.specs.Ends.{IsBegun, IsSaid};
 ghost use Rattle.forward_words.specs.Sentences.{refusal_sentence, unasked_sentence};
 ghost use Rattle.forward_conf.specs.Causes.{IsSilent};
 ghost use Rattle.forward_conf.specs.Sentences as spec;
@@ -34,8 +34,10 @@ pub fn end_without_memory<L: Sink>(errors: &mut L) -> Status
 }
 
 /// Writes the line of a cause, if it has one. The status that is ended with.
+#[tactic(auto, using(crate::proofs::Begun::nothing_begun))]
 fn write_cause<K: Sink>(sink: &mut K, cause: &Cause) -> Status
     ensures status { (result.0 ≡ spec.status_of cause.now) ⊎ (result.0 ≡ 6) }
+    ensures begun { IsBegun (spec.line_of cause.now) (K.held sink.old) (K.held sink.new) }
     ensures said { result.0 ≢ 6 → IsSaid (spec.line_of cause.now) (K.held sink.old) (K.held sink.new) (K.faults sink.old) (K.faults sink.new) }
     ensures silent { IsSilent (spec.status_of cause.now) → K.held sink.new ≡ K.held sink.old }
 {
@@ -58,6 +60,7 @@ pub fn end_because<K: Sink, L: Sink>(
     cause: Cause,
 ) -> Status
     ensures status { (result.0 ≡ spec.status_of cause) ⊎ (result.0 ≡ 6) }
+    ensures begun { IsBegun (spec.line_of cause) (K.held sink.old) (K.held sink.new) }
     ensures said { result.0 ≢ 6 → IsSaid (spec.line_of cause) (K.held sink.old) (K.held sink.new) (K.faults sink.old) (K.faults sink.new) }
     ensures silent { IsSilent (spec.status_of cause) → K.held sink.new ≡ K.held sink.old }
     ensures told { result.0 ≢ 6 → IsSaid (spec.sentence_of listened.now port cause) (L.held errors.old) (L.held errors.new) (L.faults errors.old) (L.faults errors.new) }

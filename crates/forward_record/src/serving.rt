@@ -100,9 +100,8 @@ pub fn serve_recorded<
     let served = serve_source(
         alloc,
         said,
-        seed,
         asked,
-        ToRecord { file },
+        ToRecord { seed, file },
         source,
         errors,
         front,

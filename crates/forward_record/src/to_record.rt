@@ -16,6 +16,8 @@ use std::alloc::Global;
 /// Makes the project's client, whose record begins in this file: with the configuration, the settings and 65536 words.
 #[derive(Drop)]
 pub(crate) struct ToRecord<K: Sink + Drop> {
+    /// From this the cache is hashed.
+    pub(crate) seed: u64,
     pub(crate) file: K,
 }
 
@@ -29,10 +31,9 @@ impl<K: Sink + Drop> Maker<RecordedCore<K>, Refused> for ToRecord<K> {
         alloc: Global,
         options: &Options,
         conf: &ResolvConf,
-        seed: u64,
         words: &mut W,
     ) -> Result<RecordedCore<K>, Unserved<Refused>> {
-        let ToRecord { mut file } = self;
+        let ToRecord { seed, mut file } = self;
         let settings = settings_of(options, conf);
         let begun = Recorder::with_settings(alloc, conf, &settings, words, Ahead::LARGE, &mut file);
         let recorder = match begun {

@@ -1,5 +1,5 @@
 -- Why the program ends before there is a line of answers, and what is told of it.
-use Rattle.std.proofs.Common.{◌≡◌, ◌⊎◌, inl, inr, ℕ, List, Option, Some, None, refl, ap, sym, ◌∙◌, arith}
+use Rattle.std.proofs.Common.{◌≡◌, ◌⊎◌, inl, inr, ℕ, List, Option, Some, None, refl, ap, sym, subst, ◌∙◌, arith}
 use Rattle.std.specs.Option.{is_some}
 use Rattle.std.specs.Prelude.{IfSome}
 use Rattle.client_request.specs.declared.fault.Fault.{Fault}
@@ -25,6 +25,14 @@ deaf_serves gave is_at faults faults_after listened port conf (Itself server) h 
 deaf_serves gave is_at faults faults_after listened port conf (Deaf at fault) h = h
 deaf_serves gave is_at faults faults_after listened port conf NoMemory h = tt
 deaf_serves gave is_at faults faults_after listened port conf NumbersUsed h = tt
+
+-- neither is that numbers are used up
+pub deaf_early : (gave : Fault → Type 0) (is_at : IpAddr → Type 0) (faults faults_after : ℕ) (listened : List IpAddr) (port : ℕ) (conf : ResolvConf) (c : Cause)
+    → IsDeafCause gave is_at faults faults_after listened port conf c → c ≡ NumbersUsed → ⊥
+deaf_early gave is_at faults faults_after listened port conf c h is = subst (λ (d : Cause). IsDeafCause gave is_at faults faults_after listened port conf d) is h
+
+pub read_early : (policy : Policy) (told : Option (List ℕ)) (faults faults_after : ℕ) (c : Cause) → IsReadCause policy told faults faults_after c → c ≡ NumbersUsed → ⊥
+read_early policy told faults faults_after c h is = subst (λ (d : Cause). IsReadCause policy told faults faults_after d) is h
 
 -- or the client stopped
 pub stop_serves : (gave : Fault → Type 0) (is_at : IpAddr → Type 0) (faults faults_after : ℕ) (listened : List IpAddr) (port : ℕ) (conf : ResolvConf) (c : Cause)

@@ -3,3 +3,4 @@ pub mod Served
 pub mod Turning
 pub mod Written
 pub mod Unserving
+pub mod Left

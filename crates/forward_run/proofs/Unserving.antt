@@ -1,5 +1,5 @@
 -- What holds of a forwarder that is not served, and of one that is, once it is known what its source told.
-use Rattle.std.proofs.Common.{◌≡◌, ◌<◌, ◌^◌, ◌⊎◌, ℕ, List, Option, None, Some, Result, Ok, Err, refl, sym, ap, subst, ◌∙◌, inl, inr, arith}
+use Rattle.std.proofs.Common.{◌≡◌, ◌≢◌, ◌<◌, ◌^◌, ◌⊎◌, ℕ, List, Option, None, Some, Result, Ok, Err, refl, sym, ap, subst, ◌∙◌, inl, inr, arith}
 use Rattle.std.specs.Prelude.{IfErr, IfOk, IfSome}
 use Rattle.forward_conf.specs.Reading.{IsConfAsked}
 use Rattle.forward_conf.specs.declared.cause.Cause.{Cause}
@@ -40,6 +40,11 @@ module _ {T X : Type 0} where
   pub all_speak : (r : Result T (Unserved X)) (P : Type 0) → P → IfErr r (λ e. IfSpeaks e P)
   all_speak (Ok t) P p = tt
   all_speak (Err e) P p = speaks e P p
+
+-- it did not end for numbers
+pub not_for_numbers : {X : Type 0} (P : Type 0) (e : Unserved X) → IfEnds e (λ cause. cause ≢ NumbersUsed) → IfEnds e (λ cause. cause ≡ NumbersUsed → P)
+not_for_numbers P (Ends cause) h = λ is. absurd (h is)
+not_for_numbers P (Refused why) h = h
 
 -- where the source tells its text
 pub refused_if : {X : Type 0} (refuses : Refuses X) (options : Options) (told : Option (List ℕ)) (conf : ResolvConf) (words left : ℕ → ℕ) (why : X)

@@ -1,5 +1,5 @@
 -- What is written at the end, as it was asked for.
-use Rattle.std.proofs.Common.{◌≡◌, ℕ, List, Option, Some, None, Result, Ok, ap, subst, sym, String, Global}
+use Rattle.std.proofs.Common.{◌≡◌, ℕ, List, Option, Some, None, Result, Ok, Err, ap, subst, sym, String, Global}
 use Rattle.std.specs.Prelude.{IfSome}
 use Rattle.std.specs.Result.{result_ok}
 use Rattle.command_parts.specs.Ends.{IsBegun, IsSaid}
@@ -21,6 +21,10 @@ asked_is words asked is = ap (λ (r : Result Asked Unasked). result_ok r) (sym i
 
 pub asked_with : (words : List (String Global)) (asked : Asked) (told : Option (List ℕ)) (P : Asked → List ℕ → Type 0) → Ok asked ≡ command_of words → IfSome told (P asked) → IfAsked (asked_in words) told P
 asked_with words asked told P is h = subst (λ (o : Option Asked). IfSome o (λ a. IfSome told (P a))) (sym (asked_is words asked is)) h
+
+-- they ask for nothing
+pub unasked_so : (words : List (String Global)) (unasked : Unasked) (told : Option (List ℕ)) (P : Asked → List ℕ → Type 0) → Err unasked ≡ command_of words → IfAsked (asked_in words) told P
+unasked_so words unasked told P is = subst (λ (r : Result Asked Unasked). IfAsked (result_ok r) told P) is tt
 
 pub told_with : (told : Option (List ℕ)) (P Q : List ℕ → Type 0) → ((text : List ℕ) → P text → Q text) → IfSome told P → IfSome told Q
 told_with None P Q f h = h

@@ -5,7 +5,8 @@ use Rattle.client_steps.specs.Whole.{Whole, started_with}
 use Rattle.command_parts.specs.Ends.{IsBegun}
 use Rattle.dns_values.specs.Sink.{with_octets}
 use Rattle.forward_conf.specs.Itself.{asks_itself}
-use Rattle.forward_conf.specs.Reading.{IsConfAsked}
+use Rattle.forward_conf.specs.Reading.{IsConfAsked, IsRefusedBy}
+use Rattle.forward_conf.specs.Sentences.{numbers_line}
 use Rattle.forward_conf.specs.Settings.{cache_of, choice_of, transports_of}
 use Rattle.forward_run.specs.Deeds.{begun_deeds}
 use Rattle.forward_run.specs.Ends.{IfAsked}
@@ -81,3 +82,14 @@ IsHalted options asked text old new = IsHaltedOver IsCoreStep core_serves IsCore
 
 abbrev pub IsHaltedBy : Options → Option Asked → Option (List ℕ) → (old new : World) → Type 0
 IsHaltedBy options asked told old new = IfAsked asked told (λ a text. IsHalted options a text old new)
+
+-- What is written where memory ran out: the first of the line of answers, where it was served, or of the line that says why the text is refused, or that numbers are used up, where
+-- they are; or nothing.
+pub data IsLeft (options : Options) (asked : Asked) (text : List ℕ) (before after : Option (List ℕ)) (old new : World) : Type 0 where
+  of_answers : IsCut options asked text before after old new → IsLeft options asked text before after old new
+  of_refusal : (line : List ℕ) → IsRefusedBy options.policy text line → IsBegun line before after → IsLeft options asked text before after old new
+  of_numbers : IsHalted options asked text old new → IsBegun numbers_line before after → IsLeft options asked text before after old new
+  of_nothing : after ≡ before → IsLeft options asked text before after old new
+
+abbrev pub IsLeftBy : {K : Type 0} → (K → Option (List ℕ)) → Options → Option Asked → Option (List ℕ) → (before after : K) → (old new : World) → Type 0
+IsLeftBy held options asked told before after old new = IfAsked asked told (λ a text. IsLeft options a text (held before) (held after) old new)

@@ -30,13 +30,12 @@ pub trait Maker<K: Within, X: Drop> {
 
     ghost refuses: { Self → Options → ResolvConf → (ℕ → ℕ) → X → Type 0 };
 
-    /// Makes it. Its cache is hashed from a seed.
+    /// Makes it.
     fn make<W: Words>(
         self,
         alloc: Global,
         options: &Options,
         conf: &ResolvConf,
-        seed: u64,
         words: &mut W,
     ) -> Result<K, Unserved<X>>
         ensures made { IfOk result (λ within. makes self options.now conf.now (W.stream words.old) (W.stream words.new) within) }
@@ -46,7 +45,10 @@ pub trait Maker<K: Within, X: Drop> {
 
 /// Makes the project's client as it is.
 #[derive(Clone, Copy)]
-pub struct Plain;
+pub struct Plain {
+    /// From this the cache is hashed.
+    pub seed: u64,
+}
 
 impl Maker<Core, NoMemory> for Plain {
     ghost makes = { λ _. IsPlain };
@@ -58,10 +60,9 @@ impl Maker<Core, NoMemory> for Plain {
         alloc: Global,
         options: &Options,
         conf: &ResolvConf,
-        seed: u64,
         _words: &mut W,
     ) -> Result<Core, Unserved<NoMemory>> {
-        match Core::with_settings(alloc, conf, settings_of(options, conf), seed) {
+        match Core::with_settings(alloc, conf, settings_of(options, conf), self.seed) {
             Ok(core) => Ok(core),
             Err(_) => Err(Unserved::Ends(Cause::NoMemory)),
         }

@@ -11,7 +11,7 @@ ghost use Rattle.forward_words.specs.Sentences.{unasked_sentence};
 ghost use Rattle.forward_words.specs.Words.{asked_by, asked_in, command_of};
 ghost use Rattle.forward_run.specs.Ends.{EndsBecause, IfAsked, IsEndCause, IsNotListenedBy, IsWhy, RefusalIsSaid};
 ghost use Rattle.forward_run.specs.Makers.{plain_cause};
-ghost use Rattle.forward_run.specs.Serving.{IsCutBy, IsDoneBy, IsHaltedBy, no_options};
+ghost use Rattle.forward_run.specs.Serving.{IsCutBy, IsDoneBy, IsHaltedBy, IsLeftBy, no_options};
 ghost use Rattle.forward_run.specs.Turns.{around};
 
 use crate::front::Front;
@@ -66,11 +66,21 @@ fn serve_asked<S: Source, K: Sink, L: Sink, F: Front, C: Clock, W: Words, V: Wat
     ensures silent { IsSilent result.0 → K.held sink.new ≡ K.held sink.old }
     ensures numbers { result.0 ≡ 7 → IsSaid numbers_line (K.held sink.old) (K.held sink.new) (K.faults sink.old) (K.faults sink.new) }
     ensures stops { result.0 ≡ 7 → around F.deeds F.polls C.given W.stream (front.old, clock.old, rng.old) (front.new, clock.new, rng.new) (IsHaltedBy options.now (Some asked) (S.left source.old)) }
+    ensures memory { result.0 ≡ 6 → around F.deeds F.polls C.given W.stream (front.old, clock.old, rng.old) (front.new, clock.new, rng.new) (IsLeftBy K.held options.now (Some asked) (S.left source.old) sink.old sink.new) }
     ensures why { EndsBecause result.0 → IsWhy (IsEndCause options.now asked.port (S.left source.old) (W.stream rng.old) (F.gave front.new) (F.is_deaf_at front.new) (F.faults front.old) (F.faults front.new) (S.faults source.old) (S.faults source.new)) options.now.listened asked.port result.0 (L.held errors.old) (L.held errors.new) (L.faults errors.old) (L.faults errors.new) }
     ensures status { result.0 < 8 }
 {
     let served = serve_source(
-        alloc, options, seed, asked, Plain, source, errors, front, clock, rng, watch,
+        alloc,
+        options,
+        asked,
+        Plain { seed },
+        source,
+        errors,
+        front,
+        clock,
+        rng,
+        watch,
     );
     match served {
         Ok((answered, _)) => {
@@ -98,6 +108,7 @@ fn serve_asked<S: Source, K: Sink, L: Sink, F: Front, C: Clock, W: Words, V: Wat
 /// of which none is taken; a line says which. 2: the words are others; nothing is written. 3: the source failed; nothing is written.
 /// 4: the sink failed. 5: it can't be listened, or a server of the configuration is this very forwarder, which would ask itself;
 /// nothing is written. 6: memory ran out. 7: numbers are used up.
+#[tactic(auto, using(crate::proofs::Written::unasked_so))]
 pub fn serve_as<S: Source, K: Sink, L: Sink, F: Front, C: Clock, W: Words, V: Watch<Core>>(
     alloc: Global,
     options: &Options,
@@ -126,6 +137,7 @@ pub fn serve_as<S: Source, K: Sink, L: Sink, F: Front, C: Clock, W: Words, V: Wa
     ensures silent { IsSilent result.0 → K.held sink.new ≡ K.held sink.old }
     ensures numbers { result.0 ≡ 7 → IsSaid numbers_line (K.held sink.old) (K.held sink.new) (K.faults sink.old) (K.faults sink.new) }
     ensures stops { result.0 ≡ 7 → around F.deeds F.polls C.given W.stream (front.old, clock.old, rng.old) (front.new, clock.new, rng.new) (IsHaltedBy options.now (asked_in words.now) (S.left source.old)) }
+    ensures memory { result.0 ≡ 6 → around F.deeds F.polls C.given W.stream (front.old, clock.old, rng.old) (front.new, clock.new, rng.new) (IsLeftBy K.held options.now (asked_in words.now) (S.left source.old) sink.old sink.new) }
     ensures why { EndsBecause result.0 → IfSome (asked_in words.now) (λ asked. IsWhy (IsEndCause options.now asked.port (S.left source.old) (W.stream rng.old) (F.gave front.new) (F.is_deaf_at front.new) (F.faults front.old) (F.faults front.new) (S.faults source.old) (S.faults source.new)) options.now.listened asked.port result.0 (L.held errors.old) (L.held errors.new) (L.faults errors.old) (L.faults errors.new)) }
     ensures status { result.0 < 8 }
 {
@@ -139,6 +151,7 @@ pub fn serve_as<S: Source, K: Sink, L: Sink, F: Front, C: Clock, W: Words, V: Wa
 
 /// The same as without options, by `PORT TURNS` and to the letter of the configuration: it is listened at 127.0.0.1, all settings are
 /// those by default, but 100,000 answers are kept, and nobody watches or hears more than what is written.
+#[tactic(auto, using(crate::proofs::Left::left_of_nothing))]
 pub fn serve<S: Source, K: Sink, F: Front, C: Clock, W: Words>(
     alloc: Global,
     words: &[String],
@@ -160,6 +173,7 @@ pub fn serve<S: Source, K: Sink, F: Front, C: Clock, W: Words>(
     ensures silent { IsSilent result.0 → K.held sink.new ≡ K.held sink.old }
     ensures numbers { result.0 ≡ 7 → IsSaid numbers_line (K.held sink.old) (K.held sink.new) (K.faults sink.old) (K.faults sink.new) }
     ensures stops { result.0 ≡ 7 → around F.deeds F.polls C.given W.stream (front.old, clock.old, rng.old) (front.new, clock.new, rng.new) (IsHaltedBy no_options (asked_by words.now) (S.left source.old)) }
+    ensures memory { result.0 ≡ 6 → around F.deeds F.polls C.given W.stream (front.old, clock.old, rng.old) (front.new, clock.new, rng.new) (IsLeftBy K.held no_options (asked_by words.now) (S.left source.old) sink.old sink.new) }
     ensures status { result.0 < 8 }
 {
     let Some(asked) = asked_by(words) else {

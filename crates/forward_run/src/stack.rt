@@ -1,14 +1,12 @@
 //! What is served, whatever the client within is: a configuration is read, it is listened, and the turns are made.
 
-ghost use Rattle.std.specs.Prelude.{◌≡◌, ◌≢◌, ◌⊎◌, false, map, OnOk, IfOk, IfErr, IfSome};
-ghost use Rattle.client_request.specs.declared.error.Error as errors;
+ghost use Rattle.std.specs.Prelude.{◌≡◌, ◌≢◌, ◌⊎◌, false, map, OnOk, IfOk, IfErr};
 ghost use Rattle.command_parts.specs.Ends.{IsBegun as IsLineBegun};
 ghost use Rattle.dns_values.specs.Sink.{IsFlushed, with_octets};
 ghost use Rattle.dns_values.specs.Source.{Rose};
 ghost use Rattle.forward_conf.specs.Causes.{IsDeafCause, IsServeCause, IsStop};
 ghost use Rattle.forward_conf.specs.Itself.{asks_itself};
 ghost use Rattle.forward_conf.specs.Reading.{AnyNotes, IsNoted, NotesIn};
-ghost use Rattle.forward_conf.specs.declared.cause.Cause as causes;
 ghost use Rattle.forward_run.specs.Deeds.{begun_deeds};
 ghost use Rattle.forward_run.specs.Ends.{IsEndCause};
 ghost use Rattle.forward_run.specs.Front.{after_deed, after_deeds};
@@ -47,7 +45,7 @@ fn learn_all<F: Front>(front: &mut F, servers: &[ServerConf]) -> Result<(), NoMe
 /// Why the program ends where the forwarder stops.
 pub fn stopped_by(error: Error) -> Cause
     ensures stops { IsStop result }
-    ensures numbers { result ≡ causes.NumbersUsed → error ≡ errors.NumbersUsed }
+    ensures numbers { result ≡ Cause.NumbersUsed → error ≡ Error.NumbersUsed }
 {
     match error {
         Error::NumbersUsed => Cause::NumbersUsed,
@@ -80,6 +78,7 @@ fn listen<F: Front>(
 }
 
 /// Listens, unless the forwarder would ask itself, and tells the front the servers of a configuration.
+#[tactic(auto, using(crate::proofs::Ends::deaf_early))]
 pub fn begin_front<F: Front>(
     listened: &[IpAddr],
     port: u16,
@@ -89,7 +88,7 @@ pub fn begin_front<F: Front>(
     ensures deeds { OnOk result (F.deeds front.new ≡ after_deeds (begun_deeds port conf.now) (F.deeds front.old)) }
     ensures polls { F.polls front.new ≡ F.polls front.old }
     ensures cause { IfErr result (IsServeCause (F.gave front.new) (F.is_deaf_at front.new) (F.faults front.old) (F.faults front.new) listened.now port conf.now) }
-    ensures early { IfErr result (λ cause. cause ≢ causes.NumbersUsed) }
+    ensures early { IfErr result (λ cause. cause ≢ Cause.NumbersUsed) }
     ensures asks_others { OnOk result (asks_itself listened.now port conf.now ≡ false) }
 {
     listen(listened, port, conf, front)?;
@@ -101,7 +100,6 @@ pub fn begin_front<F: Front>(
 pub fn begin<M: Maker<K, X> + Drop, K: Within + Drop, X: Drop, F: Front, W: Words>(
     alloc: Global,
     options: &Options,
-    seed: u64,
     port: u16,
     conf: &ResolvConf,
     maker: M,
@@ -113,7 +111,7 @@ pub fn begin<M: Maker<K, X> + Drop, K: Within + Drop, X: Drop, F: Front, W: Word
     ensures polls { F.polls front.new ≡ F.polls front.old }
     ensures lives { IfOk result (λ forwarder. forwarder.failed ≡ false) }
     ensures cause { IfErr result (λ e. IfEnds e (IsServeCause (F.gave front.new) (F.is_deaf_at front.new) (F.faults front.old) (F.faults front.new) options.now.listened port conf.now)) }
-    ensures early { IfErr result (λ e. IfEnds e (λ cause. cause ≢ causes.NumbersUsed)) }
+    ensures early { IfErr result (λ e. IfEnds e (λ cause. cause ≢ Cause.NumbersUsed)) }
     ensures refused { IfErr result (λ e. IfRefused e (M.refuses maker options.now conf.now (W.stream rng.old))) }
     ensures asks_others { OnOk result (asks_itself options.now.listened port conf.now ≡ false) }
 {
@@ -121,7 +119,7 @@ pub fn begin<M: Maker<K, X> + Drop, K: Within + Drop, X: Drop, F: Front, W: Word
         Ok(()) => {}
         Err(cause) => return Err(Unserved::Ends(cause)),
     }
-    match maker.make(alloc, options, conf, seed, rng) {
+    match maker.make(alloc, options, conf, rng) {
         Ok(within) => Ok(Forwarder::new(alloc, within)),
         Err(unmade) => Err(unmade),
     }
@@ -139,7 +137,6 @@ fn serve_conf<
 >(
     alloc: Global,
     options: &Options,
-    seed: u64,
     asked: Asked,
     conf: &ResolvConf,
     maker: M,
@@ -149,11 +146,11 @@ fn serve_conf<
     watch: &mut V,
 ) -> Result<(u64, Forwarder<K>), Unserved<X>>
     ensures served { IfOk result (λ left. around F.deeds F.polls C.given W.stream (front.old, clock.old, rng.old) (front.new, clock.new, rng.new) (IsServedOver K.steps K.serves (M.makes maker) options.now asked conf.now left.0 left.1)) }
-    ensures numbers { IfErr result (λ e. IfEnds e (λ cause. cause ≡ causes.NumbersUsed → around F.deeds F.polls C.given W.stream (front.old, clock.old, rng.old) (front.new, clock.new, rng.new) (IsStoppedOver K.steps K.serves K.stops (M.makes maker) options.now asked conf.now))) }
+    ensures numbers { IfErr result (λ e. IfEnds e (λ cause. cause ≡ Cause.NumbersUsed → around F.deeds F.polls C.given W.stream (front.old, clock.old, rng.old) (front.new, clock.new, rng.new) (IsStoppedOver K.steps K.serves K.stops (M.makes maker) options.now asked conf.now))) }
     ensures cause { IfErr result (λ e. IfEnds e (IsServeCause (F.gave front.new) (F.is_deaf_at front.new) (F.faults front.old) (F.faults front.new) options.now.listened asked.port conf.now)) }
     ensures refused { IfErr result (λ e. IfRefused e (M.refuses maker options.now conf.now (W.stream rng.old))) }
 {
-    let begun = begin(alloc, options, seed, asked.port, conf, maker, front, rng);
+    let begun = begin(alloc, options, asked.port, conf, maker, front, rng);
     let mut forwarder = match begun {
         Ok(forwarder) => forwarder,
         Err(unserved) => return Err(unserved),
@@ -179,7 +176,6 @@ pub fn serve_source<
 >(
     alloc: Global,
     options: &Options,
-    seed: u64,
     asked: Asked,
     maker: M,
     source: &mut S,
@@ -192,7 +188,7 @@ pub fn serve_source<
     ensures served { IfOk result (λ left. around F.deeds F.polls C.given W.stream (front.old, clock.old, rng.old) (front.new, clock.new, rng.new) (IsRunIf K.steps K.serves (M.makes maker) options.now asked (S.left source.old) left.0 left.1)) }
     ensures noted { OnOk result (IsNoted (NotesIn options.now.policy (S.left source.old)) (L.held errors.old) (L.held errors.new) (L.faults errors.old) (L.faults errors.new)) }
     ensures told { IfErr result (λ e. IfSpeaks e (IsNoted AnyNotes (L.held errors.old) (L.held errors.new) (L.faults errors.old) (L.faults errors.new))) }
-    ensures numbers { IfErr result (λ e. IfEnds e (λ cause. cause ≡ causes.NumbersUsed → around F.deeds F.polls C.given W.stream (front.old, clock.old, rng.old) (front.new, clock.new, rng.new) (IsHaltedIf K.steps K.serves K.stops (M.makes maker) options.now asked (S.left source.old)))) }
+    ensures numbers { IfErr result (λ e. IfEnds e (λ cause. cause ≡ Cause.NumbersUsed → around F.deeds F.polls C.given W.stream (front.old, clock.old, rng.old) (front.new, clock.new, rng.new) (IsHaltedIf K.steps K.serves K.stops (M.makes maker) options.now asked (S.left source.old)))) }
     ensures cause { IfErr result (λ e. IfEnds e (IsEndCause options.now asked.port (S.left source.old) (W.stream rng.old) (F.gave front.new) (F.is_deaf_at front.new) (F.faults front.old) (F.faults front.new) (S.faults source.old) (S.faults source.new))) }
     ensures refused { IfErr result (λ e. IfRefused e (IsRefusedIf (M.refuses maker) options.now (S.left source.old) (W.stream rng.old))) }
 {
@@ -201,7 +197,7 @@ pub fn serve_source<
         Err(cause) => return Err(Unserved::Ends(cause)),
     };
     serve_conf(
-        alloc, options, seed, asked, &conf, maker, front, clock, rng, watch,
+        alloc, options, asked, &conf, maker, front, clock, rng, watch,
     )
 }
 
@@ -214,11 +210,12 @@ pub fn answered_line(alloc: Global, answered: u64) -> Result<Vec<u8>, AllocError
 }
 
 /// Writes how many answers there were.
+#[tactic(auto, using(forward_conf::proofs::Begun::nothing_begun))]
 pub fn write_answered<O: Sink>(alloc: Global, answered: u64, sink: &mut O) -> Status
     ensures status { (result.0 ≡ 0) ⊎ ((result.0 ≡ 4) ⊎ (result.0 ≡ 6)) }
     ensures done { result.0 ≡ 0 → O.held sink.new ≡ with_octets (spec.answered_line answered) (O.held sink.old) }
     ensures flushed { result.0 ≡ 0 → IsFlushed (O.held sink.new) (O.flushed sink.new) }
-    ensures cut { result.0 ≡ 4 → IsLineBegun (spec.answered_line answered) (O.held sink.old) (O.held sink.new) }
+    ensures begun { IsLineBegun (spec.answered_line answered) (O.held sink.old) (O.held sink.new) }
     ensures sink_fault { result.0 ≡ 4 → Rose (O.faults sink.old) (O.faults sink.new) }
 {
     match answered_line(alloc, answered) {

@@ -90,7 +90,10 @@ fn serve_conf<
 {
     let Crew { first, workers } = crew;
     let First { mut front, clock } = first;
-    let begun = begin(alloc, options, seed, asked.port, conf, Plain, &mut front, &mut rng);
+    let maker = Plain { seed };
+    let begun = begin(
+        alloc, options, asked.port, conf, maker, &mut front, &mut rng,
+    );
     let first = First { front, clock };
     let forwarder = match begun {
         Ok(forwarder) => forwarder,

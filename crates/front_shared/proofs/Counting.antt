@@ -5,12 +5,12 @@ use Rattle.atomic_table.specs.Seated.{TableId}
 use Rattle.atomic_table.specs.declared.shared.Seat.{Seat}
 use Rattle.joint_history.specs.declared.view.View.{View}
 use Rattle.client_steps.specs.Whole.{Whole}
-use Rattle.front_core.specs.Forwarded.{Makes}
+use Rattle.front_core.specs.Forwarded.{HasNoRow, Makes}
 use Rattle.front_peers.specs.declared.event.FrontEvent.{FrontEvent}
 use Rattle.front_peers.specs.declared.event.FrontOut.{FrontOut}
 use Rattle.front_steps.specs.Steps.{Forwarding}
 use Rattle.front_shared.specs.Desk.{IsCounting, IsDesk}
-use Rattle.front_shared.specs.History.{AreMade, EndsEnded, EndsSo, IsBehind, IsEnded, IsKeeping, IsLegal, IsSubmitted, Opening, Passed, Puts, begins_to_wait, calls, entry_of, history}
+use Rattle.front_shared.specs.History.{AreMade, EndsEnded, EndsSo, IsBehind, IsEnded, IsKeeping, IsLegal, IsStopped, IsSubmitted, Opening, Passed, Puts, begins_to_wait, calls, entry_of, history}
 use Rattle.front_shared.specs.Waiting.{after_row, told_to, waits_after}
 use Rattle.front_shared.specs.declared.entry.Entry.{Entry}
 use Rattle.front_shared.specs.declared.entry.Item.{Item}
@@ -73,6 +73,16 @@ module _ (table : TableId) (o : Opening) (s : Forwarding Whole) (f : ℕ → ℕ
 
   pub ends_by : (old new : Passed) → Puts old seat.me.0.seen (Ended old.number) new → IsEnded old new
   ends_by old new p = ended_by old new c.entries (subst (λ (items : List Item). Puts old items (Ended old.number) new) c.keeping.seen p)
+
+  pub stops_by : (old new : Passed) (event : FrontEvent) → Puts old seat.me.0.seen (Ended old.number) new → HasNoRow event s f → IsStopped o new event
+  stops_by old new event p stops = record {
+    before = c.entries;
+    seen =
+        p.seen
+        ∙ ap (λ (items : List Item). items ++ Ended old.number ∷ []) c.keeping.seen
+        ∙ ap (λ (n : ℕ). map Made c.entries ++ Ended n ∷ []) (sym p.number);
+    stops = record { forwarder = s; words = f; trace = c.trace; made = c.made; stops = stops };
+  }
 
   pub ends_so : (caller : ℕ) (new : Seat (Unit {0}) (View Item)) → IsKeeping table (seat.me.0.seen ++ Ended caller ∷ []) new → EndsSo table o caller new
   ends_so caller new k = record {

@@ -7,7 +7,7 @@ use Rattle.joint_history.specs.declared.view.View.{View}
 use Rattle.joint_history.specs.Views.{own}
 use Rattle.client_request.specs.declared.event.Row.{Row}
 use Rattle.client_steps.specs.Whole.{Whole}
-use Rattle.front_core.specs.Forwarded.{Forwards}
+use Rattle.front_core.specs.Forwarded.{Forwards, HasNoRow}
 use Rattle.front_peers.specs.declared.event.FrontEvent.{FrontEvent}
 use Rattle.front_peers.specs.declared.event.FrontRow.{FrontRow}
 use Rattle.front_shared.specs.Waiting.{after_row, told_to, waits_after}
@@ -132,6 +132,20 @@ pub record IsEnded (old new : Passed) : Type 0 where
   pub seen : new.seen ≡ history before (Some old.number)
   pub none_between : own caller_of old.number (map Made before) ≡ own caller_of old.number old.seen
   pub calls_are : calls new ≡ calls old
+
+-- Behind these entries one forwarder makes no row of an event: a number is missing.
+pub record HasNoNumber (o : Opening) (before : List Entry) (event : FrontEvent) : Type 0 where
+  pub forwarder : Forwarding Whole
+  pub words : ℕ → ℕ
+  pub trace : List Row
+  pub made : AreMade o before trace forwarder words
+  pub stops : HasNoRow event forwarder words
+
+-- A call for whose event a number is missing: the history ends where one forwarder makes no row of it.
+pub record IsStopped (o : Opening) (new : Passed) (event : FrontEvent) : Type 0 where
+  pub before : List Entry
+  pub seen : new.seen ≡ history before (Some new.number)
+  pub stops : HasNoNumber o before event
 
 -- A call behind which the history has ended.
 pub record IsBehind (old new : Passed) : Type 0 where

@@ -2,7 +2,7 @@
 
 ghost use Rattle.std.specs.Prelude.{◌≡◌, ◌≢◌, ◌⊎◌, ◌≤◌, ◌+◌, ◌^◌, [], false, true, length, Err, IfOk, IfErr, IsErrOf, is_some};
 ghost use Rattle.client_request.specs.Timers.{IsWant};
-ghost use Rattle.front_shared.specs.History.{EndsEnded, IsBehind, IsEnded, IsFull, IsLegal, IsSettled, IsSubmitted};
+ghost use Rattle.front_shared.specs.History.{EndsEnded, IsBehind, IsEnded, IsFull, IsLegal, IsSettled, IsStopped, IsSubmitted};
 ghost use Rattle.joint_history.specs.Words.{word_of};
 
 use crate::entry::{Item, Receipt};
@@ -95,6 +95,7 @@ impl<L: ForwarderKey, W: Words + Drop> Desk<L, W> {
         ensures behind { IsErrOf result Error.Failed → IsBehind pass.old pass.new }
         ensures refused { IfErr result (λ e. e ≢ Error.Failed → IsWant e × (IsFull pass.old pass.new ⊎ IsEnded pass.old pass.new)) }
         ensures memory { IsErrOf result Error.NoMemory → IsEnded pass.old pass.new }
+        ensures numbers { IsErrOf result Error.NumbersUsed → IsFull pass.old pass.new ⊎ IsStopped L.opening pass.new event }
         ensures ended { EndsEnded self.old → result ≡ Err Error.Failed }
     {
         if self.ended.is_some() {

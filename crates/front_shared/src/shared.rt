@@ -2,7 +2,7 @@
 
 ghost use Rattle.std.specs.Prelude.{◌≡◌, ◌≢◌, ◌⊎◌, ◌+◌, ◌<◌, false, true, IfOk, IfErr, IsErrOf};
 ghost use Rattle.client_request.specs.Timers.{IsWant};
-ghost use Rattle.front_shared.specs.History.{EndsEnded, IsBehind, IsEnded, IsFresh, IsFull, IsLegal, IsSettled, IsSubmitted, newcomer, numbered, opening_of};
+ghost use Rattle.front_shared.specs.History.{EndsEnded, IsBehind, IsEnded, IsFresh, IsFull, IsLegal, IsSettled, IsStopped, IsSubmitted, newcomer, numbered, opening_of};
 ghost use Rattle.joint_history.specs.Words.{word_of};
 
 use crate::desk::Desk;
@@ -132,6 +132,7 @@ impl<L: ForwarderKey, W: Words + Drop> SharedForwarder<L, W> {
         ensures behind { IsErrOf result Error.Failed → IsBehind pass.old pass.new }
         ensures refused { IfErr result (λ e. e ≢ Error.Failed → IsWant e × (IsFull pass.old pass.new ⊎ IsEnded pass.old pass.new)) }
         ensures memory { IsErrOf result Error.NoMemory → IsEnded pass.old pass.new }
+        ensures numbers { IsErrOf result Error.NumbersUsed → IsFull pass.old pass.new ⊎ IsStopped L.opening pass.new event }
     {
         self.desk.lock(rt).submit(&self.joint, pass, event)
     }
@@ -183,6 +184,7 @@ impl<'a, L: ForwarderKey, W: Words + Drop> Held<'a, L, W> {
         ensures behind { IsErrOf result Error.Failed → IsBehind pass.old pass.new }
         ensures refused { IfErr result (λ e. e ≢ Error.Failed → IsWant e × (IsFull pass.old pass.new ⊎ IsEnded pass.old pass.new)) }
         ensures memory { IsErrOf result Error.NoMemory → IsEnded pass.old pass.new }
+        ensures numbers { IsErrOf result Error.NumbersUsed → IsFull pass.old pass.new ⊎ IsStopped L.opening pass.new event }
     {
         self.desk.submit(self.joint, pass, event)
     }

@@ -1,10 +1,10 @@
 //! One step of a forwarder, and what is told of it.
 
-ghost use Rattle.std.specs.Prelude.{◌≡◌, ◌++◌, ◌&&◌, ◌+◌, ◌<◌, ◌^◌, [], ◌∷◌, ◌==◌, not, length, Some, false, IfOk, IfErr, OnErr, OnOk};
+ghost use Rattle.std.specs.Prelude.{◌≡◌, ◌++◌, ◌&&◌, ◌+◌, ◌<◌, ◌^◌, [], ◌∷◌, ◌==◌, not, length, Some, false, IfOk, IfErr, IsErrOf, OnErr, OnOk};
 ghost use Rattle.client_request.specs.Timers.{IsWant};
-ghost use Rattle.front_core.specs.Forwarded.{Makes};
+ghost use Rattle.front_core.specs.Forwarded.{HasNoRow, Makes};
 ghost use Rattle.front_shared.specs.Desk.{IsCounting, IsDesk};
-ghost use Rattle.front_shared.specs.History.{EndsSo, IsEnded, IsKeeping, IsLegal, IsSubmitted, Puts};
+ghost use Rattle.front_shared.specs.History.{EndsSo, IsEnded, IsKeeping, IsLegal, IsStopped, IsSubmitted, Puts};
 ghost use Rattle.front_shared.specs.Waiting.{after_row, told_to};
 ghost use Rattle.joint_history.specs.Words.{word_of};
 
@@ -42,6 +42,7 @@ fn make<W: Words>(
     ensures told { IfOk result (λ m. m.handed.before ≡ told_to caller waiting.old) }
     ensures waits { IfOk result (λ m. waiting.new ≡ after_row caller m.row.outs waiting.old) }
     ensures wakes { IfOk result (λ m. m.handed.wakes ≡ ((length waiting.old == 0) && not (length waiting.new == 0))) }
+    ensures numbers { IsErrOf result Error.NumbersUsed → HasNoRow event forwarder.old (W.stream words.old) }
     ensures refused { IfErr result IsWant }
 {
     let row = match forwarder.step(words, event) {
@@ -117,6 +118,7 @@ pub(crate) fn step_and_tell<L: ForwarderKey, W: Words>(
     ensures ok { IfOk result (λ r. IsSubmitted pass.old pass.new event r) }
     ensures counting { OnOk result (IsCounting L.table L.opening forwarder.new (W.stream words.new) waiting.new (count + 1) keeper.new) }
     ensures refused { IfErr result (λ e. IsWant e × IsEnded pass.old pass.new) }
+    ensures numbers { IsErrOf result Error.NumbersUsed → IsStopped L.opening pass.new event }
     ensures ended { OnErr result (EndsSo L.table L.opening pass.old.number keeper.new) }
 {
     let caller = pass.number;

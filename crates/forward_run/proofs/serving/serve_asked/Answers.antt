@@ -1,9 +1,10 @@
 use Rattle.std.proofs.Common.{inl, inr, arith}
 use Rattle.forward_conf.specs.Sentences.{line_of, output_sentence}
 use Rattle.forward_run.specs.Ends.{IsEndCause}
-use Rattle.forward_run.specs.Serving.{IsHalted, answered_line}
+use Rattle.forward_run.specs.Serving.{answered_line}
 use Rattle.forward_run.specs.Turns.{world}
 use Rattle.forward_run.proofs.Ends.{any_notes, deaf_of, keeps, not_done, numbers_of, refused_of, source_of, told_behind, why_so}
+use Rattle.forward_run.proofs.Left.{left_of_answers, left_of_cause}
 use Rattle.forward_run.proofs.Served.{answered_so}
 use Rattle.forward_run.proofs.Unserving.{delivered_not_seven, is_numbers, plain_ends, plain_numbers, plain_speaks}
 use Rattle.forward_run.proofs.Written.{cut_so, done_so, numbers_so, refused_so}
@@ -30,7 +31,7 @@ returns-in-Ok-clause-cut g c = λ four.
     (answered_so (g.S.Source.left c.args.source.now) c.args.options.now c.args.asked c.in-Ok.answered _
     (world (g.W.Words.stream c.args.rng.now) (g.F.Front.deeds c.args.front.now) (g.F.Front.polls c.args.front.now) (g.C.Clock.given c.args.clock.now))
     (world (g.W.Words.stream c.serve_source-served.new.rng) (g.F.Front.deeds c.serve_source-served.new.front) (g.F.Front.polls c.serve_source-served.new.front) (g.C.Clock.given c.serve_source-served.new.clock))
-    c.every_forwarded_trace_is_right.ensures c.in-Ok.ensures.served) (c.write_answered.ensures.cut (c.end_delivered.ensures.told four).0)
+    c.every_forwarded_trace_is_right.ensures c.in-Ok.ensures.served) c.write_answered.ensures.begun
 
 pub returns-in-Ok-clause-sink_fault : goal.returns-in-Ok-clause-sink_fault
 returns-in-Ok-clause-sink_fault g c = λ four. c.write_answered.ensures.sink_fault (c.end_delivered.ensures.told four).0
@@ -89,3 +90,29 @@ pub returns-in-Err-clause-stops : goal.returns-in-Err-clause-stops
 returns-in-Err-clause-stops g c = λ seven.
     plain_numbers c.in-Err.unserved c.plain_cause.result _ c.plain_cause.ensures c.in-Err.ensures.numbers
     (is_numbers c.plain_cause.result (keeps c.plain_cause.result c.end_because.result.0 7 c.end_because.ensures.status seven (λ h. omega arith)))
+
+pub returns-in-Ok-clause-memory : goal.returns-in-Ok-clause-memory
+returns-in-Ok-clause-memory g c = λ _.
+    left_of_answers (g.S.Source.left c.args.source.now) c.args.options.now c.args.asked (g.K.Sink.held c.args.sink.now) (g.K.Sink.held c.write_answered.new.sink)
+    (world (g.W.Words.stream c.args.rng.now) (g.F.Front.deeds c.args.front.now) (g.F.Front.polls c.args.front.now) (g.C.Clock.given c.args.clock.now))
+    (world (g.W.Words.stream c.serve_source-served.new.rng) (g.F.Front.deeds c.serve_source-served.new.front) (g.F.Front.polls c.serve_source-served.new.front) (g.C.Clock.given c.serve_source-served.new.clock))
+    (cut_so c.args.asked (g.S.Source.left c.args.source.now) c.args.options.now (answered_line c.in-Ok.answered) (g.K.Sink.held c.args.sink.now) (g.K.Sink.held c.write_answered.new.sink)
+    (world (g.W.Words.stream c.args.rng.now) (g.F.Front.deeds c.args.front.now) (g.F.Front.polls c.args.front.now) (g.C.Clock.given c.args.clock.now))
+    (world (g.W.Words.stream c.serve_source-served.new.rng) (g.F.Front.deeds c.serve_source-served.new.front) (g.F.Front.polls c.serve_source-served.new.front) (g.C.Clock.given c.serve_source-served.new.clock))
+    (answered_so (g.S.Source.left c.args.source.now) c.args.options.now c.args.asked c.in-Ok.answered _
+    (world (g.W.Words.stream c.args.rng.now) (g.F.Front.deeds c.args.front.now) (g.F.Front.polls c.args.front.now) (g.C.Clock.given c.args.clock.now))
+    (world (g.W.Words.stream c.serve_source-served.new.rng) (g.F.Front.deeds c.serve_source-served.new.front) (g.F.Front.polls c.serve_source-served.new.front) (g.C.Clock.given c.serve_source-served.new.clock))
+    c.every_forwarded_trace_is_right.ensures c.in-Ok.ensures.served) c.write_answered.ensures.begun)
+
+pub returns-in-Err-clause-memory : goal.returns-in-Err-clause-memory
+returns-in-Err-clause-memory g c = λ _.
+    left_of_cause c.args.options.now c.args.asked (g.S.Source.left c.args.source.now) (g.W.Words.stream c.args.rng.now) (g.F.Front.gave c.serve_source-served.new.front) (g.F.Front.is_deaf_at c.serve_source-served.new.front)
+    (g.F.Front.faults c.args.front.now) (g.F.Front.faults c.serve_source-served.new.front) (g.S.Source.faults c.args.source.now) (g.S.Source.faults c.serve_source-served.new.source)
+    (g.K.Sink.held c.args.sink.now) (g.K.Sink.held c.end_because.new.sink)
+    (world (g.W.Words.stream c.args.rng.now) (g.F.Front.deeds c.args.front.now) (g.F.Front.polls c.args.front.now) (g.C.Clock.given c.args.clock.now))
+    (world (g.W.Words.stream c.serve_source-served.new.rng) (g.F.Front.deeds c.serve_source-served.new.front) (g.F.Front.polls c.serve_source-served.new.front) (g.C.Clock.given c.serve_source-served.new.clock))
+    c.plain_cause.result
+    (plain_ends (λ cause. IsEndCause c.args.options.now c.args.asked.port (g.S.Source.left c.args.source.now) (g.W.Words.stream c.args.rng.now) (g.F.Front.gave c.serve_source-served.new.front) (g.F.Front.is_deaf_at c.serve_source-served.new.front)
+    (g.F.Front.faults c.args.front.now) (g.F.Front.faults c.serve_source-served.new.front) (g.S.Source.faults c.args.source.now) (g.S.Source.faults c.serve_source-served.new.source) cause) c.in-Err.unserved c.plain_cause.result c.plain_cause.ensures tt c.in-Err.ensures.cause)
+    (plain_numbers c.in-Err.unserved c.plain_cause.result _ c.plain_cause.ensures c.in-Err.ensures.numbers)
+    c.end_because.ensures.begun

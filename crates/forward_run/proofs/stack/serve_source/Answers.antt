@@ -1,9 +1,9 @@
 use Rattle.forward_conf.specs.Causes.{IsServeCause}
 use Rattle.forward_conf.specs.Reading.{AnyNotes, IsNoted}
 use Rattle.forward_run.specs.Ends.{IsEndCause}
-use Rattle.forward_run.specs.Makers.{IsRefusedIf, IsStoppedOver, IsHaltedIf}
+use Rattle.forward_run.specs.Makers.{IsRefusedIf}
 use Rattle.forward_run.specs.Turns.{world}
-use Rattle.forward_run.proofs.Ends.{any_notes, read_end, serve_end}
+use Rattle.forward_run.proofs.Ends.{any_notes, read_early, read_end, serve_end}
 use Rattle.forward_run.proofs.Unserving.{all_speak, ends_weaker, halts_if, refused_if, refused_weaker, serves_if}
 use Rattle.forward_run.proofs.stack.serve_source.Goals as goal
 
@@ -51,3 +51,7 @@ returns-clause-refused g c =
     (λ why. IsRefusedIf (g.M.Maker.refuses c.args.maker) c.args.options.now (g.S.Source.left c.args.source.now) (g.W.Words.stream c.args.rng.now) why)
     (λ why h. refused_if (g.M.Maker.refuses c.args.maker) c.args.options.now (g.S.Source.left c.args.source.now) c.in-Ok.conf (g.W.Words.stream c.args.rng.now) (g.W.Words.stream c.conf_asked.new.rng) why c.in-Ok.ensures.asked h)
     c.serve_conf.ensures.refused
+
+pub returns-in-Err-clause-numbers : goal.returns-in-Err-clause-numbers
+returns-in-Err-clause-numbers g c = λ is.
+    absurd (read_early c.args.options.now.policy (g.S.Source.left c.args.source.now) (g.S.Source.faults c.args.source.now) (g.S.Source.faults c.conf_asked.new.source) c.in-Err.cause c.in-Err.ensures.cause is)

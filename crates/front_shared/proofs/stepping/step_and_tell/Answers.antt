@@ -6,7 +6,7 @@ use Rattle.front_shared.specs.declared.entry.Item.TheVariants.{Made}
 use Rattle.front_shared.specs.declared.entry.Receipt.{Receipt}
 use Rattle.front_shared.specs.History.{Passed, Puts, begins_to_wait, entry_of}
 use Rattle.front_shared.specs.Waiting.{after_row, told_to}
-use Rattle.front_shared.proofs.Counting.{counts_on, ends_by, ends_legal, ends_so, keeps, room, submits, tells_legal}
+use Rattle.front_shared.proofs.Counting.{counts_on, ends_by, ends_legal, ends_so, keeps, room, stops_by, submits, tells_legal}
 use Rattle.front_shared.proofs.stepping.step_and_tell.Goals as goal
 
 pub tell-receipt-requires-clause-keeper : goal.tell-receipt-requires-clause-keeper
@@ -62,3 +62,8 @@ returns-in-Err-clause-refused g c = (
 pub returns-in-Err-clause-ended : goal.returns-in-Err-clause-ended
 returns-in-Err-clause-ended g c =
     ends_so g.L.ForwarderKey.table g.L.ForwarderKey.opening c.args.forwarder.now (g.W.Words.stream c.args.words.now) c.args.waiting.now c.args.count c.args.keeper.now c.requires.counting c.args.pass.now.number c.end.new.keeper c.end.ensures.keeper
+
+pub returns-in-Err-clause-numbers : goal.returns-in-Err-clause-numbers
+returns-in-Err-clause-numbers g c = λ is.
+    stops_by g.L.ForwarderKey.table g.L.ForwarderKey.opening c.args.forwarder.now (g.W.Words.stream c.args.words.now) c.args.waiting.now c.args.count c.args.keeper.now c.requires.counting
+    c.args.pass.now c.end.new.pass c.args.event c.end.ensures.pass (c.in-Err.ensures.numbers is)

@@ -29,6 +29,6 @@ returns-clause-did g c =
 pub returns-in_err-row-clause-numbers : goal.returns-in_err-row-clause-numbers
 returns-in_err-row-clause-numbers g c = λ is.
     let stopped : IsErrOf c.from_residual-in_err-row.result errors.NumbersUsed
-        → g.C.Within.stops c.args.within.now (g.W.Words.stream c.args.words.now) (record { moment = c.args.moment; what = Ask c.in_ok-request.request }) = search rules in
+    → g.C.Within.stops c.args.within.now (g.W.Words.stream c.args.words.now) (record { moment = c.args.moment; what = Ask c.in_ok-request.request }) = search rules in
     stops_asking g.C.Within.stops c.args.moment c.args.asker c.in_ok-request.request c.args.within.now (g.W.Words.stream c.args.words.now) c.args.desk.now c.args.outs.now
     c.in_ok-request.ensures.made (stopped is)
