@@ -38,13 +38,12 @@ mod serving;
 mod stack;
 mod status_line;
 mod turns;
-mod watch;
 
 pub use front::{Front, FrontDeed};
+pub use front_steps::{Unwatched, Watch};
 pub use list_front::ListFront;
 pub use maker::{Maker, Plain, Unserved};
 pub use serving::{plain_cause, serve, serve_as};
 pub use stack::{answered_line, begin, begin_front, serve_source, stopped_by, write_answered};
 pub use status_line::StatusLine;
 pub use turns::{act_all, answers_in, happened, is_answer, turn};
-pub use watch::{Unwatched, Watch};

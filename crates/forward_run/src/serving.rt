@@ -17,7 +17,6 @@ ghost use Rattle.forward_run.specs.Turns.{around};
 use crate::front::Front;
 use crate::maker::{Plain, Unserved};
 use crate::stack::{serve_source, write_answered};
-use crate::watch::{Unwatched, Watch};
 use client_core::Clock;
 use client_request::Words;
 use command_parts::statuses::{NO_MEMORY, USAGE};
@@ -26,6 +25,7 @@ use dns_values::{Sink, Source};
 use forward_conf::{Cause, Unheard, end_because, end_delivered, tell_unasked};
 use forward_words::{Asked, Options, asked_by, command_of};
 use front_core::Core;
+use front_steps::{Unwatched, Watch};
 use proof_front::every_forwarded_trace_is_right;
 use std::alloc::Global;
 

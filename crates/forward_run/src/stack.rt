@@ -18,7 +18,6 @@ ghost use Rattle.forward_run.specs.declared.front.FrontDeed.{FrontDeed};
 use crate::front::Front;
 use crate::maker::{Maker, Unserved};
 use crate::turns::turn_all;
-use crate::watch::Watch;
 use client_core::Clock;
 use client_request::{Error, Words};
 use command_parts::deliver;
@@ -27,7 +26,7 @@ use dns_base::{IpAddr, NoMemory, Status};
 use dns_values::{Sink, Source};
 use forward_conf::{Cause, asked_itself, conf_asked};
 use forward_words::{Asked, Options};
-use front_steps::{Forwarder, Within};
+use front_steps::{Forwarder, Watch, Within};
 use resolv_conf::{ResolvConf, ServerConf};
 use std::alloc::{AllocError, Global};
 

@@ -1,11 +1,10 @@
 //! A line that tells now and then how much a forwarder did.
 
-use crate::watch::Watch;
 use client_request::{FIRST_STREAM, Out};
 use command_parts::deliver;
 use dns_values::Sink;
 use front_peers::{FrontOut, FrontRow, FrontWhat};
-use front_steps::Within;
+use front_steps::{Watch, Within};
 use resolv_conf::OpenFile;
 use std::alloc::Global;
 

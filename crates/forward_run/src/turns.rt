@@ -10,12 +10,11 @@ ghost use Rattle.forward_run.specs.Front.{acts_on, after_deeds, happened};
 ghost use Rattle.forward_run.specs.Turns.{IsTurn, StopsAt, StopsWithin, TurnedBy, answers_in, around, is_answer};
 
 use crate::front::Front;
-use crate::watch::Watch;
 use client_core::{Clock, What};
 use client_request::{Error, Words};
 use dns_base::NoMemory;
 use front_peers::{FrontEvent, FrontOut, FrontRow, FrontWhat};
-use front_steps::{Forwarder, Within};
+use front_steps::{Forwarder, Watch, Within};
 
 /// What happens in a turn in which the front gave this: that, or time alone where it gave nothing.
 pub fn happened(polled: Option<FrontWhat>) -> FrontWhat

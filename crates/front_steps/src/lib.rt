@@ -34,8 +34,10 @@ mod forwarder;
 mod others;
 mod putting;
 mod waits;
+mod watch;
 mod within;
 
 pub use forwarder::Forwarder;
 pub use waits::Waiting;
+pub use watch::{Unwatched, Watch};
 pub use within::Within;

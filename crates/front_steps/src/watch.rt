@@ -1,7 +1,7 @@
 //! Who watches a forwarder at work.
 
+use crate::within::Within;
 use front_peers::FrontRow;
-use front_steps::Within;
 
 /// What is told of each turn of a forwarder, over a client within of this kind. It has no part in what becomes of it.
 pub trait Watch<K> {
