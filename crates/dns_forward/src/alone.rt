@@ -13,7 +13,7 @@ use record_file::RecordFile;
 use std::io::Stderr;
 
 /// A line on standard error, as often as the options say.
-fn status_line(
+pub fn status_line(
     rt: HostRuntime,
     options: &Options,
 ) -> StatusLine<FileOpener<HostRuntime>, StdSink<Stderr>> {

@@ -33,7 +33,7 @@ counts.
 --status SECONDS            tell on standard error how much was done, once in so many
                             seconds, from 1 to 86400
 --workers N                 answer datagrams by so many threads at each address, from 1 to
-                            64; 1. Not beside --status or --record
+                            64; 1. Not beside --record
 --sockets N                 ask a server at so many sockets at a time, from 1 to 1000, in
                             each round; 1000, and 100 by crate
 --bufsize OCTETS            announce this payload size to servers, from 512 to 65535; 1232

@@ -11,7 +11,7 @@ use client_edge::{RandWords, command_words};
 use command_parts::{end_by, statuses};
 use dns_values::StdSink;
 use forward_conf::{end_without_memory, tell_refusal};
-use forward_words::{Fault, Options, options_of};
+use forward_words::{Fault, options_of};
 use pages::tell_page;
 use program_words::page_asked;
 use rand::rngs::StdRng;
@@ -21,9 +21,9 @@ use std::process::ExitCode;
 use std::sync::Wait;
 use std::thread::Threads;
 
-/// What is told where a record, or how much was done, is asked of several workers.
+/// What is told where a record is asked of several workers.
 const OF_ONE: &[u8] =
-    b"dns_forward: --workers: not above 1 beside --status or --record; see dns_forward --help\n";
+    b"dns_forward: --workers: not above 1 beside --record; see dns_forward --help\n";
 
 /// What is told where the system has no random words.
 const NO_WORDS: &[u8] = b"dns_forward: the system's random words can't be had\n";
@@ -34,11 +34,6 @@ fn random_words(rt: &HostRuntime) -> Option<RandWords<StdRng>> {
         Ok(generator) => Some(RandWords::new(generator)),
         Err(_) => None,
     }
-}
-
-/// Whether what is asked for is done by one thread alone: a record has one client's events in order, and how much was done is told of one.
-fn is_of_one(options: &Options, file: Option<&str>) -> bool {
-    file.is_some() || options.status.is_some()
 }
 
 /// Serves as the words say. Without random words nothing is served.
@@ -59,7 +54,7 @@ fn serve_words<T: Threads + Wait + Sync>(threads: &T, rt: HostRuntime, words: &[
         return end_without_memory(&mut errors).0;
     };
     if options.workers >= 2 {
-        if is_of_one(&options, file) {
+        if file.is_some() {
             return end_by(&mut errors, statuses::USAGE, OF_ONE).0;
         }
         return serve_by_threads(threads, rt, &options, rest, listened, random);

@@ -1,5 +1,6 @@
 //! A forwarder that several threads share.
 
+use crate::alone::status_line;
 use client_edge::{RandWords, RealClock};
 use client_request::Words;
 use command_parts::{end_by, statuses};
@@ -81,6 +82,7 @@ pub fn serve_by_threads<T: Threads + Wait + Sync>(
         &mut StdSink::new(rt.stdout()),
         &mut errors,
         random,
+        status_line(rt, options),
         Crew { first, workers },
     );
     status.0

@@ -10,8 +10,10 @@ use client_core::Clock;
 use client_request::{Error, Words};
 use dns_base::NoMemory;
 use forward_run::{Front, act_all, happened, is_answer};
+use front_core::Core;
 use front_peers::{FrontEvent, FrontOut};
 use front_shared::{ForwarderKey, Pass, SharedForwarder};
+use front_steps::Watch;
 use std::sync::Wait;
 
 /// How many outs are answers.
@@ -34,9 +36,9 @@ fn act_on<F: Front>(front: &mut F, outs: &[FrontOut]) -> Result<u64, NoMemory>
 /// forwarder at the clock's moment; and the front does what the rows of workers left to it since its last turn, and then what the row
 /// of this event puts out, in order. How many answers that were.
 #[tactic(auto, using(crate::proofs::Firsts::turned))]
-fn turn<R: Wait, L: ForwarderKey, W: Words + Drop, F: Front, C: Clock>(
+fn turn<R: Wait, L: ForwarderKey, W: Words + Drop, V: Watch<Core> + Drop, F: Front, C: Clock>(
     rt: &R,
-    shared: &SharedForwarder<L, W>,
+    shared: &SharedForwarder<L, W, V>,
     pass: &mut Pass<L>,
     front: &mut F,
     clock: &mut C,
@@ -64,9 +66,9 @@ fn turn<R: Wait, L: ForwarderKey, W: Words + Drop, F: Front, C: Clock>(
 
 /// So many turns of the first thread. How many answers they put out.
 #[tactic(auto, using(crate::proofs::Firsts::none_turned, crate::proofs::Firsts::one_more, crate::proofs::Firsts::all_turned))]
-fn turn_on<R: Wait, L: ForwarderKey, W: Words + Drop, F: Front, C: Clock>(
+fn turn_on<R: Wait, L: ForwarderKey, W: Words + Drop, V: Watch<Core> + Drop, F: Front, C: Clock>(
     rt: &R,
-    shared: &SharedForwarder<L, W>,
+    shared: &SharedForwarder<L, W, V>,
     turns: u64,
     pass: &mut Pass<L>,
     front: &mut F,
@@ -97,11 +99,12 @@ pub(crate) fn run_first<
     R: Wait,
     L: ForwarderKey,
     W: Words + Drop,
+    V: Watch<Core> + Drop,
     F: Front + Drop,
     C: Clock + Drop,
 >(
     rt: &R,
-    shared: &SharedForwarder<L, W>,
+    shared: &SharedForwarder<L, W, V>,
     turns: u64,
     lane: Lane<L, First<F, C>>,
 ) -> Done<L, First<F, C>>

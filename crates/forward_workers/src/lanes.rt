@@ -10,7 +10,9 @@ use crate::working::run_worker;
 use client_core::Clock;
 use client_request::{Error, Words};
 use dns_base::NoMemory;
+use front_core::Core;
 use front_shared::{Closed, ForwarderKey, Pass, SharedForwarder};
+use front_steps::Watch;
 use std::alloc::{AllocError, Global};
 use std::collections::VecDeque;
 use std::sync::Wait;
@@ -42,11 +44,12 @@ pub(crate) fn run_lanes<
     R: Threads + Wait + Sync,
     L: ForwarderKey + Send + Sync,
     W: Words + Drop + Send,
+    V: Watch<Core> + Drop + Send,
     D: Door + Drop + Send,
     C: Clock + Drop + Send,
 >(
     rt: &R,
-    shared: &SharedForwarder<L, W>,
+    shared: &SharedForwarder<L, W, V>,
     turns: u64,
     lanes: Vec<Lane<L, Worker<D, C>>>,
 ) -> Result<Vec<Done<L, Worker<D, C>>>, AllocError>
@@ -59,9 +62,15 @@ pub(crate) fn run_lanes<
 /// The workers, in order, whose passes have then seen all of the history, and how many answers they put out together; or the first
 /// error of one of them.
 #[tactic(auto, using(crate::proofs::Sharings::none_settled, crate::proofs::Sharings::one_settled, crate::proofs::Sharings::all_settled))]
-fn settle_all<L: ForwarderKey, W: Words + Drop, D: Door + Drop, C: Clock + Drop>(
+fn settle_all<
+    L: ForwarderKey,
+    W: Words + Drop,
+    V: Watch<Core> + Drop,
+    D: Door + Drop,
+    C: Clock + Drop,
+>(
     alloc: Global,
-    closed: &mut Closed<L, W>,
+    closed: &mut Closed<L, W, V>,
     done: Vec<Done<L, Worker<D, C>>>,
 ) -> Result<Came<D, C>, Error>
     ensures { IfOk result (λ came. Settles closed.old.desk done.items came.workers.items came.answered) }
@@ -87,9 +96,15 @@ fn settle_all<L: ForwarderKey, W: Words + Drop, D: Door + Drop, C: Clock + Drop>
 
 /// What all threads came to, of which the first put out so many answers. Where it gave up, and a worker did too, it is the worker's error:
 /// the first thread's may be but that the history had ended.
-pub(crate) fn come_to<L: ForwarderKey, W: Words + Drop, D: Door + Drop, C: Clock + Drop>(
+pub(crate) fn come_to<
+    L: ForwarderKey,
+    W: Words + Drop,
+    V: Watch<Core> + Drop,
+    D: Door + Drop,
+    C: Clock + Drop,
+>(
     alloc: Global,
-    closed: &mut Closed<L, W>,
+    closed: &mut Closed<L, W, V>,
     done: Vec<Done<L, Worker<D, C>>>,
     mine: Result<u64, Error>,
 ) -> Result<Came<D, C>, Error>

@@ -24,8 +24,9 @@ use dns_values::{Sink, Source};
 use forward_conf::{Cause, conf_asked, end_because, end_delivered, tell_unasked};
 use forward_run::{Front, Plain, answered_line, begin, plain_cause, stopped_by};
 use forward_words::{Asked, Options, command_of};
-use front_core::Forwarder;
+use front_core::{Core, Forwarder};
 use front_shared::Opened;
+use front_steps::Watch;
 use proof_front::every_forwarded_trace_is_right;
 use resolv_conf::ResolvConf;
 use std::alloc::Global;
@@ -37,6 +38,7 @@ use std::thread::Threads;
 fn turn_all<
     R: Threads + Wait + Sync,
     W: Words + Drop + Send,
+    V: Watch<Core> + Drop + Send,
     F: Front + Drop,
     D: Door + Drop + Send,
     C: Clock + Drop + Send,
@@ -45,6 +47,7 @@ fn turn_all<
     alloc: Global,
     forwarder: Forwarder,
     rng: W,
+    watch: V,
     turns: u64,
     crew: Crew<F, D, C>,
 ) -> (First<F, C>, Result<Came<D, C>, Error>)
@@ -54,7 +57,7 @@ fn turn_all<
 {
     match Opened::new(alloc) {
         Ok(opened) => {
-            share::<R, Brand, W, F, D, C>(rt, alloc, opened, forwarder, rng, turns, crew)
+            share::<R, Brand, W, V, F, D, C>(rt, alloc, opened, forwarder, rng, watch, turns, crew)
         }
         Err(_) => (crew.first, Err(Error::NoMemory)),
     }
@@ -71,6 +74,7 @@ fn words_are_short<W: Words>(rng: &W)
 fn serve_conf<
     R: Threads + Wait + Sync,
     W: Words + Drop + Send,
+    V: Watch<Core> + Drop + Send,
     F: Front + Drop,
     D: Door + Drop + Send,
     C: Clock + Drop + Send,
@@ -82,6 +86,7 @@ fn serve_conf<
     asked: Asked,
     conf: &ResolvConf,
     mut rng: W,
+    watch: V,
     crew: Crew<F, D, C>,
 ) -> (First<F, C>, Result<Came<D, C>, Cause>)
     requires count { length crew.workers.items + 1 < 2 ^ 32 }
@@ -101,7 +106,7 @@ fn serve_conf<
     };
     words_are_short(&rng);
     let crew = Crew { first, workers };
-    let (first, came) = turn_all(rt, alloc, forwarder, rng, asked.turns, crew);
+    let (first, came) = turn_all(rt, alloc, forwarder, rng, watch, asked.turns, crew);
     match came {
         Ok(came) => {
             every_forwarded_trace_is_right();
@@ -124,6 +129,7 @@ fn serve_source<
     S: Source,
     L: Sink,
     W: Words + Drop + Send,
+    V: Watch<Core> + Drop + Send,
     F: Front + Drop,
     D: Door + Drop + Send,
     C: Clock + Drop + Send,
@@ -136,6 +142,7 @@ fn serve_source<
     source: &mut S,
     errors: &mut L,
     mut rng: W,
+    watch: V,
     crew: Crew<F, D, C>,
 ) -> (First<F, C>, Result<Written<D, C>, Cause>)
     requires count { length crew.workers.items + 1 < 2 ^ 32 }
@@ -148,7 +155,7 @@ fn serve_source<
         Ok(conf) => conf,
         Err(cause) => return (crew.first, Err(cause)),
     };
-    let (first, came) = serve_conf(rt, alloc, options, seed, asked, &conf, rng, crew);
+    let (first, came) = serve_conf(rt, alloc, options, seed, asked, &conf, rng, watch, crew);
     let Came { answered, workers } = match came {
         Ok(came) => came,
         Err(cause) => return (first, Err(cause)),
@@ -160,7 +167,8 @@ fn serve_source<
 }
 
 /// Answers DNS clients as the options and the words behind them say, as `forward_run`'s `serve_as` does, but by several threads that
-/// share one forwarder: TURNS turns are the first thread's, which has the front, and each worker makes as many at most at its door.
+/// share one forwarder: TURNS turns are the first thread's, which has the front, and each worker makes as many at most at its door. Of
+/// each row of theirs `watch` is told, in the order of the history.
 ///
 /// The statuses are those of `serve_as`. Where memory or numbers run out for one thread, all end by that status. The front is always
 /// given back, and the workers at the statuses 0, 2 and 4.
@@ -170,6 +178,7 @@ pub fn serve_by_all<
     K: Sink,
     L: Sink,
     W: Words + Drop + Send,
+    V: Watch<Core> + Drop + Send,
     F: Front + Drop,
     D: Door + Drop + Send,
     C: Clock + Drop + Send,
@@ -183,6 +192,7 @@ pub fn serve_by_all<
     sink: &mut K,
     errors: &mut L,
     rng: W,
+    watch: V,
     crew: Crew<F, D, C>,
 ) -> (Status, Crew<F, D, C>)
     requires count { length crew.workers.items + 1 < 2 ^ 32 }
@@ -207,7 +217,9 @@ pub fn serve_by_all<
         Ok(asked) => asked,
         Err(unasked) => return (tell_unasked(alloc, words, unasked, errors), crew),
     };
-    let (first, written) = serve_source(rt, alloc, options, seed, asked, source, errors, rng, crew);
+    let (first, written) = serve_source(
+        rt, alloc, options, seed, asked, source, errors, rng, watch, crew,
+    );
     match written {
         Ok(written) => {
             let Written { line, workers } = written;

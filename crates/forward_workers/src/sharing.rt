@@ -15,8 +15,9 @@ use crate::lanes::{come_to, run_lanes, seated};
 use client_core::Clock;
 use client_request::{Error, Words};
 use forward_run::Front;
-use front_core::Forwarder;
+use front_core::{Core, Forwarder};
 use front_shared::{ForwarderKey, Opened, SharedForwarder};
+use front_steps::Watch;
 use std::alloc::{AllocError, Global};
 use std::collections::VecDeque;
 use std::sync::Wait;
@@ -27,12 +28,13 @@ fn first_and_workers<
     R: Threads + Wait + Sync,
     L: ForwarderKey + Send + Sync,
     W: Words + Drop + Send,
+    V: Watch<Core> + Drop + Send,
     F: Front + Drop,
     D: Door + Drop + Send,
     C: Clock + Drop + Send,
 >(
     rt: &R,
-    shared: &SharedForwarder<L, W>,
+    shared: &SharedForwarder<L, W, V>,
     turns: u64,
     first: Lane<L, First<F, C>>,
     lanes: Vec<Lane<L, Worker<D, C>>>,
@@ -46,7 +48,7 @@ fn first_and_workers<
     ensures first { FirstDone F.deeds turns first result.1 }
 {
     let theirs = move || -> Result<Vec<Done<L, Worker<D, C>>>, AllocError>
-        requires { IsSync R.row × IsSend L.row × IsSync L.row × IsSend W.row × IsSend D.row × IsSend C.row }
+        requires { IsSync R.row × IsSend L.row × IsSync L.row × IsSend W.row × IsSend V.row × IsSend D.row × IsSend C.row }
         ensures count { IfOk result (λ done. length done.items ≡ length lanes.items) }
         ensures each { IfOk result (λ done. (k : ℕ) (lane : _) (d : _) → k < length lanes.items → WorkerDone D.deeds (slice_index_or lanes.items k lane) (slice_index_or done.items k d)) }
     { run_lanes(rt, shared, turns, lanes) };
@@ -62,13 +64,14 @@ fn share_among<
     R: Threads + Wait + Sync,
     L: ForwarderKey + Send + Sync,
     W: Words + Drop + Send,
+    V: Watch<Core> + Drop + Send,
     F: Front + Drop,
     D: Door + Drop + Send,
     C: Clock + Drop + Send,
 >(
     rt: &R,
     alloc: Global,
-    shared: SharedForwarder<L, W>,
+    shared: SharedForwarder<L, W, V>,
     turns: u64,
     first: Lane<L, First<F, C>>,
     lanes: Vec<Lane<L, Worker<D, C>>>,
@@ -94,6 +97,7 @@ pub(crate) fn share<
     R: Threads + Wait + Sync,
     L: ForwarderKey + Send + Sync,
     W: Words + Drop + Send,
+    V: Watch<Core> + Drop + Send,
     F: Front + Drop,
     D: Door + Drop + Send,
     C: Clock + Drop + Send,
@@ -103,6 +107,7 @@ pub(crate) fn share<
     opened: Opened,
     forwarder: Forwarder,
     words: W,
+    watch: V,
     turns: u64,
     crew: Crew<F, D, C>,
 ) -> (First<F, C>, Result<Came<D, C>, Error>)
@@ -114,7 +119,7 @@ pub(crate) fn share<
 {
     let Crew { first, workers } = crew;
     let callers = workers.len() as u32 + 1;
-    let opened = SharedForwarder::<L, W>::new(alloc, opened, forwarder, words, callers);
+    let opened = SharedForwarder::<L, W, V>::new(alloc, opened, forwarder, words, watch, callers);
     let Ok((shared, passes)) = opened else {
         return (first, Err(Error::NoMemory));
     };

@@ -11,8 +11,10 @@ use crate::door::Door;
 use client_core::Clock;
 use client_request::{Error, Words};
 use dns_base::NoMemory;
+use front_core::Core;
 use front_peers::{FrontEvent, FrontOut};
 use front_shared::{ForwarderKey, Held, Pass, Receipt, SharedForwarder, is_for_any};
+use front_steps::Watch;
 use std::sync::Wait;
 
 /// Sends an answer, if it is one by a datagram.
@@ -55,8 +57,8 @@ fn put_out<D: Door>(receipt: &Receipt, door: &mut D) -> Result<u64, NoMemory>
 /// event's row it answers what is answered by datagrams. A row by which something begins to wait for the first thread wakes it. How
 /// many answers that were, if it goes on: it ends with the history.
 #[tactic(auto, using(crate::proofs::Workings::makes_row, crate::proofs::Workings::takes_nothing, crate::proofs::Workings::finds_end))]
-fn work<L: ForwarderKey, W: Words + Drop, D: Door + Drop, C: Clock + Drop>(
-    held: &mut Held<'_, L, W>,
+fn work<L: ForwarderKey, W: Words + Drop, V: Watch<Core> + Drop, D: Door + Drop, C: Clock + Drop>(
+    held: &mut Held<'_, L, W, V>,
     pass: &mut Pass<L>,
     worker: &mut Worker<D, C>,
 ) -> Result<Option<u64>, Error>
@@ -93,8 +95,14 @@ struct Turns {
 
 /// Turns of a worker who holds the forwarder meanwhile, as long as its door has more, and at most so many.
 #[tactic(auto, using(crate::proofs::Workings::begins_to_work, crate::proofs::Workings::goes_on, crate::proofs::Workings::works_on, crate::proofs::Workings::has_worked))]
-fn work_held<L: ForwarderKey, W: Words + Drop, D: Door + Drop, C: Clock + Drop>(
-    held: Held<'_, L, W>,
+fn work_held<
+    L: ForwarderKey,
+    W: Words + Drop,
+    V: Watch<Core> + Drop,
+    D: Door + Drop,
+    C: Clock + Drop,
+>(
+    held: Held<'_, L, W, V>,
     most: u64,
     pass: &mut Pass<L>,
     worker: &mut Worker<D, C>,
@@ -132,9 +140,16 @@ const AT_ONCE: u64 = 32;
 
 /// Turns of a worker, at most so many: it waits until something has come, takes what has, and sends what it answered once others may
 /// hold the forwarder.
-fn work_once<R: Wait, L: ForwarderKey, W: Words + Drop, D: Door + Drop, C: Clock + Drop>(
+fn work_once<
+    R: Wait,
+    L: ForwarderKey,
+    W: Words + Drop,
+    V: Watch<Core> + Drop,
+    D: Door + Drop,
+    C: Clock + Drop,
+>(
     rt: &R,
-    shared: &SharedForwarder<L, W>,
+    shared: &SharedForwarder<L, W, V>,
     most: u64,
     pass: &mut Pass<L>,
     worker: &mut Worker<D, C>,
@@ -151,9 +166,16 @@ fn work_once<R: Wait, L: ForwarderKey, W: Words + Drop, D: Door + Drop, C: Clock
 
 /// So many turns of a worker, or those up to the end of the history; a wait by which nothing came is one. How many answers it put out.
 #[tactic(auto, using(crate::proofs::Workings::begins_to_work, crate::proofs::Workings::goes_on, crate::proofs::Workings::works_on, crate::proofs::Workings::has_worked))]
-fn work_on<R: Wait, L: ForwarderKey, W: Words + Drop, D: Door + Drop, C: Clock + Drop>(
+fn work_on<
+    R: Wait,
+    L: ForwarderKey,
+    W: Words + Drop,
+    V: Watch<Core> + Drop,
+    D: Door + Drop,
+    C: Clock + Drop,
+>(
     rt: &R,
-    shared: &SharedForwarder<L, W>,
+    shared: &SharedForwarder<L, W, V>,
     turns: u64,
     pass: &mut Pass<L>,
     worker: &mut Worker<D, C>,
@@ -188,11 +210,12 @@ pub(crate) fn run_worker<
     R: Wait,
     L: ForwarderKey,
     W: Words + Drop,
+    V: Watch<Core> + Drop,
     D: Door + Drop,
     C: Clock + Drop,
 >(
     rt: &R,
-    shared: &SharedForwarder<L, W>,
+    shared: &SharedForwarder<L, W, V>,
     turns: u64,
     lane: Lane<L, Worker<D, C>>,
 ) -> Done<L, Worker<D, C>>

@@ -10,20 +10,21 @@ use crate::key::ForwarderKey;
 use crate::pass::Pass;
 use crate::stepping::{end, step_and_tell};
 use client_request::{Error, Words};
-use front_core::Forwarder;
+use front_core::{Core, Forwarder};
 use front_peers::{FrontEvent, FrontOuts};
-use front_steps::Within;
+use front_steps::{Watch, Within};
 use joint_history::{Joint, Seat};
 use std::alloc::Global;
 use std::marker::{Model, PhantomData};
 
-/// The forwarder and its words, and what waits for the first caller, beside the seat that keeps the history, of which only the length
+/// The forwarder and its words, who watches, and what waits for the first caller, beside the seat that keeps the history, of which only the length
 /// is counted.
 #[derive(Drop)]
-pub(crate) struct Desk<L: ForwarderKey, W: Words + Drop> {
+pub(crate) struct Desk<L: ForwarderKey, W: Words + Drop, V: Watch<Core> + Drop> {
     alloc: Global,
     forwarder: Forwarder,
     words: W,
+    watch: V,
     waiting: FrontOuts,
     count: u64,
     ended: Option<u32>,
@@ -31,7 +32,7 @@ pub(crate) struct Desk<L: ForwarderKey, W: Words + Drop> {
     of: PhantomData<L>,
 }
 
-impl<L: ForwarderKey, W: Words + Drop> Model for Desk<L, W> {
+impl<L: ForwarderKey, W: Words + Drop, V: Watch<Core> + Drop> Model for Desk<L, W, V> {
     ghost use Rattle.std.specs.Prelude.{List};
     ghost use Rattle.front_shared.specs.declared.entry.Item.{Item};
     ghost use Rattle.front_shared.specs.Desk.{IsDesk};
@@ -43,8 +44,14 @@ impl<L: ForwarderKey, W: Words + Drop> Model for Desk<L, W> {
     ghost invariant = { λ d. IsDesk L.table L.opening d.forwarder (W.stream d.words) d.waiting d.count d.ended d.seat };
 }
 
-impl<L: ForwarderKey, W: Words + Drop> Desk<L, W> {
-    pub(crate) fn new(alloc: Global, forwarder: Forwarder, words: W, seat: Seat<Item>) -> Desk<L, W>
+impl<L: ForwarderKey, W: Words + Drop, V: Watch<Core> + Drop> Desk<L, W, V> {
+    pub(crate) fn new(
+        alloc: Global,
+        forwarder: Forwarder,
+        words: W,
+        watch: V,
+        seat: Seat<Item>,
+    ) -> Desk<L, W, V>
         requires seat { (seat.table_id ≡ L.table) × (seat.me.1 ≡ []) × (seat.me.0.keeps ≡ true) × (seat.me.0.seen ≡ []) }
         requires forwarder { forwarder ≡ L.opening.first }
         requires lives { L.opening.first.failed ≡ false }
@@ -55,6 +62,7 @@ impl<L: ForwarderKey, W: Words + Drop> Desk<L, W> {
             alloc,
             forwarder,
             words,
+            watch,
             waiting: FrontOuts::new(alloc),
             count: 0,
             ended: None,
@@ -120,6 +128,9 @@ impl<L: ForwarderKey, W: Words + Drop> Desk<L, W> {
         );
         match result {
             Ok(receipt) => {
+                let within = self.forwarder.within();
+                self.watch
+                    .turned(within, self.forwarder.waiting(), &receipt.row);
                 self.count += 1;
                 Ok(receipt)
             }

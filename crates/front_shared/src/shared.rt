@@ -11,8 +11,9 @@ use crate::key::{ForwarderKey, Opened};
 use crate::pass::Pass;
 use client_request::{Error, Words};
 use dns_values::NoMemory;
-use front_core::Forwarder;
+use front_core::{Core, Forwarder};
 use front_peers::FrontEvent;
+use front_steps::Watch;
 use joint_history::{Joint, Seat};
 use std::alloc::{AllocError, Global};
 use std::marker::{Model, PhantomData};
@@ -20,13 +21,13 @@ use std::sync::{Mutex, MutexGuard, Wait};
 
 /// A forwarder that several threads share. What its callers did is one history, which proofs know.
 #[derive(Drop)]
-pub struct SharedForwarder<L: ForwarderKey, W: Words + Drop> {
+pub struct SharedForwarder<L: ForwarderKey, W: Words + Drop, V: Watch<Core> + Drop> {
     joint: Joint<Item>,
-    desk: Mutex<Desk<L, W>>,
+    desk: Mutex<Desk<L, W, V>>,
     callers: u32,
 }
 
-impl<L: ForwarderKey, W: Words + Drop> Model for SharedForwarder<L, W> {
+impl<L: ForwarderKey, W: Words + Drop, V: Watch<Core> + Drop> Model for SharedForwarder<L, W, V> {
     ghost use Rattle.joint_history.specs.Words.{word_of};
     ghost use Rattle.std.specs.Prelude.{◌≡◌};
     ghost use Rattle.front_shared.specs.History.{Shared};
@@ -40,17 +41,17 @@ impl<L: ForwarderKey, W: Words + Drop> Model for SharedForwarder<L, W> {
 
 /// The history of a shared forwarder which nobody steps any more.
 #[derive(Drop)]
-pub struct Closed<L: ForwarderKey, W: Words + Drop> {
+pub struct Closed<L: ForwarderKey, W: Words + Drop, V: Watch<Core> + Drop> {
     joint: Joint<Item>,
-    desk: Desk<L, W>,
+    desk: Desk<L, W, V>,
     ghost same: { word_of joint ≡ L.table },
 }
 
 /// A forwarder that a caller holds, for calls between which no other caller has one.
 #[derive(Drop)]
-pub struct Held<'a, L: ForwarderKey, W: Words + Drop> {
+pub struct Held<'a, L: ForwarderKey, W: Words + Drop, V: Watch<Core> + Drop> {
     joint: &'a Joint<Item>,
-    desk: MutexGuard<'a, Desk<L, W>>,
+    desk: MutexGuard<'a, Desk<L, W, V>>,
     ghost same: { word_of joint.now ≡ L.table },
 }
 
@@ -90,15 +91,17 @@ fn passes_of<L: ForwarderKey>(
     Ok(passes)
 }
 
-impl<L: ForwarderKey, W: Words + Drop> SharedForwarder<L, W> {
-    /// This forwarder, which takes these words, for so many callers, and their passes. `NoMemory`.
+impl<L: ForwarderKey, W: Words + Drop, V: Watch<Core> + Drop> SharedForwarder<L, W, V> {
+    /// This forwarder, which takes these words, for so many callers, and their passes. Of each row `watch` is told, in the order of the
+    /// history. `NoMemory`.
     pub fn new(
         alloc: Global,
         opened: Opened,
         forwarder: Forwarder,
         words: W,
+        watch: V,
         callers: u32,
-    ) -> Result<(SharedForwarder<L, W>, Vec<Pass<L>>), NoMemory>
+    ) -> Result<(SharedForwarder<L, W, V>, Vec<Pass<L>>), NoMemory>
         requires table { word_of opened.joint ≡ L.table }
         requires opening { L.opening ≡ opening_of forwarder (W.stream words) callers }
         requires lives { forwarder.failed ≡ false }
@@ -111,7 +114,7 @@ impl<L: ForwarderKey, W: Words + Drop> SharedForwarder<L, W> {
         };
         let shared = SharedForwarder {
             joint,
-            desk: Mutex::new(Desk::new(alloc, forwarder, words, seat)),
+            desk: Mutex::new(Desk::new(alloc, forwarder, words, watch, seat)),
             callers,
         };
         Ok((shared, passes))
@@ -138,7 +141,7 @@ impl<L: ForwarderKey, W: Words + Drop> SharedForwarder<L, W> {
     }
 
     /// Holds the forwarder, once no other call is at it: until what this gives is dropped, no other caller is.
-    pub fn hold<R: Wait>(&self, rt: &R) -> Held<'_, L, W> {
+    pub fn hold<R: Wait>(&self, rt: &R) -> Held<'_, L, W, V> {
         Held {
             joint: &self.joint,
             desk: self.desk.lock(rt),
@@ -164,7 +167,7 @@ impl<L: ForwarderKey, W: Words + Drop> SharedForwarder<L, W> {
     }
 
     /// No call steps it any more. It takes no memory.
-    pub fn close(self) -> Closed<L, W> {
+    pub fn close(self) -> Closed<L, W, V> {
         let SharedForwarder {
             joint,
             desk,
@@ -177,7 +180,7 @@ impl<L: ForwarderKey, W: Words + Drop> SharedForwarder<L, W> {
     }
 }
 
-impl<'a, L: ForwarderKey, W: Words + Drop> Held<'a, L, W> {
+impl<'a, L: ForwarderKey, W: Words + Drop, V: Watch<Core> + Drop> Held<'a, L, W, V> {
     /// The same as `SharedForwarder::submit`.
     pub fn submit(&mut self, pass: &mut Pass<L>, event: FrontEvent) -> Result<Receipt, Error>
         ensures ok { IfOk result (λ r. IsSubmitted pass.old pass.new event r) }
@@ -190,7 +193,7 @@ impl<'a, L: ForwarderKey, W: Words + Drop> Held<'a, L, W> {
     }
 }
 
-impl<L: ForwarderKey, W: Words + Drop> Closed<L, W> {
+impl<L: ForwarderKey, W: Words + Drop, V: Watch<Core> + Drop> Closed<L, W, V> {
     /// The history is legal. It does nothing.
     pub fn history_is_legal(&self)
         ensures { IsLegal L.opening self.now.desk }

@@ -7,7 +7,7 @@ use client_core::{ListClock, Out};
 use client_request::{ListWords, WordList};
 use dns_base::{NoMemory, Octets};
 use dns_values::MemSink;
-use forward_run::{FrontDeed, ListFront};
+use forward_run::{FrontDeed, ListFront, Unwatched};
 use forward_words::options_of;
 use forward_workers::{Crew, First, ListDoor, Worker, serve_by_all};
 use front_peers::{FrontOut, FrontWhat};
@@ -92,6 +92,7 @@ fn run<R: Threads + Wait + Sync>(rt: &R, alloc: Global) -> Option<(u8, bool, usi
         &mut sink,
         &mut errors,
         ListWords::new(WordList::new(alloc)),
+        Unwatched,
         Crew {
             first: first(alloc, &sent),
             workers,
