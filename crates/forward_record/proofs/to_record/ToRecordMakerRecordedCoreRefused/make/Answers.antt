@@ -3,7 +3,7 @@ use Rattle.client_steps.specs.Whole.{Whole}
 use Rattle.forward_record.specs.Core.{RecordedClient}
 use Rattle.forward_record.specs.Serving.{words_ahead, words_behind}
 use Rattle.forward_record.proofs.Done.{begun, not_begun}
-use Rattle.forward_record.proofs.to_record.ToRecordMaker.make.Goals as goal
+use Rattle.forward_record.proofs.to_record.ToRecordMakerRecordedCoreRefused.make.Goals as goal
 
 pub returns-in-Ok-with_settings-clause-made : goal.returns-in-Ok-with_settings-clause-made
 unfolding words_ahead words_behind
