@@ -26,15 +26,14 @@ fn workers_at<'a, T: Wait>(
     common: &'a Common<'a, T>,
     addresses: usize,
     each: u64,
-) -> Result<Vec<Worker<SystemDoor<'a, T, HostRuntime>, RealClock<HostRuntime>>>, NoMemory> {
+) -> Result<Vec<Worker<SystemDoor<'a, T, HostRuntime>>>, NoMemory> {
     let alloc = rt.alloc();
     let mut workers = Vec::new(alloc);
     for at in 0..addresses {
         for _ in 0..each {
             let number = workers.len();
             let door = SystemDoor::new(rt, alloc, common, at, number)?;
-            let clock = RealClock::new(rt);
-            workers.push(Worker { door, clock })?;
+            workers.push(Worker { door })?;
         }
     }
     Ok(workers)
@@ -70,7 +69,6 @@ pub fn serve_by_threads<T: Threads + Wait + Sync>(
     }
     let first = First {
         front: SharedFront::new(rt, alloc, listened, &common),
-        clock: RealClock::new(rt),
     };
     let (status, _) = serve_by_all(
         threads,
@@ -83,6 +81,7 @@ pub fn serve_by_threads<T: Threads + Wait + Sync>(
         &mut errors,
         random,
         status_line(rt, options),
+        RealClock::new(rt),
         Crew { first, workers },
     );
     status.0

@@ -29,8 +29,8 @@ each_zip R (x ∷ xs) (y ∷ ys) same each = (each zero x y (omega arith), each_
 
 -- ---- letting passes see all of a history
 
-module _ {L D C : Type 0} (items : List Item) where
-  settle_more : (done : List (Done L (Worker D C))) (workers : List (Worker D C)) (n : ℕ) (d : Done L (Worker D C)) (m : ℕ) (q : Passed)
+module _ {L D : Type 0} (items : List Item) where
+  settle_more : (done : List (Done L (Worker D))) (workers : List (Worker D)) (n : ℕ) (d : Done L (Worker D)) (m : ℕ) (q : Passed)
       → Settles items done workers n → d.answered ≡ Ok m → IsSettled items d.lane.pass q → Settles items (done ++ d ∷ []) (workers ++ d.lane.own ∷ []) (n + m)
   settle_more [] [] n d m q s is settled = (m, 0, omega (arith, s), is, refl, q, settled, refl)
   settle_more [] (w ∷ workers) n d m q s is settled = absurd s
@@ -39,26 +39,26 @@ module _ {L D C : Type 0} (items : List Item) where
       let sum = s.2 in (s.0, s.1 + m, omega (arith, sum), s.3, s.4, s.5, s.6, settle_more done workers s.1 d m q s.7 is settled)
 
 -- Of these that are done some are left whose passes were not let see all of a history yet.
-pub record Settling {L D C : Type 0} (items : List Item) (all left : List (Done L (Worker D C))) (workers : List (Worker D C)) (answered : ℕ) : Type 0 where
-  pub done : List (Done L (Worker D C))
+pub record Settling {L D : Type 0} (items : List Item) (all left : List (Done L (Worker D))) (workers : List (Worker D)) (answered : ℕ) : Type 0 where
+  pub done : List (Done L (Worker D))
   pub are : done ++ left ≡ all
   pub settled : Settles items done workers answered
 
-pub none_settled : {L D C : Type 0} (items : List Item) (all left : List (Done L (Worker D C))) → left ≡ all → Settling items all left [] 0
+pub none_settled : {L D : Type 0} (items : List Item) (all left : List (Done L (Worker D))) → left ≡ all → Settling items all left [] 0
 none_settled items all left same = record { done = []; are = same; settled = refl }
 
-pub one_settled : {L D C : Type 0} (items : List Item) (all left later : List (Done L (Worker D C))) (before after : List (Worker D C)) (n m sum : ℕ) (d : Done L (Worker D C)) (q : Passed)
+pub one_settled : {L D : Type 0} (items : List Item) (all left later : List (Done L (Worker D))) (before after : List (Worker D)) (n m sum : ℕ) (d : Done L (Worker D)) (q : Passed)
     → Settling items all left before n → left ≡ d ∷ later → d.answered ≡ Ok m → IsSettled items d.lane.pass q → after ≡ before ++ d.lane.own ∷ [] → sum ≡ n + m → Settling items all later after sum
 one_settled {L} {D} {C} items all left later before after n m sum d q u is ok s put count = record {
   done = u.done ++ d ∷ [];
-  are = append_assoc u.done (d ∷ []) later ∙ (ap (λ (ds : List (Done L (Worker D C))). u.done ++ ds) (sym is) ∙ u.are);
+  are = append_assoc u.done (d ∷ []) later ∙ (ap (λ (ds : List (Done L (Worker D))). u.done ++ ds) (sym is) ∙ u.are);
   settled =
-      subst (λ (z : List (Worker D C) × ℕ). Settles items (u.done ++ d ∷ []) z.0 z.1) (λ i. (sym put i, sym count i)) (settle_more items u.done before n d m q u.settled ok s);
+      subst (λ (z : List (Worker D) × ℕ). Settles items (u.done ++ d ∷ []) z.0 z.1) (λ i. (sym put i, sym count i)) (settle_more items u.done before n d m q u.settled ok s);
 }
 
-pub all_settled : {L D C : Type 0} (items : List Item) (all left : List (Done L (Worker D C))) (workers : List (Worker D C)) (n : ℕ) → Settling items all left workers n → left ≡ [] → Settles items all workers n
+pub all_settled : {L D : Type 0} (items : List Item) (all left : List (Done L (Worker D))) (workers : List (Worker D)) (n : ℕ) → Settling items all left workers n → left ≡ [] → Settles items all workers n
 all_settled {L} {D} {C} items all left workers n u none =
-    subst (λ (ds : List (Done L (Worker D C))). Settles items ds workers n) (sym (nil_behind u.done) ∙ (ap (λ (ds : List (Done L (Worker D C))). u.done ++ ds) (sym none) ∙ u.are)) u.settled
+    subst (λ (ds : List (Done L (Worker D))). Settles items ds workers n) (sym (nil_behind u.done) ∙ (ap (λ (ds : List (Done L (Worker D))). u.done ++ ds) (sym none) ∙ u.are)) u.settled
 
 -- ---- the history of all
 
@@ -112,8 +112,8 @@ module _ (p : Passed) (ps : List Passed) (callers n : ℕ) (passes : p ∷ ps �
   pub first_number : p.number ≡ 0
   first_number = ap (λ (x : Passed). x.number) first_new
 
-module _ {L D C : Type 0} (deeds : D → Option (List FrontDeed)) (items : List Item) where
-  workers_from : (k : ℕ) (lanes : List (Lane L (Worker D C))) (done : List (Done L (Worker D C))) (workers : List (Worker D C)) (sum : ℕ)
+module _ {L D : Type 0} (deeds : D → Option (List FrontDeed)) (items : List Item) where
+  workers_from : (k : ℕ) (lanes : List (Lane L (Worker D))) (done : List (Done L (Worker D))) (workers : List (Worker D)) (sum : ℕ)
       → passes_of lanes ≡ from k (length lanes) → AllZip (WorkerDone deeds) lanes done → Settles items done workers sum
       → AreWorkersOf items k (map (λ w. deeds w.door) (map (λ l. l.own) lanes)) (map (λ w. deeds w.door) workers) sum
   workers_from k [] [] [] sum passes zip s = s
@@ -126,7 +126,7 @@ module _ {L D C : Type 0} (deeds : D → Option (List FrontDeed)) (items : List 
       let rest : passes_of lanes ≡ from (suc k) (length lanes) = cc passes in
       let worked : HasWorked l.pass d.lane.pass (deeds l.own.door) (deeds d.lane.own.door) s.0 =
       subst (λ (r : Result ℕ Error). IfOk r (HasWorked l.pass d.lane.pass (deeds l.own.door) (deeds d.lane.own.door))) s.3 zip.0 in
-      let same : deeds w.door ≡ deeds d.lane.own.door = ap (λ (v : Worker D C). deeds v.door) s.4 in (
+      let same : deeds w.door ≡ deeds d.lane.own.door = ap (λ (v : Worker D). deeds v.door) s.4 in (
         s.0,
         s.1,
         s.2,
@@ -153,19 +153,19 @@ first_of items count p q r b a n new t s =
     })
 
 -- all that threads made
-shares : {L F D C : Type 0} (front : F → Option (List FrontDeed)) (door : D → Option (List FrontDeed)) (count : ℕ) (o : Opening) (items : List Item) (first : Lane L (First F C)) (turned : Done L (First F C))
-    (lanes : List (Lane L (Worker D C))) (done : List (Done L (Worker D C))) (workers : List (Worker D C)) (q : Passed) (sum : ℕ)
+shares : {L F D C : Type 0} (front : F → Option (List FrontDeed)) (door : D → Option (List FrontDeed)) (count : ℕ) (o : Opening) (items : List Item) (first : Lane L (First F)) (turned : Done L (First F))
+    (lanes : List (Lane L (Worker D))) (done : List (Done L (Worker D))) (workers : List (Worker D)) (q : Passed) (sum : ℕ)
     → IsLegal o items → first.pass ∷ passes_of lanes ≡ numbered o.callers → o.callers ≡ length lanes + 1
     → FirstDone front count first turned → length done ≡ length lanes
-    → ((k : ℕ) (l : Lane L (Worker D C)) (d : Done L (Worker D C)) → k < length lanes → WorkerDone door (slice_index_or lanes k l) (slice_index_or done k d))
+    → ((k : ℕ) (l : Lane L (Worker D)) (d : Done L (Worker D)) → k < length lanes → WorkerDone door (slice_index_or lanes k l) (slice_index_or done k d))
     → IsSettled items turned.lane.pass q → HaveCome items done turned.answered workers sum
     → IsShared count o.first o.words (lanes_world front door first.own lanes) (world_of front door turned.lane.own workers) sum
 shares {L} {F} {D} {C} front door count o items first turned lanes done workers q sum legal passes callers mine long each settled come =
     let turns : HasTurned count first.pass turned.lane.pass (front first.own.front) (front turned.lane.own.front) come.mine =
     subst (λ (r : Result ℕ Error). IfOk r (HasTurned count first.pass turned.lane.pass (front first.own.front) (front turned.lane.own.front))) come.first_is mine in
-    let doors = length_map (λ (w : Worker D C). door w.door) (map (λ (l : Lane L (Worker D C)). l.own) lanes) in
-    let owns = length_map (λ (l : Lane L (Worker D C)). l.own) lanes in
-    let all : o.callers ≡ length (map (λ (w : Worker D C). door w.door) (map (λ (l : Lane L (Worker D C)). l.own) lanes)) + 1 = omega (arith, callers, doors, owns) in
+    let doors = length_map (λ (w : Worker D). door w.door) (map (λ (l : Lane L (Worker D)). l.own) lanes) in
+    let owns = length_map (λ (l : Lane L (Worker D)). l.own) lanes in
+    let all : o.callers ≡ length (map (λ (w : Worker D). door w.door) (map (λ (l : Lane L (Worker D)). l.own) lanes)) + 1 = omega (arith, callers, doors, owns) in
     record {
       items = items;
       legal = subst (λ (k : ℕ). IsLegal (opening_of o.first o.words k) items) all legal;
@@ -185,11 +185,11 @@ ok_with (Ok a) P Q f h = f a h
 ok_with (Err e) P Q f h = tt
 
 -- the same of what they came to, unless one of them gave up
-pub shares_if : {L F D C : Type 0} (front : F → Option (List FrontDeed)) (door : D → Option (List FrontDeed)) (count : ℕ) (o : Opening) (items : List Item) (first : Lane L (First F C)) (turned : Done L (First F C))
-    (lanes : List (Lane L (Worker D C))) (done : List (Done L (Worker D C))) (q : Passed) (result : Result (Came D C) Error)
+pub shares_if : {L F D C : Type 0} (front : F → Option (List FrontDeed)) (door : D → Option (List FrontDeed)) (count : ℕ) (o : Opening) (items : List Item) (first : Lane L (First F)) (turned : Done L (First F))
+    (lanes : List (Lane L (Worker D))) (done : List (Done L (Worker D))) (q : Passed) (result : Result (Came D C) Error)
     → IsLegal o items → first.pass ∷ passes_of lanes ≡ numbered o.callers → o.callers ≡ length lanes + 1
     → FirstDone front count first turned → length done ≡ length lanes
-    → ((k : ℕ) (l : Lane L (Worker D C)) (d : Done L (Worker D C)) → k < length lanes → WorkerDone door (slice_index_or lanes k l) (slice_index_or done k d))
+    → ((k : ℕ) (l : Lane L (Worker D)) (d : Done L (Worker D)) → k < length lanes → WorkerDone door (slice_index_or lanes k l) (slice_index_or done k d))
     → IsSettled items turned.lane.pass q → IfOk result (λ came. HaveCome items done turned.answered came.workers.items came.answered)
     → IfOk result (λ came. IsShared count o.first o.words (lanes_world front door first.own lanes) (world_of front door turned.lane.own came.workers.items) came.answered)
 shares_if {L} {F} {D} {C} front door count o items first turned lanes done q result legal passes callers mine long each settled come =
@@ -199,11 +199,11 @@ shares_if {L} {F} {D} {C} front door count o items first turned lanes done q res
 
 -- the same of the forwarder, the words and the workers that were shared
 pub shared_by : {L F D C : Type 0} (front : F → Option (List FrontDeed)) (door : D → Option (List FrontDeed)) (count : ℕ) (o : Opening) (f : Forwarding Whole) (words : ℕ → ℕ) (callers : ℕ)
-    (first own : First F C) (lanes : List (Lane L (Worker D C))) (workers : List (Worker D C)) (result : Result (Came D C) Error)
+    (first own : First F) (lanes : List (Lane L (Worker D))) (workers : List (Worker D)) (result : Result (Came D C) Error)
     → o ≡ opening_of f words callers → map (λ l. l.own) lanes ≡ workers
     → IfOk result (λ came. IsShared count o.first o.words (lanes_world front door first lanes) (world_of front door own came.workers.items) came.answered)
     → IfOk result (λ came. IsShared count f words (world_of front door first workers) (world_of front door own came.workers.items) came.answered)
 shared_by {L} {F} {D} {C} front door count o f words callers first own lanes workers result opening seats h =
     subst
-    (λ (z : Opening × List (Worker D C)). IfOk result (λ came. IsShared count z.0.first z.0.words (world_of front door first z.1) (world_of front door own came.workers.items) came.answered))
+    (λ (z : Opening × List (Worker D)). IfOk result (λ came. IsShared count z.0.first z.0.words (world_of front door first z.1) (world_of front door own came.workers.items) came.answered))
     (λ i. (opening i, seats i)) h

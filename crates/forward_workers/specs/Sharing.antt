@@ -21,16 +21,16 @@ pub record World : Type 0 where
   pub doors : List (Option (List FrontDeed))
 
 -- what those tell that a first thread and workers have
-abbrev pub world_of : {F D C : Type 0} → (F → Option (List FrontDeed)) → (D → Option (List FrontDeed)) → First F C → List (Worker D C) → World
+abbrev pub world_of : {F D : Type 0} → (F → Option (List FrontDeed)) → (D → Option (List FrontDeed)) → First F → List (Worker D) → World
 world_of front door first workers = record { front = front first.front; doors = map (λ w. door w.door) workers }
 
 -- this is so of what those tell before and after
-abbrev pub amid : {F D C : Type 0} → (F → Option (List FrontDeed)) → (D → Option (List FrontDeed)) → (first : First F C) → (workers : List (Worker D C)) → (later : First F C) → (later_workers : List (Worker D C))
+abbrev pub amid : {F D : Type 0} → (F → Option (List FrontDeed)) → (D → Option (List FrontDeed)) → (first : First F) → (workers : List (Worker D)) → (later : First F) → (later_workers : List (Worker D))
     → (World → World → Type 0) → Type 0
 amid front door first workers later later_workers P = P (world_of front door first workers) (world_of front door later later_workers)
 
 -- the same of a crew
-abbrev pub amid_crew : {F D C : Type 0} → (F → Option (List FrontDeed)) → (D → Option (List FrontDeed)) → (before after : Crew F D C) → (World → World → Type 0) → Type 0
+abbrev pub amid_crew : {F D : Type 0} → (F → Option (List FrontDeed)) → (D → Option (List FrontDeed)) → (before after : Crew F D) → (World → World → Type 0) → Type 0
 amid_crew front door before after P = amid front door before.first before.workers.items after.first after.workers.items P
 
 -- the rows of a caller in a history, each with its place
@@ -50,7 +50,7 @@ AreWorkersOf items k (b ∷ befores) (a ∷ afters) answered =
 -- by datagrams; each did so in the order of its rows.
 pub record IsShared (count : ℕ) (first : Forwarding Whole) (words : ℕ → ℕ) (old new : World) (answered : ℕ) : Type 0 where
   pub items : List Item
-  pub legal : IsLegal (opening_of first words (length old.doors + 1)) items
+  pub legal : IsLegal (opening_of first words moments (length old.doors + 1)) items
   pub mine : ℕ
   pub others : ℕ
   pub answered_is : answered ≡ mine + others
@@ -60,15 +60,15 @@ pub record IsShared (count : ℕ) (first : Forwarding Whole) (words : ℕ → �
 -- ---- lanes
 
 -- the passes of lanes
-abbrev pub passes_of : {L D C : Type 0} → List (Lane L (Worker D C)) → List Passed
+abbrev pub passes_of : {L D : Type 0} → List (Lane L (Worker D)) → List Passed
 passes_of lanes = map (λ l. l.pass) lanes
 
 -- what those tell that have lanes
-abbrev pub lanes_world : {F L D C : Type 0} → (F → Option (List FrontDeed)) → (D → Option (List FrontDeed)) → First F C → List (Lane L (Worker D C)) → World
+abbrev pub lanes_world : {F L D : Type 0} → (F → Option (List FrontDeed)) → (D → Option (List FrontDeed)) → First F → List (Lane L (Worker D)) → World
 lanes_world front door first lanes = world_of front door first (map (λ l. l.own) lanes)
 
 -- None of these gave up, and they put out so many answers together; these are the workers, whose passes were let see all of a history.
-abbrev pub Settles : {L D C : Type 0} → List Item → List (Done L (Worker D C)) → List (Worker D C) → (answered : ℕ) → Type 0
+abbrev pub Settles : {L D : Type 0} → List Item → List (Done L (Worker D)) → List (Worker D) → (answered : ℕ) → Type 0
 Settles items [] [] answered = answered ≡ 0
 Settles items [] (w ∷ workers) answered = ⊥
 Settles items (d ∷ done) [] answered = ⊥
@@ -76,7 +76,7 @@ Settles items (d ∷ done) (w ∷ workers) answered =
     (mine : ℕ) × (others : ℕ) × (answered ≡ mine + others) × (d.answered ≡ Ok mine) × (w ≡ d.lane.own) × (p : Passed) × IsSettled items d.lane.pass p × Settles items done workers others
 
 -- and nor did the first thread, whose result is the first
-pub record HaveCome {L D C : Type 0} (items : List Item) (done : List (Done L (Worker D C))) (first : Result ℕ Error) (workers : List (Worker D C)) (answered : ℕ) : Type 0 where
+pub record HaveCome {L D : Type 0} (items : List Item) (done : List (Done L (Worker D))) (first : Result ℕ Error) (workers : List (Worker D)) (answered : ℕ) : Type 0 where
   pub mine : ℕ
   pub others : ℕ
   pub answered_is : answered ≡ mine + others

@@ -64,5 +64,5 @@ pub record HasTurned (count : ℕ) (old new : Passed) (before after : Option (Li
   pub did : IsFirstOf new.seen count rows before after answered
 
 -- the same of the first thread in its lane, unless it gave up
-abbrev pub FirstDone : {L F C : Type 0} → (F → Option (List FrontDeed)) → (count : ℕ) → Lane L (First F C) → Done L (First F C) → Type 0
+abbrev pub FirstDone : {L F : Type 0} → (F → Option (List FrontDeed)) → (count : ℕ) → Lane L (First F) → Done L (First F) → Type 0
 FirstDone deeds count lane done = IfOk done.answered (HasTurned count lane.pass done.lane.pass (deeds lane.own.front) (deeds done.lane.own.front))

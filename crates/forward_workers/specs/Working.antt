@@ -40,5 +40,5 @@ pub record GoesOn (old new : Passed) (before after : Option (List FrontDeed)) (a
   pub all_used : worked.did.unused ≡ None
 
 -- the same of a worker in its lane, unless it gave up
-abbrev pub WorkerDone : {L D C : Type 0} → (D → Option (List FrontDeed)) → Lane L (Worker D C) → Done L (Worker D C) → Type 0
+abbrev pub WorkerDone : {L D : Type 0} → (D → Option (List FrontDeed)) → Lane L (Worker D) → Done L (Worker D) → Type 0
 WorkerDone deeds lane done = IfOk done.answered (HasWorked lane.pass done.lane.pass (deeds lane.own.door) (deeds done.lane.own.door))

@@ -1,30 +1,27 @@
 //! What threads have of their own.
 
 use crate::door::Door;
-use client_core::Clock;
 use client_request::Error;
 use forward_run::Front;
 use front_shared::{ForwarderKey, Pass};
 
-/// What the first thread has of its own: its front and its clock.
+/// What the first thread has of its own: its front.
 #[derive(Drop)]
-pub struct First<F: Front + Drop, C: Clock + Drop> {
+pub struct First<F: Front + Drop> {
     pub front: F,
-    pub clock: C,
 }
 
-/// What a worker has of its own: its door and its clock.
+/// What a worker has of its own: its door.
 #[derive(Drop)]
-pub struct Worker<D: Door + Drop, C: Clock + Drop> {
+pub struct Worker<D: Door + Drop> {
     pub door: D,
-    pub clock: C,
 }
 
 /// What all threads have: the first, and so many workers.
 #[derive(Drop)]
-pub struct Crew<F: Front + Drop, D: Door + Drop, C: Clock + Drop> {
-    pub first: First<F, C>,
-    pub workers: Vec<Worker<D, C>>,
+pub struct Crew<F: Front + Drop, D: Door + Drop> {
+    pub first: First<F>,
+    pub workers: Vec<Worker<D>>,
 }
 
 /// What a thread has of its own, and its pass.
@@ -43,7 +40,7 @@ pub(crate) struct Done<L: ForwarderKey, T: Drop> {
 
 /// What all workers came to: how many answers were put out, and the workers.
 #[derive(Drop)]
-pub(crate) struct Came<D: Door + Drop, C: Clock + Drop> {
+pub(crate) struct Came<D: Door + Drop> {
     pub(crate) answered: u64,
-    pub(crate) workers: Vec<Worker<D, C>>,
+    pub(crate) workers: Vec<Worker<D>>,
 }

@@ -11,7 +11,7 @@ use client_request::{Error, Words};
 use dns_base::NoMemory;
 use forward_run::{Front, act_all, happened, is_answer};
 use front_core::Core;
-use front_peers::{FrontEvent, FrontOut};
+use front_peers::FrontOut;
 use front_shared::{ForwarderKey, Pass, SharedForwarder};
 use front_steps::Watch;
 use std::sync::Wait;
@@ -33,26 +33,28 @@ fn act_on<F: Front>(front: &mut F, outs: &[FrontOut]) -> Result<u64, NoMemory>
 }
 
 /// One turn of the first thread: its front is told how long it may wait, and is polled; what it gave, or a `Tick`, is an event of the
-/// forwarder at the clock's moment; and the front does what the rows of workers left to it since its last turn, and then what the row
+/// forwarder at the moment of its clock; and the front does what the rows of workers left to it since its last turn, and then what the row
 /// of this event puts out, in order. How many answers that were.
 #[tactic(auto, using(crate::proofs::Firsts::turned))]
-fn turn<R: Wait, L: ForwarderKey, W: Words + Drop, V: Watch<Core> + Drop, F: Front, C: Clock>(
+fn turn<
+    R: Wait,
+    L: ForwarderKey,
+    W: Words + Drop,
+    V: Watch<Core> + Drop,
+    F: Front,
+    C: Clock + Drop,
+>(
     rt: &R,
-    shared: &SharedForwarder<L, W, V>,
+    shared: &SharedForwarder<L, W, V, C>,
     pass: &mut Pass<L>,
     front: &mut F,
-    clock: &mut C,
 ) -> Result<u64, Error>
     requires { pass.old.number ≡ 0 }
     ensures { IfOk result (HasTurned 1 pass.old pass.new (F.deeds front.old) (F.deeds front.new)) }
 {
     front.wait(shared.may_wait(rt));
     let polled = front.poll()?;
-    let event = FrontEvent {
-        moment: clock.now(),
-        what: happened(polled),
-    };
-    let receipt = match shared.submit(rt, pass, event) {
+    let receipt = match shared.submit(rt, pass, happened(polled)) {
         Ok(receipt) => receipt,
         Err(error) => return Err(error),
     };
@@ -66,13 +68,19 @@ fn turn<R: Wait, L: ForwarderKey, W: Words + Drop, V: Watch<Core> + Drop, F: Fro
 
 /// So many turns of the first thread. How many answers they put out.
 #[tactic(auto, using(crate::proofs::Firsts::none_turned, crate::proofs::Firsts::one_more, crate::proofs::Firsts::all_turned))]
-fn turn_on<R: Wait, L: ForwarderKey, W: Words + Drop, V: Watch<Core> + Drop, F: Front, C: Clock>(
+fn turn_on<
+    R: Wait,
+    L: ForwarderKey,
+    W: Words + Drop,
+    V: Watch<Core> + Drop,
+    F: Front,
+    C: Clock + Drop,
+>(
     rt: &R,
-    shared: &SharedForwarder<L, W, V>,
+    shared: &SharedForwarder<L, W, V, C>,
     turns: u64,
     pass: &mut Pass<L>,
     front: &mut F,
-    clock: &mut C,
 ) -> Result<u64, Error>
     requires { pass.old.number ≡ 0 }
     ensures { IfOk result (HasTurned turns pass.old pass.new (F.deeds front.old) (F.deeds front.new)) }
@@ -80,7 +88,7 @@ fn turn_on<R: Wait, L: ForwarderKey, W: Words + Drop, V: Watch<Core> + Drop, F: 
     let mut answered: u64 = 0;
     let mut left = turns;
     while left > 0 {
-        let more = match turn(rt, shared, pass, front, clock) {
+        let more = match turn(rt, shared, pass, front) {
             Ok(more) => more,
             Err(error) => return Err(error),
         };
@@ -104,21 +112,18 @@ pub(crate) fn run_first<
     C: Clock + Drop,
 >(
     rt: &R,
-    shared: &SharedForwarder<L, W, V>,
+    shared: &SharedForwarder<L, W, V, C>,
     turns: u64,
-    lane: Lane<L, First<F, C>>,
-) -> Done<L, First<F, C>>
+    lane: Lane<L, First<F>>,
+) -> Done<L, First<F>>
     requires { lane.pass.number ≡ 0 }
     ensures { FirstDone F.deeds turns lane result }
 {
     let Lane { mut pass, own } = lane;
-    let First {
-        mut front,
-        mut clock,
-    } = own;
-    let answered = turn_on(rt, shared, turns, &mut pass, &mut front, &mut clock);
+    let First { mut front } = own;
+    let answered = turn_on(rt, shared, turns, &mut pass, &mut front);
     shared.end(rt, &mut pass);
-    let own = First { front, clock };
+    let own = First { front };
     Done {
         lane: Lane { pass, own },
         answered,

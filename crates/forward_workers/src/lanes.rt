@@ -20,11 +20,11 @@ use std::thread;
 use std::thread::Threads;
 
 /// Gives each worker a pass, in order.
-pub(crate) fn seated<L: ForwarderKey, D: Door + Drop, C: Clock + Drop>(
+pub(crate) fn seated<L: ForwarderKey, D: Door + Drop>(
     alloc: Global,
     mut passes: VecDeque<Pass<L>>,
-    mut workers: VecDeque<Worker<D, C>>,
-) -> Result<Vec<Lane<L, Worker<D, C>>>, NoMemory>
+    mut workers: VecDeque<Worker<D>>,
+) -> Result<Vec<Lane<L, Worker<D>>>, NoMemory>
     requires { length passes.items ≡ length workers.items }
     ensures passes { IfOk result (λ lanes. passes_of lanes.items ≡ passes.items) }
     ensures workers { IfOk result (λ lanes. map (λ lane. lane.own) lanes.items ≡ workers.items) }
@@ -49,10 +49,10 @@ pub(crate) fn run_lanes<
     C: Clock + Drop + Send,
 >(
     rt: &R,
-    shared: &SharedForwarder<L, W, V>,
+    shared: &SharedForwarder<L, W, V, C>,
     turns: u64,
-    lanes: Vec<Lane<L, Worker<D, C>>>,
-) -> Result<Vec<Done<L, Worker<D, C>>>, AllocError>
+    lanes: Vec<Lane<L, Worker<D>>>,
+) -> Result<Vec<Done<L, Worker<D>>>, AllocError>
     ensures count { IfOk result (λ done. length done.items ≡ length lanes.items) }
     ensures each { IfOk result (λ done. (k : ℕ) (lane : _) (d : _) → k < length lanes.items → WorkerDone D.deeds (slice_index_or lanes.items k lane) (slice_index_or done.items k d)) }
 {
@@ -70,9 +70,9 @@ fn settle_all<
     C: Clock + Drop,
 >(
     alloc: Global,
-    closed: &mut Closed<L, W, V>,
-    done: Vec<Done<L, Worker<D, C>>>,
-) -> Result<Came<D, C>, Error>
+    closed: &mut Closed<L, W, V, C>,
+    done: Vec<Done<L, Worker<D>>>,
+) -> Result<Came<D>, Error>
     ensures { IfOk result (λ came. Settles closed.old.desk done.items came.workers.items came.answered) }
 {
     let mut left = VecDeque::from(done);
@@ -104,10 +104,10 @@ pub(crate) fn come_to<
     C: Clock + Drop,
 >(
     alloc: Global,
-    closed: &mut Closed<L, W, V>,
-    done: Vec<Done<L, Worker<D, C>>>,
+    closed: &mut Closed<L, W, V, C>,
+    done: Vec<Done<L, Worker<D>>>,
     mine: Result<u64, Error>,
-) -> Result<Came<D, C>, Error>
+) -> Result<Came<D>, Error>
     ensures { IfOk result (λ came. HaveCome closed.old.desk done.items mine came.workers.items came.answered) }
 {
     let Came { answered, workers } = settle_all(alloc, closed, done)?;

@@ -48,16 +48,19 @@ fn turn_all<
     forwarder: Forwarder,
     rng: W,
     watch: V,
+    clock: C,
     turns: u64,
-    crew: Crew<F, D, C>,
-) -> (First<F, C>, Result<Came<D, C>, Error>)
+    crew: Crew<F, D>,
+) -> (First<F>, Result<Came<D>, Error>)
     requires lives { forwarder.failed ≡ false }
     requires count { length crew.workers.items + 1 < 2 ^ 32 }
     ensures { IfOk result.1 (λ came. IsShared turns forwarder (W.stream rng) (world_of F.deeds D.deeds crew.first crew.workers.items) (world_of F.deeds D.deeds result.0 came.workers.items) came.answered) }
 {
     match Opened::new(alloc) {
         Ok(opened) => {
-            share::<R, Brand, W, V, F, D, C>(rt, alloc, opened, forwarder, rng, watch, turns, crew)
+            share::<R, Brand, W, V, F, D, C>(
+                rt, alloc, opened, forwarder, rng, watch, clock, turns, crew,
+            )
         }
         Err(_) => (crew.first, Err(Error::NoMemory)),
     }
@@ -87,26 +90,27 @@ fn serve_conf<
     conf: &ResolvConf,
     mut rng: W,
     watch: V,
-    crew: Crew<F, D, C>,
-) -> (First<F, C>, Result<Came<D, C>, Cause>)
+    clock: C,
+    crew: Crew<F, D>,
+) -> (First<F>, Result<Came<D>, Cause>)
     requires count { length crew.workers.items + 1 < 2 ^ 32 }
     ensures served { IfOk result.1 (λ came. IsServed options.now asked conf.now came.answered (W.stream rng) (world_of F.deeds D.deeds crew.first crew.workers.items) (world_of F.deeds D.deeds result.0 came.workers.items)) }
     ensures cause { IfErr result.1 (IsServeCause (F.gave result.0.front) (F.is_deaf_at result.0.front) (F.faults crew.first.front) (F.faults result.0.front) options.now.listened asked.port conf.now) }
 {
     let Crew { first, workers } = crew;
-    let First { mut front, clock } = first;
+    let First { mut front } = first;
     let maker = Plain { seed };
     let begun = begin(
         alloc, options, asked.port, conf, maker, &mut front, &mut rng,
     );
-    let first = First { front, clock };
+    let first = First { front };
     let forwarder = match begun {
         Ok(forwarder) => forwarder,
         Err(unserved) => return (first, Err(plain_cause(unserved))),
     };
     words_are_short(&rng);
     let crew = Crew { first, workers };
-    let (first, came) = turn_all(rt, alloc, forwarder, rng, watch, asked.turns, crew);
+    let (first, came) = turn_all(rt, alloc, forwarder, rng, watch, clock, asked.turns, crew);
     match came {
         Ok(came) => {
             every_forwarded_trace_is_right();
@@ -118,9 +122,9 @@ fn serve_conf<
 
 /// What all came to, and the line that is written at the end.
 #[derive(Drop)]
-struct Written<D: Door + Drop, C: Clock + Drop> {
+struct Written<D: Door + Drop> {
     line: Vec<u8>,
-    workers: Vec<Worker<D, C>>,
+    workers: Vec<Worker<D>>,
 }
 
 /// The line that is written at the end, and the workers.
@@ -143,8 +147,9 @@ fn serve_source<
     errors: &mut L,
     mut rng: W,
     watch: V,
-    crew: Crew<F, D, C>,
-) -> (First<F, C>, Result<Written<D, C>, Cause>)
+    clock: C,
+    crew: Crew<F, D>,
+) -> (First<F>, Result<Written<D>, Cause>)
     requires count { length crew.workers.items + 1 < 2 ^ 32 }
     ensures done { IfOk result.1 (λ w. amid F.deeds D.deeds crew.first crew.workers.items result.0 w.workers.items (IsAnsweredIf options.now asked (S.left source.old) (W.stream rng) w.line.items)) }
     ensures noted { OnOk result.1 (IsNoted (NotesIn options.now.policy (S.left source.old)) (L.held errors.old) (L.held errors.new) (L.faults errors.old) (L.faults errors.new)) }
@@ -155,7 +160,9 @@ fn serve_source<
         Ok(conf) => conf,
         Err(cause) => return (crew.first, Err(cause)),
     };
-    let (first, came) = serve_conf(rt, alloc, options, seed, asked, &conf, rng, watch, crew);
+    let (first, came) = serve_conf(
+        rt, alloc, options, seed, asked, &conf, rng, watch, clock, crew,
+    );
     let Came { answered, workers } = match came {
         Ok(came) => came,
         Err(cause) => return (first, Err(cause)),
@@ -193,8 +200,9 @@ pub fn serve_by_all<
     errors: &mut L,
     rng: W,
     watch: V,
-    crew: Crew<F, D, C>,
-) -> (Status, Crew<F, D, C>)
+    clock: C,
+    crew: Crew<F, D>,
+) -> (Status, Crew<F, D>)
     requires count { length crew.workers.items + 1 < 2 ^ 32 }
     ensures usage { result.0.0 ≡ 2 → asked_in words.now ≡ None }
     ensures no_command { asked_in words.now ≡ None → (result.0.0 ≡ 2) ⊎ (result.0.0 ≡ 6) }
@@ -218,7 +226,7 @@ pub fn serve_by_all<
         Err(unasked) => return (tell_unasked(alloc, words, unasked, errors), crew),
     };
     let (first, written) = serve_source(
-        rt, alloc, options, seed, asked, source, errors, rng, watch, crew,
+        rt, alloc, options, seed, asked, source, errors, rng, watch, clock, crew,
     );
     match written {
         Ok(written) => {

@@ -34,25 +34,25 @@ fn first_and_workers<
     C: Clock + Drop + Send,
 >(
     rt: &R,
-    shared: &SharedForwarder<L, W, V>,
+    shared: &SharedForwarder<L, W, V, C>,
     turns: u64,
-    first: Lane<L, First<F, C>>,
-    lanes: Vec<Lane<L, Worker<D, C>>>,
+    first: Lane<L, First<F>>,
+    lanes: Vec<Lane<L, Worker<D>>>,
 ) -> (
-    Result<Vec<Done<L, Worker<D, C>>>, AllocError>,
-    Done<L, First<F, C>>,
+    Result<Vec<Done<L, Worker<D>>>, AllocError>,
+    Done<L, First<F>>,
 )
     requires { first.pass.number ≡ 0 }
     ensures count { IfOk result.0 (λ done. length done.items ≡ length lanes.items) }
     ensures workers { IfOk result.0 (λ done. (k : ℕ) (lane : _) (d : _) → k < length lanes.items → WorkerDone D.deeds (slice_index_or lanes.items k lane) (slice_index_or done.items k d)) }
     ensures first { FirstDone F.deeds turns first result.1 }
 {
-    let theirs = move || -> Result<Vec<Done<L, Worker<D, C>>>, AllocError>
+    let theirs = move || -> Result<Vec<Done<L, Worker<D>>>, AllocError>
         requires { IsSync R.row × IsSend L.row × IsSync L.row × IsSend W.row × IsSend V.row × IsSend D.row × IsSend C.row }
         ensures count { IfOk result (λ done. length done.items ≡ length lanes.items) }
         ensures each { IfOk result (λ done. (k : ℕ) (lane : _) (d : _) → k < length lanes.items → WorkerDone D.deeds (slice_index_or lanes.items k lane) (slice_index_or done.items k d)) }
     { run_lanes(rt, shared, turns, lanes) };
-    let mine = move || -> Done<L, First<F, C>>
+    let mine = move || -> Done<L, First<F>>
         requires { first.pass.number ≡ 0 }
         ensures { FirstDone F.deeds turns first result }
     { run_first(rt, shared, turns, first) };
@@ -71,11 +71,11 @@ fn share_among<
 >(
     rt: &R,
     alloc: Global,
-    shared: SharedForwarder<L, W, V>,
+    shared: SharedForwarder<L, W, V, C>,
     turns: u64,
-    first: Lane<L, First<F, C>>,
-    lanes: Vec<Lane<L, Worker<D, C>>>,
-) -> (First<F, C>, Result<Came<D, C>, Error>)
+    first: Lane<L, First<F>>,
+    lanes: Vec<Lane<L, Worker<D>>>,
+) -> (First<F>, Result<Came<D>, Error>)
     requires passes { first.pass ∷ passes_of lanes.items ≡ numbered L.opening.callers }
     requires callers { L.opening.callers ≡ length lanes.items + 1 }
     ensures { IfOk result.1 (λ came. IsShared turns L.opening.first L.opening.words (lanes_world F.deeds D.deeds first.own lanes.items) (world_of F.deeds D.deeds result.0 came.workers.items) came.answered) }
@@ -108,18 +108,21 @@ pub(crate) fn share<
     forwarder: Forwarder,
     words: W,
     watch: V,
+    clock: C,
     turns: u64,
-    crew: Crew<F, D, C>,
-) -> (First<F, C>, Result<Came<D, C>, Error>)
+    crew: Crew<F, D>,
+) -> (First<F>, Result<Came<D>, Error>)
     requires table { word_of opened.joint ≡ L.table }
-    requires opening { L.opening ≡ opening_of forwarder (W.stream words) (length crew.workers.items + 1) }
+    requires opening { L.opening ≡ opening_of forwarder (W.stream words) (C.given clock) (length crew.workers.items + 1) }
     requires lives { forwarder.failed ≡ false }
     requires count { length crew.workers.items + 1 < 2 ^ 32 }
     ensures { IfOk result.1 (λ came. IsShared turns forwarder (W.stream words) (world_of F.deeds D.deeds crew.first crew.workers.items) (world_of F.deeds D.deeds result.0 came.workers.items) came.answered) }
 {
     let Crew { first, workers } = crew;
     let callers = workers.len() as u32 + 1;
-    let opened = SharedForwarder::<L, W, V>::new(alloc, opened, forwarder, words, watch, callers);
+    let opened = SharedForwarder::<L, W, V, C>::new(
+        alloc, opened, forwarder, words, watch, clock, callers,
+    );
     let Ok((shared, passes)) = opened else {
         return (first, Err(Error::NoMemory));
     };

@@ -12,7 +12,7 @@ use client_core::Clock;
 use client_request::{Error, Words};
 use dns_base::NoMemory;
 use front_core::Core;
-use front_peers::{FrontEvent, FrontOut};
+use front_peers::FrontOut;
 use front_shared::{ForwarderKey, Held, Pass, Receipt, SharedForwarder, is_for_any};
 use front_steps::Watch;
 use std::sync::Wait;
@@ -53,14 +53,14 @@ fn put_out<D: Door>(receipt: &Receipt, door: &mut D) -> Result<u64, NoMemory>
     Ok(count_for_any(receipt.row.outs.as_slice()) as u64)
 }
 
-/// One turn of a worker who holds the forwarder: what its door gives is an event of the forwarder at its clock's moment, and of that
+/// One turn of a worker who holds the forwarder: what its door gives is an event of the forwarder at the moment of its clock, and of that
 /// event's row it answers what is answered by datagrams. A row by which something begins to wait for the first thread wakes it. How
 /// many answers that were, if it goes on: it ends with the history.
 #[tactic(auto, using(crate::proofs::Workings::makes_row, crate::proofs::Workings::takes_nothing, crate::proofs::Workings::finds_end))]
 fn work<L: ForwarderKey, W: Words + Drop, V: Watch<Core> + Drop, D: Door + Drop, C: Clock + Drop>(
-    held: &mut Held<'_, L, W, V>,
+    held: &mut Held<'_, L, W, V, C>,
     pass: &mut Pass<L>,
-    worker: &mut Worker<D, C>,
+    worker: &mut Worker<D>,
 ) -> Result<Option<u64>, Error>
     ensures goes_on { IfOk result (λ r. IfSome r (GoesOn pass.old pass.new (D.deeds worker.old.door) (D.deeds worker.new.door))) }
     ensures ends { IfOk result (λ r. IfNone r (HasWorked pass.old pass.new (D.deeds worker.old.door) (D.deeds worker.new.door) 0)) }
@@ -68,11 +68,7 @@ fn work<L: ForwarderKey, W: Words + Drop, V: Watch<Core> + Drop, D: Door + Drop,
     let Some(what) = worker.door.take()? else {
         return Ok(Some(0));
     };
-    let event = FrontEvent {
-        moment: worker.clock.now(),
-        what,
-    };
-    match held.submit(pass, event) {
+    match held.submit(pass, what) {
         Ok(receipt) => {
             let answered = put_out(&receipt, &mut worker.door)?;
             Ok(Some(answered))
@@ -102,10 +98,10 @@ fn work_held<
     D: Door + Drop,
     C: Clock + Drop,
 >(
-    held: Held<'_, L, W, V>,
+    held: Held<'_, L, W, V, C>,
     most: u64,
     pass: &mut Pass<L>,
-    worker: &mut Worker<D, C>,
+    worker: &mut Worker<D>,
 ) -> Result<Turns, Error>
     ensures worked { IfOk result (λ t. HasWorked pass.old pass.new (D.deeds worker.old.door) (D.deeds worker.new.door) t.answered) }
     ensures goes_on { IfOk result (λ t. t.at_end ≡ false → GoesOn pass.old pass.new (D.deeds worker.old.door) (D.deeds worker.new.door) t.answered) }
@@ -149,10 +145,10 @@ fn work_once<
     C: Clock + Drop,
 >(
     rt: &R,
-    shared: &SharedForwarder<L, W, V>,
+    shared: &SharedForwarder<L, W, V, C>,
     most: u64,
     pass: &mut Pass<L>,
-    worker: &mut Worker<D, C>,
+    worker: &mut Worker<D>,
 ) -> Result<Turns, Error>
     ensures worked { IfOk result (λ t. HasWorked pass.old pass.new (D.deeds worker.old.door) (D.deeds worker.new.door) t.answered) }
     ensures goes_on { IfOk result (λ t. t.at_end ≡ false → GoesOn pass.old pass.new (D.deeds worker.old.door) (D.deeds worker.new.door) t.answered) }
@@ -175,10 +171,10 @@ fn work_on<
     C: Clock + Drop,
 >(
     rt: &R,
-    shared: &SharedForwarder<L, W, V>,
+    shared: &SharedForwarder<L, W, V, C>,
     turns: u64,
     pass: &mut Pass<L>,
-    worker: &mut Worker<D, C>,
+    worker: &mut Worker<D>,
 ) -> Result<u64, Error>
     ensures { IfOk result (HasWorked pass.old pass.new (D.deeds worker.old.door) (D.deeds worker.new.door)) }
 {
@@ -215,10 +211,10 @@ pub(crate) fn run_worker<
     C: Clock + Drop,
 >(
     rt: &R,
-    shared: &SharedForwarder<L, W, V>,
+    shared: &SharedForwarder<L, W, V, C>,
     turns: u64,
-    lane: Lane<L, Worker<D, C>>,
-) -> Done<L, Worker<D, C>>
+    lane: Lane<L, Worker<D>>,
+) -> Done<L, Worker<D>>
     ensures { WorkerDone D.deeds lane result }
 {
     let Lane { mut pass, mut own } = lane;

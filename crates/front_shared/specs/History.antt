@@ -10,6 +10,7 @@ use Rattle.client_steps.specs.Whole.{Whole}
 use Rattle.front_core.specs.Forwarded.{Forwards, HasNoRow}
 use Rattle.front_peers.specs.declared.event.FrontEvent.{FrontEvent}
 use Rattle.front_peers.specs.declared.event.FrontRow.{FrontRow}
+use Rattle.front_peers.specs.declared.event.FrontWhat.{FrontWhat}
 use Rattle.front_shared.specs.Waiting.{after_row, told_to, waits_after}
 use Rattle.front_shared.specs.declared.entry.Entry.{Entry}
 use Rattle.front_shared.specs.declared.entry.Item.{Item}
@@ -17,14 +18,15 @@ use Rattle.front_shared.specs.declared.entry.Item.TheVariants.{Made, Ended}
 use Rattle.front_shared.specs.declared.entry.Receipt.{Receipt}
 use Rattle.front_steps.specs.Steps.{Forwarding}
 
--- What a shared forwarder is opened with: a forwarder, the words that come, and for how many callers.
+-- What a shared forwarder is opened with: a forwarder, the words that come, the moments that its clock has told, and for how many callers.
 pub record Opening : Type 0 where
   pub first : Forwarding Whole
   pub words : ℕ → ℕ
+  pub moments : Option (List ℕ)
   pub callers : ℕ
 
-abbrev pub opening_of : Forwarding Whole → (ℕ → ℕ) → ℕ → Opening
-opening_of first words callers = record { first = first; words = words; callers = callers }
+abbrev pub opening_of : Forwarding Whole → (ℕ → ℕ) → (moments : Option (List ℕ)) → ℕ → Opening
+opening_of first words moments callers = record { first = first; words = words; moments = moments; callers = callers }
 
 -- whose an item is
 abbrev pub caller_of : Item → ℕ
@@ -124,6 +126,11 @@ pub record IsSubmitted (old new : Passed) (event : FrontEvent) (receipt : Receip
   pub told : receipt.before ≡ told_to old.number (waits_after before)
   pub wakes : receipt.wakes ≡ begins_to_wait (waits_after before) (after_row old.number receipt.row.outs (waits_after before))
 
+-- the same of what happened, at whatever moment the clock gave
+pub record IsTaken (old new : Passed) (what : FrontWhat) (receipt : Receipt) : Type 0 where
+  pub submitted : IsSubmitted old new receipt.row.event receipt
+  pub what_is : receipt.row.event.what ≡ what
+
 -- A call by which the history ended.
 pub record IsEnded (old new : Passed) : Type 0 where
   pub number : new.number ≡ old.number
@@ -146,6 +153,12 @@ pub record IsStopped (o : Opening) (new : Passed) (event : FrontEvent) : Type 0 
   pub before : List Entry
   pub seen : new.seen ≡ history before (Some new.number)
   pub stops : HasNoNumber o before event
+
+-- the same of what happened
+pub record IsStoppedAt (o : Opening) (new : Passed) (what : FrontWhat) : Type 0 where
+  pub event : FrontEvent
+  pub what_is : event.what ≡ what
+  pub stopped : IsStopped o new event
 
 -- A call behind which the history has ended.
 pub record IsBehind (old new : Passed) : Type 0 where

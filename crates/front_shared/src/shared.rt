@@ -2,17 +2,19 @@
 
 ghost use Rattle.std.specs.Prelude.{◌≡◌, ◌≢◌, ◌⊎◌, ◌+◌, ◌<◌, false, true, IfOk, IfErr, IsErrOf};
 ghost use Rattle.client_request.specs.Timers.{IsWant};
-ghost use Rattle.front_shared.specs.History.{EndsEnded, IsBehind, IsEnded, IsFresh, IsFull, IsLegal, IsSettled, IsStopped, IsSubmitted, newcomer, numbered, opening_of};
+ghost use Rattle.front_shared.specs.History.{EndsEnded, IsBehind, IsEnded, IsFresh, IsFull, IsLegal, IsSettled, IsStoppedAt, IsTaken, newcomer, numbered, opening_of};
+ghost use Rattle.front_shared.specs.Timing.{IsTimedAll};
 ghost use Rattle.joint_history.specs.Words.{word_of};
 
 use crate::desk::Desk;
 use crate::entry::{Item, Receipt};
 use crate::key::{ForwarderKey, Opened};
 use crate::pass::Pass;
+use client_core::Clock;
 use client_request::{Error, Words};
 use dns_values::NoMemory;
 use front_core::{Core, Forwarder};
-use front_peers::FrontEvent;
+use front_peers::FrontWhat;
 use front_steps::Watch;
 use joint_history::{Joint, Seat};
 use std::alloc::{AllocError, Global};
@@ -21,13 +23,19 @@ use std::sync::{Mutex, MutexGuard, Wait};
 
 /// A forwarder that several threads share. What its callers did is one history, which proofs know.
 #[derive(Drop)]
-pub struct SharedForwarder<L: ForwarderKey, W: Words + Drop, V: Watch<Core> + Drop> {
+pub struct SharedForwarder<
+    L: ForwarderKey,
+    W: Words + Drop,
+    V: Watch<Core> + Drop,
+    C: Clock + Drop,
+> {
     joint: Joint<Item>,
-    desk: Mutex<Desk<L, W, V>>,
+    desk: Mutex<Desk<L, W, V, C>>,
     callers: u32,
 }
 
-impl<L: ForwarderKey, W: Words + Drop, V: Watch<Core> + Drop> Model for SharedForwarder<L, W, V> {
+impl<L: ForwarderKey, W: Words + Drop, V: Watch<Core> + Drop, C: Clock + Drop> Model
+    for SharedForwarder<L, W, V, C> {
     ghost use Rattle.joint_history.specs.Words.{word_of};
     ghost use Rattle.std.specs.Prelude.{◌≡◌};
     ghost use Rattle.front_shared.specs.History.{Shared};
@@ -41,17 +49,17 @@ impl<L: ForwarderKey, W: Words + Drop, V: Watch<Core> + Drop> Model for SharedFo
 
 /// The history of a shared forwarder which nobody steps any more.
 #[derive(Drop)]
-pub struct Closed<L: ForwarderKey, W: Words + Drop, V: Watch<Core> + Drop> {
+pub struct Closed<L: ForwarderKey, W: Words + Drop, V: Watch<Core> + Drop, C: Clock + Drop> {
     joint: Joint<Item>,
-    desk: Desk<L, W, V>,
+    desk: Desk<L, W, V, C>,
     ghost same: { word_of joint ≡ L.table },
 }
 
 /// A forwarder that a caller holds, for calls between which no other caller has one.
 #[derive(Drop)]
-pub struct Held<'a, L: ForwarderKey, W: Words + Drop, V: Watch<Core> + Drop> {
+pub struct Held<'a, L: ForwarderKey, W: Words + Drop, V: Watch<Core> + Drop, C: Clock + Drop> {
     joint: &'a Joint<Item>,
-    desk: MutexGuard<'a, Desk<L, W, V>>,
+    desk: MutexGuard<'a, Desk<L, W, V, C>>,
     ghost same: { word_of joint.now ≡ L.table },
 }
 
@@ -91,7 +99,12 @@ fn passes_of<L: ForwarderKey>(
     Ok(passes)
 }
 
-impl<L: ForwarderKey, W: Words + Drop, V: Watch<Core> + Drop> SharedForwarder<L, W, V> {
+impl<L: ForwarderKey, W: Words + Drop, V: Watch<Core> + Drop, C: Clock + Drop> SharedForwarder<
+    L,
+    W,
+    V,
+    C,
+> {
     /// This forwarder, which takes these words, for so many callers, and their passes. Of each row `watch` is told, in the order of the
     /// history. `NoMemory`.
     pub fn new(
@@ -100,10 +113,11 @@ impl<L: ForwarderKey, W: Words + Drop, V: Watch<Core> + Drop> SharedForwarder<L,
         forwarder: Forwarder,
         words: W,
         watch: V,
+        clock: C,
         callers: u32,
-    ) -> Result<(SharedForwarder<L, W, V>, Vec<Pass<L>>), NoMemory>
+    ) -> Result<(SharedForwarder<L, W, V, C>, Vec<Pass<L>>), NoMemory>
         requires table { word_of opened.joint ≡ L.table }
-        requires opening { L.opening ≡ opening_of forwarder (W.stream words) callers }
+        requires opening { L.opening ≡ opening_of forwarder (W.stream words) (C.given clock) callers }
         requires lives { forwarder.failed ≡ false }
         ensures shared { IfOk result (λ r. r.0.callers ≡ callers) }
         ensures passes { IfOk result (λ r. r.1.items ≡ numbered callers) }
@@ -114,13 +128,13 @@ impl<L: ForwarderKey, W: Words + Drop, V: Watch<Core> + Drop> SharedForwarder<L,
         };
         let shared = SharedForwarder {
             joint,
-            desk: Mutex::new(Desk::new(alloc, forwarder, words, watch, seat)),
+            desk: Mutex::new(Desk::new(alloc, forwarder, words, watch, clock, seat)),
             callers,
         };
         Ok((shared, passes))
     }
 
-    /// Steps the forwarder by an event, once no other call is at it: the row is that which one forwarder makes of it behind the rows
+    /// Steps the forwarder by what happens, once no other call is at it, at the moment that its clock then gives: the row is that which one forwarder makes of it behind the rows
     /// of all calls before.
     ///
     /// `Failed` where the history has ended. `NumbersUsed` after 2^64 - 2 calls, where nothing is changed but what the pass has seen, or
@@ -129,19 +143,19 @@ impl<L: ForwarderKey, W: Words + Drop, V: Watch<Core> + Drop> SharedForwarder<L,
         &self,
         rt: &R,
         pass: &mut Pass<L>,
-        event: FrontEvent,
+        what: FrontWhat,
     ) -> Result<Receipt, Error>
-        ensures ok { IfOk result (λ r. IsSubmitted pass.old pass.new event r) }
+        ensures ok { IfOk result (λ r. IsTaken pass.old pass.new what r) }
         ensures behind { IsErrOf result Error.Failed → IsBehind pass.old pass.new }
         ensures refused { IfErr result (λ e. e ≢ Error.Failed → IsWant e × (IsFull pass.old pass.new ⊎ IsEnded pass.old pass.new)) }
         ensures memory { IsErrOf result Error.NoMemory → IsEnded pass.old pass.new }
-        ensures numbers { IsErrOf result Error.NumbersUsed → IsFull pass.old pass.new ⊎ IsStopped L.opening pass.new event }
+        ensures numbers { IsErrOf result Error.NumbersUsed → IsFull pass.old pass.new ⊎ IsStoppedAt L.opening pass.new what }
     {
-        self.desk.lock(rt).submit(&self.joint, pass, event)
+        self.desk.lock(rt).submit(&self.joint, pass, what)
     }
 
     /// Holds the forwarder, once no other call is at it: until what this gives is dropped, no other caller is.
-    pub fn hold<R: Wait>(&self, rt: &R) -> Held<'_, L, W, V> {
+    pub fn hold<R: Wait>(&self, rt: &R) -> Held<'_, L, W, V, C> {
         Held {
             joint: &self.joint,
             desk: self.desk.lock(rt),
@@ -167,7 +181,7 @@ impl<L: ForwarderKey, W: Words + Drop, V: Watch<Core> + Drop> SharedForwarder<L,
     }
 
     /// No call steps it any more. It takes no memory.
-    pub fn close(self) -> Closed<L, W, V> {
+    pub fn close(self) -> Closed<L, W, V, C> {
         let SharedForwarder {
             joint,
             desk,
@@ -180,20 +194,26 @@ impl<L: ForwarderKey, W: Words + Drop, V: Watch<Core> + Drop> SharedForwarder<L,
     }
 }
 
-impl<'a, L: ForwarderKey, W: Words + Drop, V: Watch<Core> + Drop> Held<'a, L, W, V> {
+impl<'a, L: ForwarderKey, W: Words + Drop, V: Watch<Core> + Drop, C: Clock + Drop> Held<
+    'a,
+    L,
+    W,
+    V,
+    C,
+> {
     /// The same as `SharedForwarder::submit`.
-    pub fn submit(&mut self, pass: &mut Pass<L>, event: FrontEvent) -> Result<Receipt, Error>
-        ensures ok { IfOk result (λ r. IsSubmitted pass.old pass.new event r) }
+    pub fn submit(&mut self, pass: &mut Pass<L>, what: FrontWhat) -> Result<Receipt, Error>
+        ensures ok { IfOk result (λ r. IsTaken pass.old pass.new what r) }
         ensures behind { IsErrOf result Error.Failed → IsBehind pass.old pass.new }
         ensures refused { IfErr result (λ e. e ≢ Error.Failed → IsWant e × (IsFull pass.old pass.new ⊎ IsEnded pass.old pass.new)) }
         ensures memory { IsErrOf result Error.NoMemory → IsEnded pass.old pass.new }
-        ensures numbers { IsErrOf result Error.NumbersUsed → IsFull pass.old pass.new ⊎ IsStopped L.opening pass.new event }
+        ensures numbers { IsErrOf result Error.NumbersUsed → IsFull pass.old pass.new ⊎ IsStoppedAt L.opening pass.new what }
     {
-        self.desk.submit(self.joint, pass, event)
+        self.desk.submit(self.joint, pass, what)
     }
 }
 
-impl<L: ForwarderKey, W: Words + Drop, V: Watch<Core> + Drop> Closed<L, W, V> {
+impl<L: ForwarderKey, W: Words + Drop, V: Watch<Core> + Drop, C: Clock + Drop> Closed<L, W, V, C> {
     /// The history is legal. It does nothing.
     pub fn history_is_legal(&self)
         ensures { IsLegal L.opening self.now.desk }
@@ -207,5 +227,13 @@ impl<L: ForwarderKey, W: Words + Drop, V: Watch<Core> + Drop> Closed<L, W, V> {
         ensures settled { IsSettled self.old.desk pass.old pass.new }
     {
         self.desk.settle(&self.joint, pass);
+    }
+
+    /// The clock, as it was left: it gave the moments of all rows of the history, in their order.
+    pub fn into_clock(self) -> C
+        ensures { IsTimedAll L.opening.moments (C.given result) self.desk }
+    {
+        let Closed { joint: _, desk } = self;
+        desk.into_clock()
     }
 }

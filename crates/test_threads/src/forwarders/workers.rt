@@ -29,14 +29,13 @@ fn worker<'a>(
     alloc: Global,
     peers: [u64; 2],
     sent: &'a AtomicU64,
-) -> Option<Worker<CountedDoor<'a>, ListClock>> {
+) -> Option<Worker<CountedDoor<'a>>> {
     let mut whats = Vec::new(alloc);
     whats.push(came(alloc, peers[0], &QUERY).ok()?).ok()?;
     whats.push(came(alloc, peers[1], &NOTIFY).ok()?).ok()?;
     let over = ListDoor::new(alloc, whats);
     Some(Worker {
         door: CountedDoor { over, sent },
-        clock: ListClock::new(Vec::new(alloc)),
     })
 }
 
@@ -50,24 +49,20 @@ fn opens(deed: &FrontDeed) -> bool {
 }
 
 /// Two workers, beside a front that waits until both have answered.
-fn workers<'a>(
-    alloc: Global,
-    sent: &'a AtomicU64,
-) -> Option<Vec<Worker<CountedDoor<'a>, ListClock>>> {
+fn workers<'a>(alloc: Global, sent: &'a AtomicU64) -> Option<Vec<Worker<CountedDoor<'a>>>> {
     let mut workers = Vec::new(alloc);
     workers.push(worker(alloc, [7, 8], sent)?).ok()?;
     workers.push(worker(alloc, [9, 10], sent)?).ok()?;
     Some(workers)
 }
 
-fn first<'a>(alloc: Global, sent: &'a AtomicU64) -> First<PatientFront<'a>, ListClock> {
+fn first<'a>(alloc: Global, sent: &'a AtomicU64) -> First<PatientFront<'a>> {
     let front = PatientFront {
         over: ListFront::new(alloc, Vec::new(alloc), None),
         sent,
         awaited: 2,
     };
-    let clock = ListClock::new(Vec::new(alloc));
-    First { front, clock }
+    First { front }
 }
 
 /// The status of a run of two workers, two turns each, what is written, and how many sockets the front opened.
@@ -93,6 +88,7 @@ fn run<R: Threads + Wait + Sync>(rt: &R, alloc: Global) -> Option<(u8, bool, usi
         &mut errors,
         ListWords::new(WordList::new(alloc)),
         Unwatched,
+        ListClock::new(Vec::new(alloc)),
         Crew {
             first: first(alloc, &sent),
             workers,
